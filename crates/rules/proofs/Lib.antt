@@ -1,0 +1,14 @@
+-- Tests that antt computes at each number below a bound.
+pub mod Computed
+-- UTF-8: characters join, split at an ASCII byte, and are told apart by their first byte.
+pub mod Characters
+-- A character's number and its bytes: RFC 3629's sections 3 and 4 agree.
+pub mod Numbers
+-- What the loops over ASCII have passed.
+pub mod Runs
+-- A character as bounds on the bytes at a place, for `char_at`.
+pub mod Places
+-- Leap years and the days of a month.
+pub mod Months
+-- Two outcomes that a promise allows are equal.
+pub mod Outcomes

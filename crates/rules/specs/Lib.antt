@@ -1,0 +1,9 @@
+-- What the promises of `rules` say, and all that a reader has to believe of them.
+-- Rfc3629: which bytes form one character, which bytes are UTF-8, where the first fault is, a character's number.
+pub mod Rfc3629
+-- Rfc3339: leap years, the days of a month, which three numbers are a date.
+pub mod Rfc3339
+-- Paper: document 01's number and place for each answer, and what the calls for C hand back.
+pub mod Paper
+-- Posts: what the functions below the two public calls promise.
+pub mod Posts

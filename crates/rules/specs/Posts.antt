@@ -1,0 +1,35 @@
+-- What the functions below `utf8` and `date` promise their callers. Assumes nothing.
+use mathlib.Core.Bool.{Bool, true, false, cond}
+use mathlib.Core.List.{List}
+use Prim.Native.Nat.{ℕ, _+_, _≤_, _<_}
+use lib.Dec.{eqb}
+use lib.ListN.{length, getD, take, drop}
+use Rattle.rules.specs.Rfc3629.{Char, NoChar}
+use Rattle.rules.specs.Rfc3339.{Leap}
+
+-- each of the n bytes at the place `at` is at most r
+pub record AtMost (s : List ℕ) (at n r : ℕ) : Type 0 where
+  pub each : (k : ℕ) → k < n → getD s (at + k) 0 ≤ r
+
+-- the bytes from `from` up to `to` are ASCII
+pub record Ascii (s : List ℕ) (from to : ℕ) : Type 0 where
+  pub behind : from ≤ to
+  pub within : to ≤ length s
+  pub each : (k : ℕ) → from ≤ k → k < to → getD s k 0 < 0x80
+
+-- the character at the place i has n bytes, or none stands there and n is 0
+pub data CharAt (s : List ℕ) (i : ℕ) : ℕ → Type 0 where
+  char : {n : ℕ} → 0 < n → i + n ≤ length s → Char (take n (drop i s)) → CharAt s i n
+  gap : NoChar (drop i s) → CharAt s i 0
+
+-- the least and the greatest second byte after the first byte a, of three or four
+unfoldable pub lowOf : ℕ → ℕ
+lowOf a = cond (eqb a 0xE0) 0xA0 (cond (eqb a 0xF0) 0x90 0x80)
+
+unfoldable pub highOf : ℕ → ℕ
+highOf a = cond (eqb a 0xED) 0x9F (cond (eqb a 0xF4) 0x8F 0xBF)
+
+-- a test of a leap year
+pub data IsLeap (y : ℕ) : Bool → Type 0 where
+  leap : Leap y → IsLeap y true
+  common : (Leap y → ⊥) → IsLeap y false

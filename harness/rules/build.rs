@@ -1,0 +1,7 @@
+// The archive that harness/archive writes.
+fn main() {
+    let here = std::env::var("CARGO_MANIFEST_DIR").unwrap();
+    println!("cargo:rustc-link-search=native={here}/../../target/native");
+    println!("cargo:rustc-link-lib=static=rules");
+    println!("cargo:rerun-if-changed={here}/../../target/native/librules.a");
+}
