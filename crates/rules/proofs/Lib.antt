@@ -8,6 +8,8 @@ pub mod Numbers
 pub mod Runs
 -- A character as bounds on the bytes at a place, for `char_at`.
 pub mod Places
+-- The first fault as a function that computes.
+pub mod Decided
 -- Leap years and the days of a month.
 pub mod Months
 -- Two outcomes that a promise allows are equal.
