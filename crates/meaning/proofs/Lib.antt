@@ -1,0 +1,16 @@
+pub mod Bytes
+pub mod Sizes
+pub mod Records
+pub mod Rebuild
+pub mod Fitting
+pub mod Whole
+pub mod Look
+pub mod Digits
+pub mod Numerals
+pub mod Clock
+pub mod Quotes
+pub mod Text
+pub mod Values
+pub mod Json
+pub mod Paper
+pub mod Vectors

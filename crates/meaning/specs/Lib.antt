@@ -1,0 +1,12 @@
+pub mod Letters
+pub mod Limits
+pub mod Meaning
+pub mod Clock
+pub mod Good
+pub mod Bytes
+pub mod Tape
+pub mod Canonical
+pub mod Json
+pub mod Paper
+pub mod Words
+pub mod Look

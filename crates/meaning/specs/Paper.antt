@@ -1,0 +1,51 @@
+-- Document 01's table of refusals: the number and the place of each. Assumes nothing.
+use Prim.Native.Nat.{ℕ}
+use Rattle.meaning.specs.declared.Refusal.{Refusal}
+use Rattle.meaning.specs.declared.Refusal.the-variants.{TextTooLong, NotUtf8, NotGrammar, BadEscape, BadTime, BadNumber, TooDeep, TapeTooShort, StoreTooShort, NotWellFormed, NoJsonForm, OutputTooShort, WrittenTooLong, NoSuchRecord}
+use Rattle.meaning.specs.Limits.{textLimit}
+
+unfoldable pub numberOf : Refusal → ℕ
+numberOf TextTooLong = 1
+numberOf (NotUtf8 place) = 2
+numberOf (NotGrammar place) = 3
+numberOf (BadEscape place) = 4
+numberOf (BadTime place) = 5
+numberOf (BadNumber place) = 6
+numberOf (TooDeep place) = 7
+numberOf (TapeTooShort needed) = 8
+numberOf (StoreTooShort needed) = 9
+numberOf (NotWellFormed place) = 10
+numberOf (NoJsonForm index) = 11
+numberOf (OutputTooShort needed) = 12
+numberOf (WrittenTooLong size) = 13
+numberOf (NoSuchRecord index) = 14
+
+unfoldable pub placeOf : Refusal → ℕ
+-- 16777216
+placeOf TextTooLong = textLimit
+-- first byte of the first ill-formed sequence
+placeOf (NotUtf8 place) = place
+-- first byte no rule allows there, or the text's length
+placeOf (NotGrammar place) = place
+-- its backslash
+placeOf (BadEscape place) = place
+-- first byte of the time value
+placeOf (BadTime place) = place
+-- its first byte, sign included
+placeOf (BadNumber place) = place
+-- the opening bracket
+placeOf (TooDeep place) = place
+-- tape bytes needed
+placeOf (TapeTooShort needed) = needed
+-- store bytes needed
+placeOf (StoreTooShort needed) = needed
+-- 0; for look, the index
+placeOf (NotWellFormed place) = place
+-- index of the first such record
+placeOf (NoJsonForm index) = index
+-- bytes needed
+placeOf (OutputTooShort needed) = needed
+-- length it would have
+placeOf (WrittenTooLong size) = size
+-- the index
+placeOf (NoSuchRecord index) = index
