@@ -1,0 +1,18 @@
+-- What is proved of the rules. Assumes nothing.
+
+-- A line comment takes all it can.
+pub mod Comments
+-- A string part is judged on its own: no escape reaches past it.
+pub mod Apart
+-- Every derived text is UTF-8.
+pub mod Utf8
+-- With the checks on, every derived meaning is good.
+pub mod Good
+-- Records and store bytes are each at most the text's length.
+pub mod Sizes
+-- Characters byte by byte, for a scanner of bytes.
+pub mod Bytewise
+-- The canonical text of every good meaning is derived with that meaning.
+pub mod Canonical
+-- The examples of documents 002 and 01 are derived.
+pub mod Examples
