@@ -1,0 +1,26 @@
+-- Byte classes: what a row knows of its bytes.
+pub mod Tables
+-- Runs of a scanner: complete forwards, sound backwards.
+pub mod Runs
+-- The scanner of a number or a time value agrees with the grammar.
+pub mod Numeric
+-- The scanner of a string part agrees with the grammar.
+pub mod Strings
+-- The scanner of a binary part agrees with the grammar.
+pub mod Binaries
+-- The scanners of identifiers and words agree with the grammar.
+pub mod Names
+-- What a byte's class says of it.
+pub mod Classes
+-- Layout, forwards.
+pub mod Layouts
+-- What the grammar derives, the pushdown reads.
+pub mod Complete
+-- What the pushdown accepts, the grammar derives.
+pub mod Sound
+-- Every refusal's place is at most the text's length.
+pub mod Places
+-- The whole: `complete`, `sound`, `unambiguous`; running on, and after a refusal.
+pub mod Whole
+-- Texts with their refusal or canonical text, computed.
+pub mod Vectors

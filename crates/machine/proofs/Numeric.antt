@@ -1,0 +1,46 @@
+-- The scanner of a number or a time value agrees with the grammar: what the rules derive it takes, what it takes the rules derive. Assumes nothing.
+use Prim.Native.Nat.{ℕ}
+use mathlib.Core.Path.{_≡_}
+use mathlib.Core.List.{List}
+use Rattle.meaning.specs.Meaning.{Meaning}
+use Rattle.machine.specs.Numeric.{begin, scan}
+use Rattle.machine.proofs.Runs.{Ends, Goes}
+-- what a row of its tables knows
+pub mod Rows
+-- the check of a number
+pub mod Value
+-- complete: numbers, time values
+pub mod Complete
+pub mod CompleteTime
+-- the rules for both as one
+pub mod Items
+-- sound: numbers, time values, each state
+pub mod Sound
+pub mod SoundTime
+pub mod Accept
+-- how an item begins, and that its bytes are ASCII
+pub mod Bytes
+-- the places of its refusals
+pub mod Places
+-- two runs end with one meaning
+pub mod Once
+-- examples
+pub mod Vectors
+pub use Items.{NumericItem, Taken}
+pub use Accept.{NumericRest, numeric-is}
+pub use Bytes.{Lead, Begins, Plain, numeric-begins, numeric-plain, taken-begins, taken-plain}
+unfoldable pub use Places.{firstOf}
+pub use Places.{first-begin, numeric-first, numeric-place}
+
+-- complete: every number and every time value is taken, and ends with its meaning before every byte that may follow it
+pub numeric-goes : {a : List ℕ} {m : Meaning} → NumericItem a m → (p : ℕ) → Goes scan Ends p begin a m
+numeric-goes (NumericItem.number n) p = Complete.number-goes n p
+numeric-goes (NumericItem.time-value t) p = CompleteTime.time-goes t p
+
+-- sound: what is taken and ended is a number or a time value of that meaning, or a date and a space
+pub numeric-taken : {a : List ℕ} {m : Meaning} → NumericRest begin a m → Taken a m
+numeric-taken t = t
+
+-- the rules give an item one meaning
+pub numeric-once : {a : List ℕ} {m n : Meaning} → NumericItem a m → NumericItem a n → m ≡ n
+numeric-once i j = Once.goes-once scan Ends.comma (numeric-goes i 0) (numeric-goes j 0)

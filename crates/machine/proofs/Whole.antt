@@ -1,0 +1,86 @@
+-- The machine and the grammar agree on every text; so the grammar gives no text two meanings. Assumes nothing.
+use Prim.Native.Nat.{ℕ, suc, _≤_, _<_}
+use mathlib.Core.Path.{_≡_, refl, sym, ap, _∙_, subst}
+use mathlib.Core.Bool.{Bool, true, false, cond}
+use mathlib.Core.List.{List, [], _∷_, _++_}
+use native.Mathlib.Omega.{arith}
+use lib.Dec.{leb}
+use lib.ListN.{length}
+use borrow.Author.Tests.{le-leb, leb-true, leb-false}
+use Rattle.rules.specs.Rfc3629.{Octets}
+use Rattle.rules.specs.declared.Utf8Answer.{Utf8Answer}
+use Rattle.rules.specs.declared.Utf8Answer.the-variants.{Done, IllFormed}
+use Rattle.rules.proofs.Decided.{judged, judged-done, done-judged}
+use Rattle.meaning.specs.Limits.{textLimit}
+use Rattle.meaning.specs.Meaning.{Meaning}
+use Rattle.meaning.specs.declared.Refusal.{Refusal}
+use Rattle.meaning.specs.declared.Refusal.the-variants.{TextTooLong, NotUtf8}
+use Rattle.grammar.specs.Values.{Text}
+use Rattle.grammar.proofs.Utf8.{text-octets}
+use Rattle.machine.specs.Machine.{Verdict, Ok, No, reading, Conf, fail, step, read, finish}
+use Rattle.machine.specs.Verdict.{decoded, verdict}
+use Rattle.machine.proofs.Runs.{adv}
+use Rattle.machine.proofs.Complete.{reads}
+use Rattle.machine.proofs.Sound.{derives}
+
+text-length : {t : List ℕ} {m : Meaning} → Text true t m → length t ≤ textLimit
+text-length (Text.text w v l h) = h
+
+-- what the grammar derives, the machine reads, with that meaning
+pub complete : {t : List ℕ} {m : Meaning} → Text true t m → verdict t ≡ Ok m
+unfolding verdict decoded
+complete {t} x = rw (le-leb (length t) textLimit (text-length x), done-judged (text-octets x)) (reads x)
+
+refused : {r : Refusal} {m : Meaning} → No r ≡ Ok m → ⊥
+refused e = let z : _≡_ {A = ℕ} 0 1 = cc in omega arith
+
+-- what the machine accepts, the grammar derives
+pub sound : (t : List ℕ) (m : Meaning) → verdict t ≡ Ok m → Text true t m
+unfolding verdict decoded
+sound t m e = by-length (leb (length t) textLimit) refl e
+  where
+    by-utf8 : length t ≤ textLimit → (a : Utf8Answer) → judged t ≡ a → decoded a t ≡ Ok m → Text true t m
+    by-utf8 l Done f g = derives t m (judged-done f) l g
+    by-utf8 l (IllFormed k) f g = absurd (refused g)
+
+    by-length : (x : Bool) → leb (length t) textLimit ≡ x → cond x (decoded (judged t) t) (No TextTooLong) ≡ Ok m → Text true t m
+    by-length true f g = by-utf8 (leb-true _ _ f) (judged t) refl g
+    by-length false f g = absurd (refused g)
+
+-- the grammar gives no text two meanings
+pub unambiguous : {t : List ℕ} {m n : Meaning} → Text true t m → Text true t n → m ≡ n
+unambiguous x y = let e = complete x in let f = complete y in cc
+
+-- ---- running on
+
+-- where the machine stands after the bytes
+unfoldable pub run : ℕ → Conf → List ℕ → Conf
+run p c [] = c
+run p c (b ∷ t) = run (suc p) (step p c b) t
+
+pub run-join : (p : ℕ) (c : Conf) (a b : List ℕ) → run p c (a ++ b) ≡ run (adv p a) (run p c a) b
+unfolding run
+run-join p c [] b = refl
+run-join p c (x ∷ a) b = run-join (suc p) (step p c x) a b
+
+-- to read a and then b is to read both
+pub read-join : (p : ℕ) (c : Conf) (a b : List ℕ) → read p c (a ++ b) ≡ read (adv p a) (run p c a) b
+unfolding read run
+read-join p c [] b = refl
+read-join p c (x ∷ a) b = read-join (suc p) (step p c x) a b
+
+pub read-run : (p : ℕ) (c : Conf) (t : List ℕ) → read p c t ≡ finish (adv p t) (run p c t)
+unfolding read run
+read-run p c [] = refl
+read-run p c (b ∷ t) = read-run (suc p) (step p c b) t
+
+-- after a refusal at some byte no later byte changes it
+pub absorbing : (p : ℕ) (r : Refusal) (t : List ℕ) → read p (fail r) t ≡ No r
+unfolding read
+absorbing p r [] = refl
+absorbing p r (b ∷ t) = absorbing (suc p) r t
+
+pub stays : (p : ℕ) (r : Refusal) (t : List ℕ) → run p (fail r) t ≡ fail r
+unfolding run
+stays p r [] = refl
+stays p r (b ∷ t) = stays (suc p) r t
