@@ -22,5 +22,7 @@ pub mod Sound
 pub mod Places
 -- The whole: `complete`, `sound`, `unambiguous`; running on, and after a refusal.
 pub mod Whole
+-- From the run of an item to the pushdown over it.
+pub mod Lift
 -- Texts with their refusal or canonical text, computed.
 pub mod Vectors
