@@ -16,7 +16,12 @@ use Rattle.meaning.specs.Meaning.{Meaning}
 use Rattle.meaning.specs.declared.Refusal.{Refusal}
 use Rattle.meaning.specs.declared.Refusal.the-variants.{TextTooLong, NotUtf8}
 use Rattle.grammar.specs.Values.{Text}
+use Rattle.meaning.specs.Good.{Good}
+use Rattle.meaning.specs.Canonical.{canonical}
 use Rattle.grammar.proofs.Utf8.{text-octets}
+use Rattle.grammar.proofs.Good.{text-good}
+use Rattle.grammar.proofs.Sizes.{Fits, text-fits}
+use Rattle.grammar.proofs.Canonical.{text-derived}
 use Rattle.machine.specs.Machine.{Verdict, Ok, No, reading, Conf, fail, step, read, finish}
 use Rattle.machine.specs.Verdict.{decoded, verdict}
 use Rattle.machine.proofs.Runs.{adv}
@@ -50,6 +55,23 @@ sound t m e = by-length (leb (length t) textLimit) refl e
 -- the grammar gives no text two meanings
 pub unambiguous : {t : List ℕ} {m n : Meaning} → Text true t m → Text true t n → m ≡ n
 unambiguous x y = let e = complete x in let f = complete y in cc
+
+-- the canonical text of a good meaning reads as that meaning
+pub canonical-reads : (m : Meaning) → Good m → length (canonical m) ≤ textLimit → verdict (canonical m) ≡ Ok m
+canonical-reads m g l = complete (text-derived m g l)
+
+-- two good meanings with one canonical text are one
+pub same-canonical : (m n : Meaning) → Good m → Good n → length (canonical m) ≤ textLimit → canonical m ≡ canonical n → m ≡ n
+same-canonical m n g h l e =
+    unambiguous (text-derived m g l)
+    (subst (λ (t : List ℕ). Text true t n) (sym e) (text-derived n h (subst (λ (t : List ℕ). length t ≤ textLimit) e l)))
+
+-- what the machine accepts is good, and no longer on the tape and in the store than as text
+pub accepted-good : (t : List ℕ) (m : Meaning) → verdict t ≡ Ok m → Good m
+accepted-good t m e = text-good (sound t m e)
+
+pub accepted-fits : (t : List ℕ) (m : Meaning) → verdict t ≡ Ok m → Fits t m
+accepted-fits t m e = text-fits (sound t m e)
 
 -- ---- running on
 
