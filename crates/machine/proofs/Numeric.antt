@@ -24,8 +24,6 @@ pub mod Bytes
 pub mod Places
 -- two runs end with one meaning
 pub mod Once
--- examples
-pub mod Vectors
 pub use Items.{NumericItem, Taken}
 pub use Accept.{NumericRest, numeric-is}
 pub use Bytes.{Lead, Begins, Plain, numeric-begins, numeric-plain, taken-begins, taken-plain}

@@ -7,7 +7,6 @@ pub mod Raw
 pub mod Forward
 pub mod Back
 pub mod Whole
-pub mod Vectors
 pub use Forward.{part-goes}
 pub use Raw.{Raw-part}
 pub use Back.{PartRest, part-is, raw-part}
