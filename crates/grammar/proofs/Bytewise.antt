@@ -23,7 +23,7 @@ Raw r b = ((b < 0x80) × Of r b) ⊎ (0x80 ≤ b)
 
 -- ---- from characters to bytes
 
-longer : (n : ℕ) → 0x7F < n → 1 < length (encode n)
+pub longer : (n : ℕ) → 0x7F < n → 1 < length (encode n)
 longer n h = go (decLt 0x7FF n) (decLt 0xFFFF n)
   where
     go : Dec (0x7FF < n) → Dec (0xFFFF < n) → 1 < length (encode n)

@@ -9,7 +9,8 @@ use native.Mathlib.Omega.{arith}
 use lib.ListN.{length}
 use Rattle.rules.specs.Rfc3629.{In, Char, Scalar, encode}
 use Rattle.rules.proofs.Characters.{Each, all-none, all-more, High, long, short, sized}
-use Rattle.rules.proofs.Numbers.{encoded, row-1, row-2, row-3, row-4}
+use Rattle.rules.proofs.Numbers.{encoded, row-1}
+use Rattle.grammar.proofs.Bytewise.{longer}
 use Rattle.meaning.specs.Letters.{letters, ch}
 use Rattle.grammar.specs.Characters.{Range, _to_, Of, Among, Many}
 use Rattle.grammar.specs.Characters as Characters
@@ -33,19 +34,6 @@ pub data CharBytes (r : List Range) : List ℕ → Type 0 where
   ascii : {b : ℕ} → b < 0x80 → Of r b → CharBytes r (b ∷ [])
   wide : {b : ℕ} {c : List ℕ} → High b → Each High c → CharBytes r (b ∷ c)
 
--- more than one byte from U+0080 up
-several : (n : ℕ) → Scalar n → 0x7F < n → 1 < length (encode n)
-several n s h = go (decLt 1 (length (encode n)))
-  where
-    go : Dec (1 < length (encode n)) → 1 < length (encode n)
-    go (yes l) = l
-    go (no l) = absurd (only (decLt 0x7FF n) (decLt 0xFFFF n))
-      where
-        only : Dec (0x7FF < n) → Dec (0xFFFF < n) → ⊥
-        only (no a) q = omega (arith, ap length (row-2 n h (omega arith)))
-        only (yes a) (no b) = omega (arith, ap length (row-3 n a (omega arith)))
-        only (yes a) (yes b) = omega (arith, ap length (row-4 n b))
-
 all-wide : {r : List Range} {c : List ℕ} → Each High c → 1 < length c → CharBytes r c
 all-wide all-none h = absurd (omega arith)
 all-wide (all-more x y) h = CharBytes.wide x y
@@ -55,7 +43,7 @@ char-bytes {r} (Among.character {n = n} s o) = go (decLt 0x7F n)
   where
     go : Dec (0x7F < n) → CharBytes r (encode n)
     go (no h) = rw (row-1 n (omega arith)) (CharBytes.ascii {b = n} (omega arith) o)
-    go (yes h) = all-wide (long (encoded n s) (several n s h)) (several n s h)
+    go (yes h) = all-wide (long (encoded n s) (longer n h)) (longer n h)
 
 -- ---- comments, a byte at a time
 
