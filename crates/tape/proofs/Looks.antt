@@ -1,0 +1,101 @@
+-- The record at an index, by its four numbers. Assumes nothing.
+use mathlib.Core.Path.{_≡_, sym, ap, _∙_, subst}
+use mathlib.Core.Bool.{Bool, true, false}
+use mathlib.Core.List.{List, _++_}
+use Prim.Native.Nat.{ℕ, _+_, _*_, _<_}
+use native.Mathlib.Omega.{arith}
+use lib.ListN.{getD, take, drop, take-append-drop}
+use lib.Seq.{take-at}
+use Rattle.meaning.specs.declared.Record.{Record}
+use Rattle.meaning.specs.declared.Refusal.{Refusal}
+use Rattle.meaning.specs.Bytes.{get}
+use Rattle.meaning.specs.Tape.{recordBytes}
+use Rattle.meaning.specs.Words.{Fit}
+use Rattle.meaning.specs.Look.{OwnFields, wholeRecords, RecordAt}
+use Rattle.meaning.proofs.Bytes.{get-lt}
+use Rattle.meaning.proofs.Records.{record-length, Stands, stands, stands-drop}
+use Rattle.tape.specs.declared.Words.{Words}
+use Rattle.tape.specs.declared.Shape.{Shape}
+use Rattle.tape.specs.declared.Looked.{Looked}
+use Rattle.tape.specs.Shapes.{Worded, Loaded, Shaped, shaped, junk, wordsAt}
+use Rattle.tape.specs.Fields.{Decides}
+use Rattle.tape.specs.Looking.{Looks, found, past-end, not-one}
+use Rattle.tape.proofs.Deciding.{held, failed}
+use Rattle.tape.proofs.Wording.{only}
+
+-- ---- four numbers that were loaded
+
+pub loaded : (s : List ℕ) (p a b c d : ℕ) → ((j : ℕ) → getD s j 0 < 256) → a ≡ get 2 s p → b ≡ get 2 s (p + 2) → c ≡ get 4 s (p + 4)
+    → d ≡ get 8 s (p + 8) → Loaded (record { mark = a; low = b; mid = c; high = d })
+loaded s p a b c d h e f g i = record {
+  mark-small = omega (arith, get-lt 2 s p h);
+  low-small = omega (arith, get-lt 2 s (p + 2) h);
+  mid-small = omega (arith, get-lt 4 s (p + 4) h);
+  high-small = omega (arith, get-lt 8 s (p + 8) h);
+}
+
+pub shaped-at : (s : List ℕ) (p a b c d : ℕ) {x : Shape} → a ≡ get 2 s p → b ≡ get 2 s (p + 2) → c ≡ get 4 s (p + 4)
+    → d ≡ get 8 s (p + 8) → Shaped (record { mark = a; low = b; mid = c; high = d }) x → Shaped (wordsAt s p) x
+shaped-at s p a b c d {x} e f g i h = subst (λ (w : Words). Shaped w x) (λ k. record { mark = e k; low = f k; mid = g k; high = i k }) h
+
+shape-record : {w : Words} {s : Shape} {r : Record} → Shaped w s → s ≡ Shape.Record r → Fit r × Worded r w
+shape-record {w} {r = r} (shaped {r = x} f e) q = let z : x ≡ r = cc in subst (λ (y : Record). Fit y × Worded y w) z (f, e)
+shape-record (junk n) q = let z : _≡_ {A = ℕ} 0 1 = cc in absurd (omega arith)
+
+shape-junk : {w : Words} {s : Shape} → Shaped w s → s ≡ Shape.Junk → (r : Record) → Fit r → Worded r w → ⊥
+shape-junk (shaped f e) q = let z : _≡_ {A = ℕ} 0 1 = cc in absurd (omega arith)
+shape-junk (junk n) q = n
+
+-- ---- the record at an index
+
+module _ (tape store : List ℕ) (index : ℕ) where
+  -- it has the numbers that stand there
+  pub record-numbers : (r : Record) → RecordAt tape store index r → Worded r (wordsAt tape (index * 16))
+  record-numbers r a =
+      let p = index * 16 in
+      let h = a .within in
+      let e : drop p tape ≡ recordBytes r ++ drop 16 (drop p tape) = sym (take-append-drop 16 (drop p tape)) ∙ ap (λ (l : List ℕ). l ++ drop 16 (drop p tape)) (a .lies) in
+      let s = stands tape (drop 16 (drop p tape)) p r (a .fits) (omega arith) e in
+      record { mark-is = s .mark-at; low-is = s .low-at; mid-is = s .mid-at; high-is = s .high-at }
+
+  module _ (bytes : (j : ℕ) → getD tape j 0 < 256) (within : index < wholeRecords tape) where
+    record-there : (r : Record) → Fit r → Worded r (wordsAt tape (index * 16)) → OwnFields r index (wholeRecords tape) store → RecordAt tape store index r
+    record-there r f e o =
+        let p = index * 16 in
+        let s : Stands tape p r = record { mark-at = e .mark-is; low-at = e .low-is; mid-at = e .mid-is; high-at = e .high-is } in
+        record {
+          within = within;
+          lies = ap (take 16) (stands-drop tape p r f bytes (omega arith) s) ∙ take-at (recordBytes r) (drop (p + 16) tape) 16 (record-length r);
+          fits = f;
+          own = o;
+        }
+
+    module _ {s : Shape} (d : Shaped (wordsAt tape (index * 16)) s) where
+      pub look-junk : s ≡ Shape.Junk → Looks tape store index (Looked.Refused (Refusal.NotWellFormed index))
+      look-junk e = not-one within (λ r a. shape-junk d e r (a .fits) (record-numbers r a))
+
+      module _ (r : Record) (e : s ≡ Shape.Record r) {b : Bool} (own : Decides (OwnFields r index (wholeRecords tape) store) b) where
+        pub look-found : b ≡ true → Looks tape store index (Looked.Record r)
+        look-found t = let q = shape-record d e in found (record-there r (q .0) (q .1) (held own t))
+
+        pub look-fault : b ≡ false → Looks tape store index (Looked.Refused (Refusal.NotWellFormed index))
+        look-fault t =
+            let q = shape-record d e in
+            let w = wordsAt tape (index * 16) in
+            not-one within
+            (λ x a.
+            let z : x ≡ r = sym (only w x (a .fits) (record-numbers x a)) ∙ only w r (q .0) (q .1) in
+            failed own t (subst (λ (y : Record). OwnFields y index (wholeRecords tape) store) z (a .own)))
+
+-- ---- what `look` answered
+
+pub looked-record : {tape store : List ℕ} {index : ℕ} {a : Looked} {r : Record} → Looks tape store index a → a ≡ Looked.Record r → RecordAt tape store index r
+looked-record {tape} {store} {index} {r = r} (found {r = x} g) e = let z : x ≡ r = cc in subst (RecordAt tape store index) z g
+looked-record (past-end h) e = let z : _≡_ {A = ℕ} 0 1 = cc in absurd (omega arith)
+looked-record (not-one h n) e = let z : _≡_ {A = ℕ} 0 1 = cc in absurd (omega arith)
+
+pub refused : {tape store : List ℕ} {index : ℕ} {a : Looked} {why : Refusal} → Looks tape store index a → a ≡ Looked.Refused why
+    → (r : Record) → RecordAt tape store index r → ⊥
+refused (found g) e r s = let z : _≡_ {A = ℕ} 0 1 = cc in omega arith
+refused (past-end h) e r s = omega (arith, s .within)
+refused (not-one h n) e r s = n r s

@@ -1,0 +1,183 @@
+// Records as bytes: put one, look at one, judge a whole tape.
+mod fields;
+mod numbers;
+mod records;
+mod turns;
+
+ghost use mathlib.Core.Path.{_≡_};
+ghost use Rattle.tape.specs.Putting.{putRecord, putBytes};
+ghost use Rattle.tape.specs.Looking.{Looks};
+ghost use Rattle.tape.specs.Judging.{Judges};
+use meaning::Record;
+use meaning::Refusal;
+
+// The limits of a well-formed tape.
+const RECORD_LIMIT: usize = 16777216;
+
+const STORE_LIMIT: usize = 16777216;
+
+const DEPTH_LIMIT: usize = 64;
+
+// The end of nothing: no index is that large.
+const NEVER: usize = 18446744073709551615;
+
+// A record's sixteen bytes as four numbers of 2, 2, 4 and 8 bytes.
+struct Words {
+    mark: u64,
+    low: u64,
+    mid: u64,
+    high: u64,
+}
+
+// What stands in sixteen bytes: a record, whatever its fields hold, or none.
+enum Shape {
+    Record(Record),
+    Junk,
+}
+
+// What `look` answers.
+pub enum Looked {
+    Record(Record),
+    Refused(Refusal),
+}
+
+// What a record does to the judge: nothing good; a value or a key is passed, with the next state and store place; a
+// container opens, with the state after it, its end and the state in it.
+enum Turn {
+    No,
+    Pass(u8, usize),
+    Open(u8, usize, u8),
+}
+
+// What `judge` answers: refusal 10 at 0 where the tape and store are not well formed.
+pub enum Judged {
+    Well,
+    Ill,
+}
+
+// Put the record at this index, where the tape has sixteen bytes for it; else nothing is written, so that measuring is the
+// same walk over empty buffers.
+pub fn put_record(tape: &mut [u8], index: usize, r: Record)
+    ensures { λ _. ⌜ now (tape .exit) ≡ putRecord (now (tape .entry)) index r ⌝ }
+{
+    let whole = tape.len() / 16;
+    if index < whole {
+        let at = index * 16;
+        let w = records::words_of(r);
+        let mark = w.mark;
+        let low = w.low;
+        let mid = w.mid;
+        let high = w.high;
+        numbers::store(tape, at, 2, mark);
+        numbers::store(tape, at + 2, 2, low);
+        numbers::store(tape, at + 4, 4, mid);
+        numbers::store(tape, at + 8, 8, high);
+    }
+}
+
+// Put these bytes from the place `at` on, where the store has room for all of them; else nothing is written.
+pub fn put_bytes(store: &mut [u8], at: usize, bytes: &[u8])
+    ensures { λ _. ⌜ now (store .exit) ≡ putBytes (now (store .entry)) at (now (bytes .entry)) ⌝ }
+{
+    let room = store.len();
+    if at <= room {
+        if bytes.len() <= room - at {
+            let mut k: usize = 0;
+            while k < bytes.len() {
+                store[at + k] = bytes[k];
+                k += 1;
+            }
+        }
+    }
+}
+
+// Look at one record: 14, then 10 at the index. Any index, any bytes, any lengths.
+pub fn look(tape: &[u8], store: &[u8], index: usize) -> Looked
+    ensures { λ a. ⌜ Looks (now (tape .entry)) (now (store .entry)) index a ⌝ }
+{
+    let whole = tape.len() / 16;
+    if index >= whole {
+        return Looked::Refused(Refusal::NoSuchRecord(index));
+    }
+    match records::shape_at(tape, index * 16) {
+        Shape::Junk => Looked::Refused(Refusal::NotWellFormed(index)),
+        Shape::Record(r) => {
+            if fields::own_fields(r, index, whole, store) {
+                return Looked::Record(r);
+            }
+            Looked::Refused(Refusal::NotWellFormed(index))
+        }
+    }
+}
+
+// Judge a whole tape: one loop over its records, each looked at once, with the ends of the open containers and the states
+// after them. It stops at the first fault, so each byte of the store is passed at most twice.
+pub fn judge(tape: &[u8], store: &[u8]) -> Judged
+    ensures { λ a. ⌜ Judges (now (tape .entry)) (now (store .entry)) a ⌝ }
+{
+    let n = tape.len() / 16;
+    let room = store.len();
+    if tape.len() != n * 16 {
+        return Judged::Ill;
+    }
+    if RECORD_LIMIT < n {
+        return Judged::Ill;
+    }
+    if STORE_LIMIT < room {
+        return Judged::Ill;
+    }
+    let mut ends: [usize; DEPTH_LIMIT] = [0; DEPTH_LIMIT];
+    let mut kinds: [u8; DEPTH_LIMIT] = [0; DEPTH_LIMIT];
+    let mut d: usize = 0;
+    let mut end: usize = NEVER;
+    let mut state: u8 = turns::NOTHING;
+    let mut at: usize = 0;
+    let mut i: usize = 0;
+    loop {
+        if end == i {
+            if state == turns::AFTER_KEY {
+                return Judged::Ill;
+            }
+            if d == 0 {
+                return Judged::Ill;
+            }
+            d -= 1;
+            end = ends[d];
+            state = kinds[d];
+        } else {
+            if i == n {
+                if state == turns::WHOLE {
+                    if at == room {
+                        return Judged::Well;
+                    }
+                }
+                return Judged::Ill;
+            }
+            match look(tape, store, i) {
+                Looked::Refused(_) => {
+                    return Judged::Ill;
+                }
+                Looked::Record(r) => {
+                    match turns::turn(r, at, d, state) {
+                        Turn::No => {
+                            return Judged::Ill;
+                        }
+                        Turn::Pass(s, a) => {
+                            state = s;
+                            at = a;
+                            i += 1;
+                        }
+                        Turn::Open(s, e, t) => {
+                            ends[d] = end;
+                            kinds[d] = s;
+                            d += 1;
+                            end = e;
+                            state = t;
+                            i += 1;
+                        }
+                    }
+                }
+            }
+        }
+    }
+}

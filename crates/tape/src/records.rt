@@ -1,0 +1,294 @@
+// A record and its four numbers, each way.
+ghost use mathlib.Core.Path.{_≡_};
+ghost use Prim.Native.Nat.{_+_, _≤_, _<_, _^_};
+ghost use lib.ListN.{length};
+ghost use Rattle.meaning.specs.declared.Record.{Record};
+ghost use Rattle.meaning.specs.Words.{monthDay, FitDate};
+ghost use Rattle.tape.specs.Shapes.{Written, Loaded, notFinite, dateOf, recordOf, Shaped, wordsAt};
+use crate::Shape;
+use crate::Words;
+use crate::numbers;
+use meaning::Date;
+use meaning::Number;
+use meaning::Record;
+use meaning::Time;
+
+// The marks, two letters each.
+const NU: u64 = b'n' as u64 + b'u' as u64 * 256;
+
+const BO: u64 = b'b' as u64 + b'o' as u64 * 256;
+
+const NB: u64 = b'n' as u64 + b'b' as u64 * 256;
+
+const NX: u64 = b'n' as u64 + b'x' as u64 * 256;
+
+const ST: u64 = b's' as u64 + b't' as u64 * 256;
+
+const KY: u64 = b'k' as u64 + b'y' as u64 * 256;
+
+const BY: u64 = b'b' as u64 + b'y' as u64 * 256;
+
+const LD: u64 = b'l' as u64 + b'd' as u64 * 256;
+
+const LT: u64 = b'l' as u64 + b't' as u64 * 256;
+
+const DT: u64 = b'd' as u64 + b't' as u64 * 256;
+
+const OD: u64 = b'o' as u64 + b'd' as u64 * 256;
+
+const AR: u64 = b'a' as u64 + b'r' as u64 * 256;
+
+const OB: u64 = b'o' as u64 + b'b' as u64 * 256;
+
+fn number_words(n: Number) -> Words
+    ensures { λ w. ⌜ Written (Record.Number n) w ⌝ }
+{
+    match n {
+        Number::Finite {
+            minus,
+            coefficient,
+            power,
+        } => {
+            Words {
+                mark: NB,
+                low: numbers::flag(minus),
+                mid: numbers::bits32(power) as u64,
+                high: coefficient,
+            }
+        }
+        Number::NotANumber => Words {
+            mark: NX,
+            low: 0,
+            mid: 0,
+            high: 0,
+        },
+        Number::Infinite { minus } => Words {
+            mark: NX,
+            low: 0,
+            mid: 1 + numbers::flag(minus),
+            high: 0,
+        },
+    }
+}
+
+// Month, day and offset in bytes 4-7.
+fn month_day(d: Date, offset: u16) -> u64
+    ensures { λ r. ⌜ (r ≡ monthDay d offset) × FitDate d ⌝ }
+{
+    let month = d.month as u64;
+    let day = d.day as u64;
+    let bits = offset as u64;
+    month + day * 256 + bits * 65536
+}
+
+fn time_words(t: Time) -> Words
+    ensures { λ w. ⌜ Written (Record.Time t) w ⌝ }
+{
+    match t {
+        Time::LocalDate(d) => Words {
+            mark: LD,
+            low: d.year as u64,
+            mid: month_day(d, 0),
+            high: 0,
+        },
+        Time::LocalTime(clock) => Words {
+            mark: LT,
+            low: 0,
+            mid: 0,
+            high: clock,
+        },
+        Time::LocalDateTime(d, clock) => Words {
+            mark: DT,
+            low: d.year as u64,
+            mid: month_day(d, 0),
+            high: clock,
+        },
+        Time::OffsetDateTime(d, clock, offset) => {
+            Words {
+                mark: OD,
+                low: d.year as u64,
+                mid: month_day(d, numbers::bits16(offset)),
+                high: clock,
+            }
+        }
+    }
+}
+
+// The four numbers of a record.
+pub fn words_of(r: Record) -> Words
+    ensures { λ w. ⌜ Written r w ⌝ }
+{
+    match r {
+        Record::Null => Words {
+            mark: NU,
+            low: 0,
+            mid: 0,
+            high: 0,
+        },
+        Record::Bool(b) => Words {
+            mark: BO,
+            low: 0,
+            mid: numbers::flag(b),
+            high: 0,
+        },
+        Record::Number(n) => number_words(n),
+        Record::Str { length, start } => Words {
+            mark: ST,
+            low: 0,
+            mid: length as u64,
+            high: start as u64,
+        },
+        Record::Key { length, start } => Words {
+            mark: KY,
+            low: 0,
+            mid: length as u64,
+            high: start as u64,
+        },
+        Record::Bin { length, start } => Words {
+            mark: BY,
+            low: 0,
+            mid: length as u64,
+            high: start as u64,
+        },
+        Record::Time(t) => time_words(t),
+        Record::Array { end } => Words {
+            mark: AR,
+            low: 0,
+            mid: 0,
+            high: end as u64,
+        },
+        Record::Object { end } => Words {
+            mark: OB,
+            low: 0,
+            mid: 0,
+            high: end as u64,
+        },
+    }
+}
+
+fn not_finite(mid: u64) -> Number
+    ensures { λ n. ⌜ n ≡ notFinite mid ⌝ }
+{
+    if mid == 0 {
+        return Number::NotANumber;
+    }
+    if mid == 2 {
+        return Number::Infinite { minus: true };
+    }
+    Number::Infinite { minus: false }
+}
+
+fn date_of(low: u64, mid: u64) -> Date
+    requires { ⌜ low < 2 ^ 16 ⌝ }
+    ensures { λ d. ⌜ d ≡ dateOf low mid ⌝ }
+{
+    Date {
+        year: low as u16,
+        month: (mid % 256) as u8,
+        day: (mid / 256 % 256) as u8,
+    }
+}
+
+// The record with these four numbers, if there is one; what they must be beside the mark is not tested here.
+fn record_of(w: Words) -> Record
+    requires { ⌜ Loaded w ⌝ }
+    ensures { λ r. ⌜ r ≡ recordOf (w .mark) (w .low) (w .mid) (w .high) ⌝ }
+{
+    let mark = w.mark;
+    let low = w.low;
+    let mid = w.mid;
+    let high = w.high;
+    if mark == BO {
+        return Record::Bool(mid == 1);
+    }
+    if mark == NB {
+        return Record::Number(Number::Finite {
+            minus: low == 1,
+            coefficient: high,
+            power: numbers::signed32(mid as u32),
+        });
+    }
+    if mark == NX {
+        return Record::Number(not_finite(mid));
+    }
+    if mark == ST {
+        return Record::Str {
+            length: mid as usize,
+            start: high as usize,
+        };
+    }
+    if mark == KY {
+        return Record::Key {
+            length: mid as usize,
+            start: high as usize,
+        };
+    }
+    if mark == BY {
+        return Record::Bin {
+            length: mid as usize,
+            start: high as usize,
+        };
+    }
+    if mark == LD {
+        return Record::Time(Time::LocalDate(date_of(low, mid)));
+    }
+    if mark == LT {
+        return Record::Time(Time::LocalTime(high));
+    }
+    if mark == DT {
+        return Record::Time(Time::LocalDateTime(date_of(low, mid), high));
+    }
+    if mark == OD {
+        return Record::Time(Time::OffsetDateTime(
+            date_of(low, mid),
+            high,
+            numbers::signed16((mid / 65536) as u16),
+        ));
+    }
+    if mark == AR {
+        return Record::Array { end: high as usize };
+    }
+    if mark == OB {
+        return Record::Object { end: high as usize };
+    }
+    Record::Null
+}
+
+// The record with these four numbers, or none: a record's own numbers are these, or no record has them.
+fn shape_of(w: Words) -> Shape
+    requires { ⌜ Loaded w ⌝ }
+    ensures { λ s. ⌜ Shaped w s ⌝ }
+{
+    let r = record_of(w);
+    let own = words_of(r);
+    if own.mark != w.mark {
+        return Shape::Junk;
+    }
+    if own.low != w.low {
+        return Shape::Junk;
+    }
+    if own.mid != w.mid {
+        return Shape::Junk;
+    }
+    if own.high != w.high {
+        return Shape::Junk;
+    }
+    Shape::Record(r)
+}
+
+// What stands in the sixteen bytes from the place `at`.
+pub fn shape_at(tape: &[u8], at: usize) -> Shape
+    requires { ⌜ at + 16 ≤ length (now tape) ⌝ }
+    ensures { λ s. ⌜ Shaped (wordsAt (now (tape .entry)) at) s ⌝ }
+{
+    let mark = numbers::load(tape, at, 2);
+    let low = numbers::load(tape, at + 2, 2);
+    let mid = numbers::load(tape, at + 4, 4);
+    let high = numbers::load(tape, at + 8, 8);
+    shape_of(Words {
+        mark: mark,
+        low: low,
+        mid: mid,
+        high: high,
+    })
+}
