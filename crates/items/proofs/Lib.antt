@@ -1,0 +1,30 @@
+-- PlacesLaws: one step of a scanner at a place
+pub mod PlacesLaws
+-- StoresLaws: bytes put into a store
+pub mod StoresLaws
+-- PartsSteps, PartsEscapes, PartsChars, PartsTurns, PartsLines: a string part, from single steps to the multiline part
+pub mod PartsSteps
+pub mod PartsEscapes
+pub mod PartsChars
+pub mod PartsTurns
+pub mod PartsLines
+-- SpellingLaws: words
+pub mod SpellingLaws
+-- NumericsSteps: the scanner over a text, from a place on
+pub mod NumericsSteps
+-- NumericsDigits: what the loops over digits keep
+pub mod NumericsDigits
+-- NumericsSettled: where a number ends
+pub mod NumericsSettled
+-- NumericsDecimals: the parts of a decimal number
+pub mod NumericsDecimals
+-- NumericsHexes: hexadecimal numbers
+pub mod NumericsHexes
+-- NumericsWords: words, a sign, the first byte
+pub mod NumericsWords
+-- NumericsLeads: digits with no sign
+pub mod NumericsLeads
+-- NumericsTimes: the fields of a time value
+pub mod NumericsTimes
+-- NumericsAnswers: what an answer of `numeric` says
+pub mod NumericsAnswers

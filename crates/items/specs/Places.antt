@@ -1,0 +1,33 @@
+-- Runs of a scanner over places of a slice. Assumes nothing.
+use mathlib.Core.Path.{_≡_}
+use Prim.Native.Nat.{ℕ, _+_}
+use mathlib.Core.List.{List}
+use lib.ListN.{drop, getD}
+use Rattle.machine.specs.Scan.{Out, over, Ran, ran}
+use Rattle.machine.specs.Strings.{hexOf}
+
+-- the byte at a place, or the text's end
+abbrev pub byteAt : List ℕ → ℕ → ℕ
+byteAt s i = getD s i over
+
+-- the digit at a place; noDigit where there is none
+abbrev pub digitAt : List ℕ → ℕ → ℕ
+digitAt s i = hexOf (byteAt s i)
+
+-- the slice s is the whole text
+module _ {S M : Type 0} (scan : ℕ → S → ℕ → Out S M) (s : List ℕ) where
+  -- what the scanner comes to from the place i on
+  abbrev pub ranAt : S → ℕ → Ran M
+  ranAt c i = ran scan i c (drop i s)
+
+  -- from the state c at i the scanner comes to the state d at j
+  abbrev pub Runs : S → ℕ → S → ℕ → Type 0
+  Runs c i d j = ranAt c i ≡ ranAt d j
+
+-- the slice s stands in a text at the place `base`
+module _ {S M : Type 0} (scan : ℕ → S → ℕ → Out S M) (base : ℕ) (s : List ℕ) where
+  abbrev pub ranFrom : S → ℕ → Ran M
+  ranFrom c i = ran scan (base + i) c (drop i s)
+
+  abbrev pub Goes : S → ℕ → S → ℕ → Type 0
+  Goes c i d j = ranFrom c i ≡ ranFrom d j

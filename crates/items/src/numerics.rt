@@ -1,0 +1,270 @@
+// A number or a time value. Digits with no sign stay open as both while both are possible.
+use crate::numbers;
+use crate::numbers::Acc;
+use crate::times;
+use crate::times::When;
+use crate::words;
+use crate::words::Word;
+use meaning::Number;
+use meaning::Refusal;
+use meaning::Time;
+ghost use Prim.Native.Nat.{_≤_, _<_};
+ghost use lib.ListN.{length};
+ghost use Rattle.meaning.specs.Limits.{textLimit};
+ghost use Rattle.machine.specs.Numeric as Numeric;
+ghost use Rattle.items.specs.Numerics.{NumericSays, Reads, Place, Edge, AtDigit, FewSays, LeadSays, Marks, Plainly};
+
+// One value that is no array and no object; a string or binary with how many store bytes it has.
+pub enum Item {
+    Null,
+    Bool(bool),
+    Number(Number),
+    Time(Time),
+    Str(usize),
+    Bin(usize),
+}
+
+// An item and the place after it, or a refusal.
+pub enum Scanned {
+    Item(Item, usize),
+    Refused(Refusal),
+}
+
+// Up to four digits with no sign: how many, their value twice, and the place after them.
+pub struct Few {
+    pub n: usize,
+    pub v: u16,
+    pub acc: Acc,
+    pub at: usize,
+}
+
+// What digits with no sign begin: a number; a hexadecimal one; an hour or a year, and the place after its mark; nothing.
+pub enum Lead {
+    Number(Acc, usize),
+    Hex(usize),
+    Hour(u8, usize),
+    Year(u16, usize),
+    Nothing(usize),
+}
+
+// What a byte makes of the digits before it.
+pub enum Mark {
+    Colon,
+    Dash,
+    X,
+    Other,
+}
+
+fn first_digits(s: &[u8], q: usize) -> Few
+    requires { ⌜ AtDigit (now s) q ⌝ }
+    ensures { λ r. ⌜ FewSays (now (s .entry)) q r ⌝ }
+{
+    let d = s[q];
+    let mut x = numbers::push(
+        Acc {
+            c: 0,
+            over: false,
+            z: 0,
+        },
+        d,
+    );
+    let mut v = (d - b'0') as u16;
+    let mut n: usize = 1;
+    let mut i = q + 1;
+    while i < s.len() {
+        if n >= 4 {
+            return Few {
+                n: n,
+                v: v,
+                acc: x,
+                at: i,
+            };
+        }
+        let b = s[i];
+        if b < b'0' {
+            return Few {
+                n: n,
+                v: v,
+                acc: x,
+                at: i,
+            };
+        }
+        if b > b'9' {
+            return Few {
+                n: n,
+                v: v,
+                acc: x,
+                at: i,
+            };
+        }
+        x = numbers::push(x, b);
+        v = 10 * v + (b - b'0') as u16;
+        n += 1;
+        i += 1;
+    }
+    Few {
+        n: n,
+        v: v,
+        acc: x,
+        at: i,
+    }
+}
+
+// What the byte b after n digits, the first of which is d, makes of them.
+fn mark_of(n: usize, d: u8, b: u8) -> Mark
+    ensures { λ r. ⌜ Marks n d b r ⌝ }
+{
+    if n == 2 {
+        if b == b':' {
+            return Mark::Colon;
+        }
+        return Mark::Other;
+    }
+    if n == 4 {
+        if b == b'-' {
+            return Mark::Dash;
+        }
+        return Mark::Other;
+    }
+    if n != 1 {
+        return Mark::Other;
+    }
+    if d != b'0' {
+        return Mark::Other;
+    }
+    if b == b'x' {
+        return Mark::X;
+    }
+    if b == b'X' {
+        return Mark::X;
+    }
+    Mark::Other
+}
+
+// Digits that are no time: a number, unless a 0 goes before others.
+fn plain(d: u8, n: usize, x: Acc, at: usize) -> Lead
+    ensures { λ r. ⌜ Plainly d n x at r ⌝ }
+{
+    if d != b'0' {
+        return Lead::Number(x, at);
+    }
+    if n > 1 {
+        return Lead::Nothing(at);
+    }
+    Lead::Number(x, at)
+}
+
+// The digits with no sign, the first at q.
+fn leading(s: &[u8], q: usize) -> Lead
+    requires { ⌜ AtDigit (now s) q ⌝ }
+    ensures { λ r. ⌜ LeadSays (now (s .entry)) q r ⌝ }
+{
+    let w = first_digits(s, q);
+    let n = w.n;
+    let v = w.v;
+    let x = w.acc;
+    let at = w.at;
+    let d = s[q];
+    if at >= s.len() {
+        return plain(d, n, x, at);
+    }
+    match mark_of(n, d, s[at]) {
+        Mark::Colon => Lead::Hour(v as u8, at + 1),
+        Mark::Dash => Lead::Year(v, at + 1),
+        Mark::X => Lead::Hex(at + 1),
+        Mark::Other => plain(d, n, x, at),
+    }
+}
+
+fn unsigned(s: &[u8], q: usize) -> Scanned
+    requires { ⌜ AtDigit (now s) q ⌝ }
+    ensures { λ r. ⌜ Reads (now (s .entry)) q Numeric.begin r ⌝ }
+{
+    match leading(s, q) {
+        Lead::Number(x, at) => numbers::decimal(s, q, false, x, at),
+        Lead::Hex(at) => numbers::hexadecimal(s, q, false, at),
+        Lead::Hour(v, at) => times::after_hour(s, q, When::Alone, v, at),
+        Lead::Year(v, at) => times::after_year(s, q, v, at),
+        Lead::Nothing(p) => Scanned::Refused(Refusal::NotGrammar(p)),
+    }
+}
+
+fn named(s: &[u8], from: usize, spelt: &[u8], n: Number) -> Scanned
+    requires { ⌜ Place (now s) from ⌝ }
+    ensures { λ r. ⌜ Reads (now (s .entry)) from (Numeric.word (now (spelt .entry)) n) r ⌝ }
+{
+    match words::spell(s, from, spelt) {
+        Word::Cut(p) => Scanned::Refused(Refusal::NotGrammar(p)),
+        Word::Whole(at) => Scanned::Item(Item::Number(n), at),
+    }
+}
+
+// A number at i that begins with no digit: a point or a word, g its sign.
+fn undigited(s: &[u8], q: usize, g: bool, i: usize) -> Scanned
+    requires { ⌜ (i < length (now s)) × (length (now s) ≤ textLimit) × Edge (now s) i ⌝ }
+    ensures { λ r. ⌜ Reads (now (s .entry)) i (Numeric.sign q g) r ⌝ }
+{
+    let b = s[i];
+    if b == b'.' {
+        return numbers::point(s, q, g, i + 1);
+    }
+    if b == b'N' {
+        return named(s, i + 1, b"aN", Number::NotANumber);
+    }
+    if b == b'I' {
+        return named(s, i + 1, b"nfinity", Number::Infinite { minus: g });
+    }
+    Scanned::Refused(Refusal::NotGrammar(i))
+}
+
+// After a sign.
+fn signed(s: &[u8], q: usize, g: bool, i: usize) -> Scanned
+    requires { ⌜ Place (now s) i ⌝ }
+    ensures { λ r. ⌜ Reads (now (s .entry)) i (Numeric.sign q g) r ⌝ }
+{
+    if i >= s.len() {
+        return Scanned::Refused(Refusal::NotGrammar(i));
+    }
+    let b = s[i];
+    if b == b'0' {
+        return numbers::nought(s, q, g, i + 1);
+    }
+    if b < b'0' {
+        return undigited(s, q, g, i);
+    }
+    if b > b'9' {
+        return undigited(s, q, g, i);
+    }
+    numbers::decimal(
+        s,
+        q,
+        g,
+        Acc {
+            c: 0,
+            over: false,
+            z: 0,
+        },
+        i,
+    )
+}
+
+// A number or a time value, where its first byte is at q.
+pub fn numeric(s: &[u8], q: usize) -> Scanned
+    requires { ⌜ (q < length (now s)) × (length (now s) ≤ textLimit) ⌝ }
+    ensures { λ r. ⌜ NumericSays (now (s .entry)) q r ⌝ }
+{
+    let b = s[q];
+    if b == b'+' {
+        return signed(s, q, false, q + 1);
+    }
+    if b == b'-' {
+        return signed(s, q, true, q + 1);
+    }
+    if b < b'0' {
+        return undigited(s, q, false, q);
+    }
+    if b > b'9' {
+        return undigited(s, q, false, q);
+    }
+    unsigned(s, q)
+}

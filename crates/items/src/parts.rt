@@ -1,0 +1,378 @@
+// A string part, judged on its own from its opening quote: every place here counts from that quote.
+use crate::hexes;
+use crate::stores;
+ghost use mathlib.Core.Path.{_≡_};
+ghost use Prim.Native.Nat.{_+_, _≤_, _<_, _^_};
+ghost use lib.ListN.{length, getD};
+ghost use Rattle.meaning.specs.Letters.{ch};
+ghost use Rattle.machine.specs.Strings.{lineByte};
+ghost use Rattle.items.specs.Parts.{EscapeSays, Grown, CharSays, Passed, Earlier, InnerSays, OneSays, ThreeSays, PartSays, Begun, LinesSays};
+
+// What a part comes to: the bytes taken and the store bytes put; the backslash of the first bad escape; a byte that no
+// rule allows.
+pub enum Part {
+    Closed { taken: usize, bytes: usize },
+    Bad(usize),
+    Wrong(usize),
+}
+
+// What one escape is: half of a pair or a unit of its own; a character; a bad one; or no escape.
+pub enum Escape {
+    Half(usize, u32),
+    Code(usize, u32),
+    Odd(usize),
+    Break(usize),
+}
+
+// What the escapes at a backslash come to: a character, a bad one, or a byte that no rule allows.
+pub enum Char {
+    Whole(usize, u32),
+    Lone(usize),
+    Stop(usize),
+}
+
+// The end of a multiline part: its last three quotes, or what breaks it.
+pub enum Lines {
+    Last(usize),
+    Cut(usize),
+}
+
+// The four digits of the escape at `at`.
+fn four(s: &[u8], at: usize) -> Escape
+    requires { ⌜ (at + 2 < length (now s)) × (getD (now s) at 0 ≡ ch "\\") × (getD (now s) (at + 1) 0 ≡ ch "u") × (getD (now s) (at + 2) 0 ≡ ch "{" → ⊥) ⌝ }
+    ensures { λ r. ⌜ EscapeSays (now (s .entry)) at r ⌝ }
+{
+    let a = hexes::digit(s, at + 2) as u32;
+    if 16 <= a {
+        return Escape::Break(at + 2);
+    }
+    let b = hexes::digit(s, at + 3) as u32;
+    if 16 <= b {
+        return Escape::Break(at + 3);
+    }
+    let c = hexes::digit(s, at + 4) as u32;
+    if 16 <= c {
+        return Escape::Break(at + 4);
+    }
+    let d = hexes::digit(s, at + 5) as u32;
+    if 16 <= d {
+        return Escape::Break(at + 5);
+    }
+    Escape::Half(at + 6, 16 * (16 * (16 * a + b) + c) + d)
+}
+
+// 16 v + d, or a number past the last character where it is past it.
+fn grown(v: u32, d: u32) -> u32
+    requires { ⌜ d < 16 ⌝ }
+    ensures { λ r. ⌜ Grown v d r ⌝ }
+{
+    if v < 0x110000 {
+        return 16 * v + d;
+    }
+    0x110000
+}
+
+// The digits in braces of the escape at `at`.
+fn braces(s: &[u8], at: usize) -> Escape
+    requires { ⌜ (at + 2 < length (now s)) × (getD (now s) at 0 ≡ ch "\\") × (getD (now s) (at + 1) 0 ≡ ch "u") × (getD (now s) (at + 2) 0 ≡ ch "{") ⌝ }
+    ensures { λ r. ⌜ EscapeSays (now (s .entry)) at r ⌝ }
+{
+    let a = hexes::digit(s, at + 3) as u32;
+    if 16 <= a {
+        return Escape::Break(at + 3);
+    }
+    let mut v = a;
+    let mut p = at + 4;
+    loop {
+        if s.len() <= p {
+            return Escape::Break(p);
+        }
+        if s[p] == b'}' {
+            if v < 0xD800 {
+                return Escape::Code(p + 1, v);
+            }
+            if v < 0xE000 {
+                return Escape::Odd(p + 1);
+            }
+            if v < 0x110000 {
+                return Escape::Code(p + 1, v);
+            }
+            return Escape::Odd(p + 1);
+        }
+        let d = hexes::digit(s, p) as u32;
+        if 16 <= d {
+            return Escape::Break(p);
+        }
+        v = grown(v, d);
+        p = p + 1;
+    }
+}
+
+// One escape, from its backslash.
+fn escape_at(s: &[u8], at: usize) -> Escape
+    requires { ⌜ (at < length (now s)) × (getD (now s) at 0 ≡ ch "\\") ⌝ }
+    ensures { λ r. ⌜ EscapeSays (now (s .entry)) at r ⌝ }
+{
+    let p = at + 1;
+    if s.len() <= p {
+        return Escape::Break(p);
+    }
+    let b = s[p];
+    if b != b'u' {
+        let c = hexes::short(b);
+        if c < 256 {
+            return Escape::Code(p + 1, c as u32);
+        }
+        return Escape::Break(p);
+    }
+    let u = at + 2;
+    if s.len() <= u {
+        return Escape::Break(u);
+    }
+    if s[u] == b'{' {
+        return braces(s, at);
+    }
+    four(s, at)
+}
+
+// One escape, or two that make one character.
+fn character(s: &[u8], at: usize) -> Char
+    requires { ⌜ (at < length (now s)) × (getD (now s) at 0 ≡ ch "\\") ⌝ }
+    ensures { λ r. ⌜ CharSays (now (s .entry)) at r ⌝ }
+{
+    match escape_at(s, at) {
+        Escape::Code(next, c) => Char::Whole(next, c),
+        Escape::Odd(next) => Char::Lone(next),
+        Escape::Break(p) => Char::Stop(p),
+        Escape::Half(next, w) => {
+            if w < 0xD800 {
+                return Char::Whole(next, w);
+            }
+            if 0xE000 <= w {
+                return Char::Whole(next, w);
+            }
+            if 0xDC00 <= w {
+                return Char::Lone(next);
+            }
+            if s.len() <= next {
+                return Char::Stop(next);
+            }
+            if s[next] != b'\\' {
+                return Char::Lone(next);
+            }
+            match escape_at(s, next) {
+                Escape::Code(_, _) => Char::Lone(next),
+                Escape::Odd(_) => Char::Lone(next),
+                Escape::Break(p) => Char::Stop(p),
+                Escape::Half(after, l) => {
+                    if l < 0xDC00 {
+                        return Char::Lone(next);
+                    }
+                    if 0xE000 <= l {
+                        return Char::Lone(next);
+                    }
+                    Char::Whole(after, 0x10000 + (w - 0xD800) * 1024 + (l - 0xDC00))
+                }
+            }
+        }
+    }
+}
+
+// The first place from `from` on that is no plain byte.
+fn plain_end(s: &[u8], from: usize, q: u8) -> usize
+    requires { ⌜ from ≤ length (now s) ⌝ }
+    ensures { λ r. ⌜ Passed (now (s .entry)) q from r ⌝ }
+{
+    let mut at = from;
+    while at < s.len() {
+        let b = s[at];
+        if b == b'\\' {
+            return at;
+        }
+        if b == q {
+            return at;
+        }
+        if b < 0x20 {
+            return at;
+        }
+        at = at + 1;
+    }
+    at
+}
+
+fn earlier(bad: usize, at: usize) -> usize
+    ensures { λ r. ⌜ Earlier bad at r ⌝ }
+{
+    if bad == 0 {
+        return at;
+    }
+    bad
+}
+
+// After one opening quote.
+fn inner(s: &[u8], q: u8, store: &mut [u8], at: usize) -> Part
+    requires { ⌜ (at + length (now s) < 2 ^ 64) × (0 < length (now s)) ⌝ }
+    ensures { λ r. ⌜ InnerSays (now (s .entry)) q at (now (store .entry)) (now (store .exit)) r ⌝ }
+{
+    let mut i: usize = 1;
+    let mut out = at;
+    let mut bad: usize = 0;
+    loop {
+        let e = plain_end(s, i, q);
+        stores::copy(s, i, e, store, out);
+        let o = out + (e - i);
+        if s.len() <= e {
+            return Part::Wrong(e);
+        }
+        let b = s[e];
+        if b == b'\\' {
+            match character(s, e) {
+                Char::Stop(p) => {
+                    return Part::Wrong(p);
+                }
+                Char::Lone(next) => {
+                    bad = earlier(bad, e);
+                    out = o;
+                    i = next;
+                }
+                Char::Whole(next, c) => {
+                    out = stores::encode(c, store, o);
+                    i = next;
+                }
+            }
+        } else {
+            if b != q {
+                return Part::Wrong(e);
+            }
+            if bad != 0 {
+                return Part::Bad(bad);
+            }
+            return Part::Closed {
+                taken: e + 1,
+                bytes: o - at,
+            };
+        }
+    }
+}
+
+// Past one LF, or one CR LF, right after the opening.
+fn lines_start(s: &[u8]) -> usize
+    requires { ⌜ 2 < length (now s) ⌝ }
+    ensures { λ r. ⌜ Begun (now (s .entry)) r ⌝ }
+{
+    if s.len() <= 3 {
+        return 3;
+    }
+    let b = s[3];
+    if b == b'\n' {
+        return 4;
+    }
+    if b != b'\r' {
+        return 3;
+    }
+    if s.len() <= 4 {
+        return 3;
+    }
+    if s[4] == b'\n' {
+        return 5;
+    }
+    3
+}
+
+fn line_byte(b: u8) -> bool
+    ensures { λ r. ⌜ r ≡ lineByte b ⌝ }
+{
+    if 0x20 <= b {
+        return true;
+    }
+    if b == b'\t' {
+        return true;
+    }
+    if b == b'\n' {
+        return true;
+    }
+    b == b'\r'
+}
+
+// The next three quotes from `from` on.
+fn lines_end(s: &[u8], from: usize, q: u8) -> Lines
+    requires { ⌜ from ≤ length (now s) ⌝ }
+    ensures { λ r. ⌜ LinesSays (now (s .entry)) q from r ⌝ }
+{
+    let mut i = from;
+    let mut n: usize = 0;
+    while i < s.len() {
+        let b = s[i];
+        if b == q {
+            if n == 2 {
+                return Lines::Last(i - 2);
+            }
+            n = n + 1;
+            i = i + 1;
+        } else {
+            if line_byte(b) {
+                n = 0;
+                i = i + 1;
+            } else {
+                return Lines::Cut(i);
+            }
+        }
+    }
+    Lines::Cut(i)
+}
+
+// After three quotes.
+fn multiline(s: &[u8], q: u8, store: &mut [u8], at: usize) -> Part
+    requires { ⌜ (2 < length (now s)) × (0x20 < q) ⌝ }
+    ensures { λ r. ⌜ ThreeSays (now (s .entry)) q at (now (store .entry)) (now (store .exit)) r ⌝ }
+{
+    let from = lines_start(s);
+    match lines_end(s, from, q) {
+        Lines::Cut(p) => Part::Wrong(p),
+        Lines::Last(e) => {
+            stores::copy(s, from, e, store, at);
+            Part::Closed {
+                taken: e + 3,
+                bytes: e - from,
+            }
+        }
+    }
+}
+
+// From the opening quote q.
+fn quoted(s: &[u8], q: u8, store: &mut [u8], at: usize) -> Part
+    requires { ⌜ (at + length (now s) < 2 ^ 64) × (0 < length (now s)) × (0x20 < q) ⌝ }
+    ensures { λ r. ⌜ OneSays (now (s .entry)) q at (now (store .entry)) (now (store .exit)) r ⌝ }
+{
+    if s.len() < 2 {
+        return Part::Wrong(1);
+    }
+    if s[1] != q {
+        return inner(s, q, store, at);
+    }
+    if s.len() < 3 {
+        return Part::Closed { taken: 2, bytes: 0 };
+    }
+    if s[2] != q {
+        return Part::Closed { taken: 2, bytes: 0 };
+    }
+    multiline(s, q, store, at)
+}
+
+// A string part, from its opening quote. Its bytes are put from `at` on, as far as there is room.
+pub fn judge(s: &[u8], store: &mut [u8], at: usize) -> Part
+    requires { ⌜ at + length (now s) < 2 ^ 64 ⌝ }
+    ensures { λ r. ⌜ PartSays (now (s .entry)) at (now (store .entry)) (now (store .exit)) r ⌝ }
+{
+    if s.len() == 0 {
+        return Part::Wrong(0);
+    }
+    let q = s[0];
+    if q == b'"' {
+        return quoted(s, b'"', store, at);
+    }
+    if q == b'\'' {
+        return quoted(s, b'\'', store, at);
+    }
+    Part::Wrong(0)
+}

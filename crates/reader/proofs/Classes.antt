@@ -1,0 +1,118 @@
+-- What a byte's class says of it. Assumes nothing.
+use mathlib.Core.Path.{_≡_, refl}
+use mathlib.Core.Bool.{Bool, true, false, cond}
+use mathlib.Core.List.{List, [], _∷_}
+use Prim.Native.Nat.{ℕ, suc, _≤_, _<_}
+use native.Mathlib.Omega.{arith}
+use lib.Dec.{leb}
+use mathlib.Core.Logic.{_⊎_, inl, inr}
+use borrow.Author.Tests.{leb-true, leb-false, le-leb, lt-leb}
+use Rattle.meaning.specs.Letters.{ch}
+use Rattle.machine.specs.Table.{cut}
+use Rattle.machine.specs.Machine.{Bracket, square, curly, Class, blankC, hashC, slashC, commaC, colonC, plusC, quoteC, dollarC, letterN, letterT, letterF, letterC, otherC, openC, closeC, classes, classOf, Note, lineEnd, starN, slashN, plainN, controlN, notes, noteOf}
+
+module _ {A : Type 0} where
+  -- what every row, and the default, has of its bytes
+  abbrev Cuts : (ℕ → A → Type 0) → ℕ → List (ℕ × A) → A → ℕ → Type 0
+  Cuts P lo [] d b = lo ≤ b → P b d
+  Cuts P lo (r ∷ rs) d b = (lo ≤ b → b ≤ r .0 → P b (r .1)) × Cuts P (suc (r .0)) rs d b
+
+  -- the byte's class has
+  pub cut-is : (P : ℕ → A → Type 0) (lo : ℕ) (rs : List (ℕ × A)) (d : A) (b : ℕ) → lo ≤ b → Cuts P lo rs d b → P b (cut rs d b)
+  cut-is P lo [] d b l h = h l
+  cut-is P lo (r ∷ rs) d b l h = by (λ m. cut-is P (suc (r .0)) rs d b m (h .1)) (leb b (r .0)) refl
+    where
+      by : (r .0 < b → P b (cut rs d b)) → (y : Bool) → leb b (r .0) ≡ y → P b (cond y (r .1) (cut rs d b))
+      by k true e = h .0 l (leb-true _ _ e)
+      by k false e = k (leb-false _ _ e)
+
+  -- the row that a byte finds
+  abbrev Cut : List (ℕ × A) → A → ℕ → A → Type 0
+  Cut [] d b x = d ≡ x
+  Cut (r ∷ rs) d b x = ((b ≤ r .0) × (r .1 ≡ x)) ⊎ ((r .0 < b) × Cut rs d b x)
+
+  pub cut-found : (rs : List (ℕ × A)) (d : A) (b : ℕ) (x : A) → Cut rs d b x → cut rs d b ≡ x
+  cut-found [] d b x h = h
+  cut-found (r ∷ rs) d b x (inl h) = rw (le-leb _ _ (h .0)) (h .1)
+  cut-found (r ∷ rs) d b x (inr h) = rw (lt-leb _ _ (h .0)) (cut-found rs d b x (h .1))
+
+abbrev pub opening : Bracket → ℕ
+opening square = ch "["
+opening curly = ch "{"
+
+abbrev pub closing : Bracket → ℕ
+closing square = ch "]"
+closing curly = ch "}"
+
+abbrev pub ClassIs : ℕ → Class → Type 0
+ClassIs b blankC = (b ≤ ch " ") × ((b ≡ ch "\t" → ⊥) → (b ≡ ch "\n" → ⊥) → (b ≡ ch "\r" → ⊥) → b ≡ ch " ")
+ClassIs b hashC = b ≡ ch "#"
+ClassIs b slashC = b ≡ ch "/"
+ClassIs b commaC = b ≡ ch ","
+ClassIs b colonC = b ≡ ch ":"
+ClassIs b plusC = b ≡ ch "+"
+ClassIs b quoteC = (b ≤ ch "'") × ((b ≡ ch "\"" → ⊥) → b ≡ ch "'")
+ClassIs b dollarC = b ≡ ch "$"
+ClassIs b letterN = b ≡ ch "n"
+ClassIs b letterT = b ≡ ch "t"
+ClassIs b letterF = b ≡ ch "f"
+ClassIs b letterC = (ch "A" ≤ b) × (b ≤ ch "z") × (ch "Z" < b → b < ch "a" → b ≡ ch "_")
+ClassIs b otherC = (ch "A" ≤ b → ch "Z" < b) × (ch "a" ≤ b → ch "z" < b) × (b ≡ ch "_" → ⊥) × (b ≡ ch "$" → ⊥) × (b ≡ ch "\"" → ⊥) × (b ≡ ch "'" → ⊥)
+ClassIs b (openC c) = b ≡ opening c
+ClassIs b (closeC c) = b ≡ closing c
+
+pub class-is : (b : ℕ) → ClassIs b (classOf b)
+class-is b =
+    cut-is ClassIs 0 classes otherC b (omega arith)
+    ((λ l u. omega arith), ((λ l u. omega arith), ((λ l u. omega arith), ((λ l u. omega arith), ((λ l u. omega arith), ((λ l u. omega arith), ((λ l u. omega arith), ((λ l u. omega arith), ((λ l u. omega arith), ((λ l u. omega arith), ((λ l u. omega arith), ((λ l u. omega arith), ((λ l u. omega arith), ((λ l u. omega arith), ((λ l u. omega arith), ((λ l u. omega arith), ((λ l u. omega arith), ((λ l u. omega arith), ((λ l u. omega arith), ((λ l u. omega arith), ((λ l u. omega arith), ((λ l u. omega arith), ((λ l u. omega arith), ((λ l u. omega arith), ((λ l u. omega arith), ((λ l u. omega arith), ((λ l u. omega arith), ((λ l u. omega arith), ((λ l u. omega arith), ((λ l u. omega arith), ((λ l u. omega arith), ((λ l u. omega arith), ((λ l u. omega arith), ((λ l u. omega arith), ((λ l u. omega arith), ((λ l u. omega arith), ((λ l u. omega arith), λ l. omega arith)))))))))))))))))))))))))))))))))))))
+
+abbrev pub NoteIs : ℕ → Note → Type 0
+NoteIs b lineEnd = (b < 0x20) × (b ≡ ch "\t" → ⊥) × ((b ≡ ch "\n" → ⊥) → b ≡ ch "\r")
+NoteIs b starN = b ≡ ch "*"
+NoteIs b slashN = b ≡ ch "/"
+NoteIs b plainN = (b < 0x20 → b ≡ ch "\t") × (b ≡ ch "*" → ⊥) × (b ≡ ch "/" → ⊥)
+NoteIs b controlN = (b < 0x20) × (b ≡ ch "\t" → ⊥) × (b ≡ ch "\n" → ⊥) × (b ≡ ch "\r" → ⊥)
+
+pub note-is : (b : ℕ) → NoteIs b (noteOf b)
+note-is b =
+    cut-is NoteIs 0 notes plainN b (omega arith)
+    ((λ l u. omega arith), ((λ l u. omega arith), ((λ l u. omega arith), ((λ l u. omega arith), ((λ l u. omega arith), ((λ l u. omega arith), ((λ l u. omega arith), ((λ l u. omega arith), ((λ l u. omega arith), ((λ l u. omega arith), λ l. omega arith))))))))))
+
+note-plain : (b : ℕ) (n : Note) → NoteIs b n → 0x20 ≤ b → (b ≡ ch "*" → ⊥) → (b ≡ ch "/" → ⊥) → n ≡ plainN
+note-plain b lineEnd x h i j = absurd (omega arith)
+note-plain b starN x h i j = absurd (i x)
+note-plain b slashN x h i j = absurd (j x)
+note-plain b plainN x h i j = refl
+note-plain b controlN x h i j = absurd (omega arith)
+
+pub plain-note : (b : ℕ) → 0x20 ≤ b → (b ≡ ch "*" → ⊥) → (b ≡ ch "/" → ⊥) → noteOf b ≡ plainN
+plain-note b = note-plain b (noteOf b) (note-is b)
+
+note-control : (b : ℕ) (n : Note) → NoteIs b n → b < 0x20 → (b ≡ ch "\t" → ⊥) → (b ≡ ch "\n" → ⊥) → (b ≡ ch "\r" → ⊥) → n ≡ controlN
+note-control b lineEnd x h i j k = absurd (k (x .2 j))
+note-control b starN x h i j k = absurd (omega arith)
+note-control b slashN x h i j k = absurd (omega arith)
+note-control b plainN x h i j k = absurd (i (x .0 h))
+note-control b controlN x h i j k = refl
+
+pub control-note : (b : ℕ) → b < 0x20 → (b ≡ ch "\t" → ⊥) → (b ≡ ch "\n" → ⊥) → (b ≡ ch "\r" → ⊥) → noteOf b ≡ controlN
+control-note b = note-control b (noteOf b) (note-is b)
+
+module _ (b : ℕ) where
+  class-blank : (c : Class) → ClassIs b c → c ≡ blankC → ClassIs b blankC
+  class-blank c x e = rw e at x
+
+  pub not-blank : (b ≡ ch "\t" → ⊥) → (b ≡ ch "\n" → ⊥) → (b ≡ ch "\r" → ⊥) → (b ≡ ch " " → ⊥) → classOf b ≡ blankC → ⊥
+  not-blank i j k l e = l ((class-blank (classOf b) (class-is b) e) .1 i j k)
+
+  class-hash : (c : Class) → ClassIs b c → c ≡ hashC → b ≡ ch "#"
+  class-hash c x e = rw e at x
+
+  pub not-hash : (b ≡ ch "#" → ⊥) → classOf b ≡ hashC → ⊥
+  not-hash i e = i (class-hash (classOf b) (class-is b) e)
+
+  class-slash : (c : Class) → ClassIs b c → c ≡ slashC → b ≡ ch "/"
+  class-slash c x e = rw e at x
+
+  pub not-slash : (b ≡ ch "/" → ⊥) → classOf b ≡ slashC → ⊥
+  not-slash i e = i (class-slash (classOf b) (class-is b) e)

@@ -1,0 +1,40 @@
+use Rattle.reader.proofs.Heads.{binary-whole, binary-refused}
+use borrow.Author.Needs.{needs}
+use Rattle.reader.proofs.cursor.binary.Statement.{statement}
+use Rattle.reader.proofs.cursor.binary.Tie as tie
+use Rattle.reader.proofs.cursor.binary.Reads as reads
+use Rattle.reader.proofs.cursor.binary.Lts as lts
+use Rattle.reader.proofs.joins.binary.Reads as binary-reads
+
+binary-requires : tie.Need-binary-requires
+binary-requires c κs = search needs
+
+enum-known-why : tie.Need-enum-known-why
+enum-known-why c = search needs
+
+enum-known-end : tie.Need-enum-known-end
+enum-known-end c = search needs
+
+same-length : tie.Need-same-length
+same-length c = search needs
+
+returns : tie.Need-returns
+returns c = binary-refused (c .before .before .before .before .before .before .before .before .before .args .text .now) (c .before .before .before .before .before .before .before .before .before .args .at) (c .before .before .before .before .before .before .before .before .before .args .start) (c .before .before .before .before .before .before .before .before .before .args .store .now) (c .before .before .before .before .before .before .before .before .before .pre .0) (c .before .before .before .before .before .before .before .before .before .pre .1) (c .before .why .given .0 .0) (rw (c .before .why .given .1) at (c .before .before .before .before .before .binary .ensures))
+
+same-length-2 : tie.Need-same-length-2
+same-length-2 c = search needs
+
+returns-2 : tie.Need-returns-2
+returns-2 c = binary-whole (c .before .before .before .before .before .before .before .before .before .args .text .now) (c .before .before .before .before .before .before .before .before .before .args .at) (c .before .before .before .before .before .before .before .before .before .args .start) (c .before .before .before .before .before .before .before .before .before .args .store .now) (c .before .before .before .before .before .before .before .before .before .pre .0) (c .before .before .before .before .before .before .before .before .before .pre .1) _ (c .before .end .given .0 .0) (c .before .end .given .0 .1 .0) (rw (c .before .end .given .1) at (c .before .before .before .before .before .binary .ensures))
+
+pub binary-spec : {M : Type 1} → statement M
+binary-spec =
+    tie.close
+    (tie.spec
+    binary-requires
+    enum-known-why
+    enum-known-end
+    same-length
+    returns
+    same-length-2
+    returns-2)

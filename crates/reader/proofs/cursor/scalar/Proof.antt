@@ -1,0 +1,106 @@
+use native.Mathlib.Omega.{arith}
+use mathlib.Core.Path.{refl}
+use mathlib.Core.Bool.{true, false}
+use Rattle.meaning.specs.Letters.{letters, ch}
+use Rattle.meaning.specs.Meaning.{Meaning}
+use Rattle.items.specs.Numerics.{Means}
+use Rattle.items.specs.declared.numerics.Item.{Item}
+use Rattle.reader.proofs.Heads.{of-word, at-word, of-numeric, null-bytes, true-bytes, false-bytes}
+use borrow.Author.Needs.{needs}
+use Rattle.reader.proofs.cursor.scalar.Statement.{statement}
+use Rattle.reader.proofs.cursor.scalar.Tie as tie
+use Rattle.reader.proofs.cursor.scalar.Reads as reads
+use Rattle.reader.proofs.cursor.scalar.Lts as lts
+use Rattle.reader.proofs.cursor.binary.Reads as binary-reads
+use Rattle.reader.proofs.cursor.spelt.Reads as spelt-reads
+use Rattle.reader.proofs.cursor.string.Reads as string-reads
+use Rattle.items.proofs.numerics.numeric.Reads as numeric-reads
+
+shared-slice-read-b : tie.Need-shared-slice-read-b
+shared-slice-read-b c = search needs
+
+string-requires : tie.Need-string-requires
+string-requires c κs = (record { inside = c .before .before .before .before .before .pre .inside; quote = rw (c .before .if1 .taken) }, c .before .before .before .before .before .pre .stored)
+
+same-length : tie.Need-same-length
+same-length c = search needs
+
+returns : tie.Need-returns
+returns c = search needs
+
+string-requires-2 : tie.Need-string-requires-2
+string-requires-2 c κs = (record { inside = c .before .before .before .before .before .before .pre .inside; quote = rw (c .before .if2 .taken) }, c .before .before .before .before .before .before .pre .stored)
+
+same-length-2 : tie.Need-same-length-2
+same-length-2 c = search needs
+
+returns-2 : tie.Need-returns-2
+returns-2 c = search needs
+
+binary-requires : tie.Need-binary-requires
+binary-requires c κs = search needs
+
+same-length-3 : tie.Need-same-length-3
+same-length-3 c = search needs
+
+returns-3 : tie.Need-returns-3
+returns-3 c = search needs
+
+slice-aggregate-spelt : tie.Need-slice-aggregate-spelt
+slice-aggregate-spelt c = search needs
+
+spelt-requires : tie.Need-spelt-requires
+spelt-requires c κs = search needs
+
+returns-4 : tie.Need-returns-4
+returns-4 c = of-word (c .before .before .before .before .before .before .before .before .before .args .text .now) (c .before .before .before .before .before .before .before .before .before .args .at) (c .before .before .before .before .before .before .before .before .before .args .start) (c .before .before .before .before .before .before .before .before .before .args .store .now) (letters "null") (ch "n") (letters "ull") refl null-bytes Item.Null Meaning.null Means.null (at-word (c .before .before .before .before .before .before .before .before .before .args .text .now) (c .before .before .before .before .before .before .before .before .before .args .at) (c .before .before .before .before .before .before .before .before .before .args .start) (c .before .before .before .before .before .before .before .before .before .args .store .now) (c .before .before .before .before .before .before .before .before .before .pre .inside) (letters "null") Meaning.null (λ d k. rw (c .before .before .if4 .taken))) (c .spelt .result) (c .spelt .ensures)
+
+slice-aggregate-spelt-2 : tie.Need-slice-aggregate-spelt-2
+slice-aggregate-spelt-2 c = search needs
+
+spelt-requires-2 : tie.Need-spelt-requires-2
+spelt-requires-2 c κs = search needs
+
+returns-5 : tie.Need-returns-5
+returns-5 c = of-word (c .before .before .before .before .before .before .before .before .before .before .args .text .now) (c .before .before .before .before .before .before .before .before .before .before .args .at) (c .before .before .before .before .before .before .before .before .before .before .args .start) (c .before .before .before .before .before .before .before .before .before .before .args .store .now) (letters "true") (ch "t") (letters "rue") refl true-bytes (Item.Bool true) (Meaning.bool true) Means.bool (at-word (c .before .before .before .before .before .before .before .before .before .before .args .text .now) (c .before .before .before .before .before .before .before .before .before .before .args .at) (c .before .before .before .before .before .before .before .before .before .before .args .start) (c .before .before .before .before .before .before .before .before .before .before .args .store .now) (c .before .before .before .before .before .before .before .before .before .before .pre .inside) (letters "true") (Meaning.bool true) (λ d k. rw (c .before .before .if5 .taken))) (c .spelt2 .result) (c .spelt2 .ensures)
+
+slice-aggregate-spelt-3 : tie.Need-slice-aggregate-spelt-3
+slice-aggregate-spelt-3 c = search needs
+
+spelt-requires-3 : tie.Need-spelt-requires-3
+spelt-requires-3 c κs = search needs
+
+returns-6 : tie.Need-returns-6
+returns-6 c = of-word (c .before .before .before .before .before .before .before .before .before .before .before .args .text .now) (c .before .before .before .before .before .before .before .before .before .before .before .args .at) (c .before .before .before .before .before .before .before .before .before .before .before .args .start) (c .before .before .before .before .before .before .before .before .before .before .before .args .store .now) (letters "false") (ch "f") (letters "alse") refl false-bytes (Item.Bool false) (Meaning.bool false) Means.bool (at-word (c .before .before .before .before .before .before .before .before .before .before .before .args .text .now) (c .before .before .before .before .before .before .before .before .before .before .before .args .at) (c .before .before .before .before .before .before .before .before .before .before .before .args .start) (c .before .before .before .before .before .before .before .before .before .before .before .args .store .now) (c .before .before .before .before .before .before .before .before .before .before .before .pre .inside) (letters "false") (Meaning.bool false) (λ d k. rw (c .before .before .if6 .taken))) (c .spelt3 .result) (c .spelt3 .ensures)
+
+numeric-requires : tie.Need-numeric-requires
+numeric-requires c κs = search needs
+
+returns-7 : tie.Need-returns-7
+returns-7 c = of-numeric (c .before .before .before .before .before .before .before .before .before .before .args .text .now) (c .before .before .before .before .before .before .before .before .before .before .args .at) (c .before .before .before .before .before .before .before .before .before .before .args .start) (c .before .before .before .before .before .before .before .before .before .before .args .store .now) (c .before .before .before .before .before .before .before .before .before .before .pre) (record { double = c .before .before .before .before .before .before .if1 .left; single = c .before .before .before .before .before .if2 .left; dollar = c .before .before .before .before .if3 .left; n = c .before .before .before .if4 .left; t = c .before .before .if5 .left; f = c .before .if6 .left; square = c .before .before .before .before .before .before .before .before .before .before .pre .no-square; curly = c .before .before .before .before .before .before .before .before .before .before .pre .no-curly }) (c .numeric .result) (c .numeric .ensures)
+
+pub scalar-spec : {M : Type 1} → statement M
+scalar-spec =
+    tie.close
+    (tie.spec
+    shared-slice-read-b
+    string-requires
+    same-length
+    returns
+    string-requires-2
+    same-length-2
+    returns-2
+    binary-requires
+    same-length-3
+    returns-3
+    slice-aggregate-spelt
+    spelt-requires
+    returns-4
+    slice-aggregate-spelt-2
+    spelt-requires-2
+    returns-5
+    slice-aggregate-spelt-3
+    spelt-requires-3
+    returns-6
+    numeric-requires
+    returns-7)

@@ -1,0 +1,427 @@
+// The cursor, and the cycle of values, arrays and objects. Reading moves forward and never goes back past an item.
+ghost use mathlib.Core.Path.{_≡_};
+ghost use Prim.Native.Nat.{suc, _+_, _≤_, _<_};
+ghost use lib.ListN.{length, getD};
+ghost use Rattle.meaning.specs.Letters.{ch};
+ghost use Rattle.machine.specs.Machine.{square, curly};
+ghost use Rattle.reader.specs.Scanning.{Bare, Shut};
+ghost use Rattle.reader.specs.Cursors.{Ready, AtMember, AtValue, Inner, HeadSays, OpenSays, AfterSays, ColonSays, MemberSays, Says, wants, bareIn, always, recordItem, itemBytes, SpeltSays, Quoted, AtScalar, ScalarSays};
+use crate::joins;
+use crate::joins::Bytes;
+use crate::layouts;
+use crate::layouts::Layout;
+use crate::names;
+use crate::words;
+use crate::words::Word;
+use items::numerics;
+use items::numerics::Item;
+use items::numerics::Scanned;
+use meaning::Record;
+use meaning::Refusal;
+use tape::put_record;
+
+// A place in the text, and how many records and store bytes have been put before it.
+pub struct Cursor {
+    pub at: usize,
+    pub records: usize,
+    pub stored: usize,
+}
+
+// A value has been read, or a refusal is given.
+pub enum Step {
+    Value(Cursor),
+    Refused(Refusal),
+}
+
+// What begins where a value is wanted: an item, or an opening bracket.
+pub enum Head {
+    Item(Item, Cursor),
+    Array(Cursor),
+    Object(Cursor),
+    Refused(Refusal),
+}
+
+// In a container, where an element or a member may stand.
+pub enum Open {
+    Close(Cursor),
+    More(Cursor),
+    Refused(Refusal),
+}
+
+// After an element or a member.
+pub enum After {
+    Comma(Cursor),
+    Close(Cursor),
+    Refused(Refusal),
+}
+
+// A key and its colon, with how many store bytes it has; the next cursor stands at the value.
+pub enum Member {
+    Key(usize, Cursor),
+    Refused(Refusal),
+}
+
+// The record of an item whose store bytes begin at `start`.
+fn record_of(item: Item, start: usize) -> Record
+    ensures { λ r. ⌜ r ≡ recordItem item start ⌝ }
+{
+    match item {
+        Item::Null => Record::Null,
+        Item::Bool(b) => Record::Bool(b),
+        Item::Number(n) => Record::Number(n),
+        Item::Time(t) => Record::Time(t),
+        Item::Str(n) => Record::Str {
+            length: n,
+            start: start,
+        },
+        Item::Bin(n) => Record::Bin {
+            length: n,
+            start: start,
+        },
+    }
+}
+
+fn spelt(text: &[u8], at: usize, letters: &[u8], item: Item) -> Scanned
+    requires { ⌜ at ≤ length (now text) ⌝ }
+    ensures { λ r. ⌜ SpeltSays (now (text .entry)) at (now (letters .entry)) item r ⌝ }
+{
+    match words::spell(text, at, letters) {
+        Word::Cut(p) => Scanned::Refused(Refusal::NotGrammar(p)),
+        Word::Whole(end) => Scanned::Item(item, end),
+    }
+}
+
+// A string as an item.
+fn string(text: &[u8], at: usize, store: &mut [u8], start: usize) -> Scanned
+    requires { ⌜ Quoted (now text) at × (start ≤ at) ⌝ }
+    ensures { λ r. ⌜ ScalarSays (now (text .entry)) at start (now (store .entry)) (now (store .exit)) r ⌝ }
+{
+    match joins::string(text, at, store, start) {
+        Bytes::Refused(why) => Scanned::Refused(why),
+        Bytes::Whole(end, n) => Scanned::Item(Item::Str(n), end),
+    }
+}
+
+// Binary as an item.
+fn binary(text: &[u8], at: usize, store: &mut [u8], start: usize) -> Scanned
+    requires { ⌜ (at < length (now text)) × (getD (now text) at 0 ≡ ch "$") × (start ≤ at) ⌝ }
+    ensures { λ r. ⌜ ScalarSays (now (text .entry)) at start (now (store .entry)) (now (store .exit)) r ⌝ }
+{
+    match joins::binary(text, at, store, start) {
+        Bytes::Refused(why) => Scanned::Refused(why),
+        Bytes::Whole(end, n) => Scanned::Item(Item::Bin(n), end),
+    }
+}
+
+// The item at a place where a value is wanted, no layout and no opening bracket stands.
+fn scalar(text: &[u8], at: usize, store: &mut [u8], start: usize) -> Scanned
+    requires { ⌜ AtScalar (now text) at start ⌝ }
+    ensures { λ r. ⌜ ScalarSays (now (text .entry)) at start (now (store .entry)) (now (store .exit)) r ⌝ }
+{
+    let b = text[at];
+    if b == b'"' {
+        return string(text, at, store, start);
+    }
+    if b == b'\'' {
+        return string(text, at, store, start);
+    }
+    if b == b'$' {
+        return binary(text, at, store, start);
+    }
+    if b == b'n' {
+        return spelt(text, at, b"null", Item::Null);
+    }
+    if b == b't' {
+        return spelt(text, at, b"true", Item::Bool(true));
+    }
+    if b == b'f' {
+        return spelt(text, at, b"false", Item::Bool(false));
+    }
+    numerics::numeric(text, at)
+}
+
+// How many store bytes an item has.
+fn stored_by(item: Item) -> usize
+    ensures { λ r. ⌜ r ≡ itemBytes item ⌝ }
+{
+    match item {
+        Item::Null => 0,
+        Item::Bool(_) => 0,
+        Item::Number(_) => 0,
+        Item::Time(_) => 0,
+        Item::Str(n) => n,
+        Item::Bin(n) => n,
+    }
+}
+
+impl Cursor {
+    // What begins here, where a value is wanted and no layout stands.
+    fn head(self, text: &[u8], store: &mut [u8]) -> Head
+        requires { ⌜ AtValue (now text) self ⌝ }
+        ensures { λ r. ⌜ HeadSays (now (text .entry)) self (now (store .entry)) (now (store .exit)) r ⌝ }
+    {
+        let at = self.at;
+        if at >= text.len() {
+            return Head::Refused(Refusal::NotGrammar(at));
+        }
+        let b = text[at];
+        if b == b'[' {
+            return Head::Array(Cursor {
+                at: at + 1,
+                records: self.records,
+                stored: self.stored,
+            });
+        }
+        if b == b'{' {
+            return Head::Object(Cursor {
+                at: at + 1,
+                records: self.records,
+                stored: self.stored,
+            });
+        }
+        match scalar(text, at, store, self.stored) {
+            Scanned::Refused(why) => Head::Refused(why),
+            Scanned::Item(item, end) => Head::Item(
+                item,
+                Cursor {
+                    at: end,
+                    records: self.records + 1,
+                    stored: self.stored + stored_by(item),
+                },
+            ),
+        }
+    }
+
+    // In a container that this byte closes: its end, or where an element or a member begins.
+    fn open(self, text: &[u8], closing: u8) -> Open
+        requires { ⌜ Ready (now text) self ⌝ }
+        ensures { λ r. ⌜ OpenSays (now (text .entry)) self closing r ⌝ }
+    {
+        match layouts::pass(text, self.at) {
+            Layout::Broken(p) => Open::Refused(Refusal::NotGrammar(p)),
+            Layout::Ended(at) => {
+                if at >= text.len() {
+                    return Open::Refused(Refusal::NotGrammar(at));
+                }
+                if text[at] == closing {
+                    return Open::Close(Cursor {
+                        at: at + 1,
+                        records: self.records,
+                        stored: self.stored,
+                    });
+                }
+                Open::More(Cursor {
+                    at: at,
+                    records: self.records,
+                    stored: self.stored,
+                })
+            }
+        }
+    }
+
+    // After an element or a member of a container that this byte closes.
+    fn after(self, text: &[u8], closing: u8) -> After
+        requires { ⌜ Ready (now text) self ⌝ }
+        ensures { λ r. ⌜ AfterSays (now (text .entry)) self closing r ⌝ }
+    {
+        match layouts::pass(text, self.at) {
+            Layout::Broken(p) => After::Refused(Refusal::NotGrammar(p)),
+            Layout::Ended(at) => {
+                if at >= text.len() {
+                    return After::Refused(Refusal::NotGrammar(at));
+                }
+                let b = text[at];
+                if b == b',' {
+                    return After::Comma(Cursor {
+                        at: at + 1,
+                        records: self.records,
+                        stored: self.stored,
+                    });
+                }
+                if b == closing {
+                    return After::Close(Cursor {
+                        at: at + 1,
+                        records: self.records,
+                        stored: self.stored,
+                    });
+                }
+                After::Refused(Refusal::NotGrammar(at))
+            }
+        }
+    }
+
+    // After a key of n store bytes: a colon, and the layout before the value.
+    fn colon(self, text: &[u8], n: usize) -> Member
+        requires { ⌜ self .at ≤ length (now text) ⌝ }
+        ensures { λ r. ⌜ ColonSays (now (text .entry)) self n r ⌝ }
+    {
+        match layouts::pass(text, self.at) {
+            Layout::Broken(p) => Member::Refused(Refusal::NotGrammar(p)),
+            Layout::Ended(at) => {
+                if at >= text.len() {
+                    return Member::Refused(Refusal::NotGrammar(at));
+                }
+                if text[at] != b':' {
+                    return Member::Refused(Refusal::NotGrammar(at));
+                }
+                match layouts::pass(text, at + 1) {
+                    Layout::Broken(p) => Member::Refused(Refusal::NotGrammar(p)),
+                    Layout::Ended(next) => Member::Key(
+                        n,
+                        Cursor {
+                            at: next,
+                            records: self.records,
+                            stored: self.stored,
+                        },
+                    ),
+                }
+            }
+        }
+    }
+
+    // A key and its colon.
+    fn member(self, text: &[u8], store: &mut [u8]) -> Member
+        requires { ⌜ AtMember (now text) self ⌝ }
+        ensures { λ r. ⌜ MemberSays (now (text .entry)) self (now (store .entry)) (now (store .exit)) r ⌝ }
+    {
+        match names::key(text, self.at, store, self.stored) {
+            Bytes::Refused(why) => Member::Refused(why),
+            Bytes::Whole(end, n) => (Cursor {
+                at: end,
+                records: self.records + 1,
+                stored: self.stored + n,
+            }).colon(text, n),
+        }
+    }
+
+    // A value, where no layout stands; `depth` more arrays and objects may open.
+    pub fn value(self, text: &[u8], depth: usize, tape: &mut [u8], store: &mut [u8]) -> Step
+        requires { ⌜ AtValue (now text) self ⌝ }
+        ensures { λ r. ⌜ Says (now (text .entry)) (wants depth) (λ k. Shut (now (text .entry)) (self .at) depth k) depth self (now (tape .entry)) (now (tape .exit)) (now (store .entry)) (now (store .exit)) r ⌝ }
+    {
+        match self.head(text, store) {
+            Head::Refused(why) => Step::Refused(why),
+            Head::Item(item, next) => {
+                put_record(tape, self.records, record_of(item, self.stored));
+                Step::Value(next)
+            }
+            Head::Array(inside) => {
+                if depth == 0 {
+                    return Step::Refused(Refusal::TooDeep(self.at));
+                }
+                inside.array(text, depth - 1, tape, store)
+            }
+            Head::Object(inside) => {
+                if depth == 0 {
+                    return Step::Refused(Refusal::TooDeep(self.at));
+                }
+                inside.object(text, depth - 1, tape, store)
+            }
+        }
+    }
+
+    // An array, after its opening bracket.
+    fn array(self, text: &[u8], depth: usize, tape: &mut [u8], store: &mut [u8]) -> Step
+        requires { ⌜ Inner (now text) self ⌝ }
+        ensures { λ r. ⌜ Says (now (text .entry)) (bareIn square depth) always (suc depth) self (now (tape .entry)) (now (tape .exit)) (now (store .entry)) (now (store .exit)) r ⌝ }
+    {
+        let own = self.records;
+        let mut at = self.at;
+        let mut records = own + 1;
+        let mut stored = self.stored;
+        loop {
+            match (Cursor {
+                at: at,
+                records: records,
+                stored: stored,
+            }).open(text, b']') {
+                Open::Refused(why) => {
+                    return Step::Refused(why);
+                }
+                Open::Close(next) => {
+                    put_record(tape, own, Record::Array { end: next.records });
+                    return Step::Value(next);
+                }
+                Open::More(first) => match first.value(text, depth, tape, store) {
+                    Step::Refused(why) => {
+                        return Step::Refused(why);
+                    }
+                    Step::Value(last) => match last.after(text, b']') {
+                        After::Refused(why) => {
+                            return Step::Refused(why);
+                        }
+                        After::Close(next) => {
+                            put_record(tape, own, Record::Array { end: next.records });
+                            return Step::Value(next);
+                        }
+                        After::Comma(next) => {
+                            at = next.at;
+                            records = next.records;
+                            stored = next.stored;
+                        }
+                    },
+                },
+            }
+        }
+    }
+
+    // An object, after its opening bracket.
+    fn object(self, text: &[u8], depth: usize, tape: &mut [u8], store: &mut [u8]) -> Step
+        requires { ⌜ Inner (now text) self ⌝ }
+        ensures { λ r. ⌜ Says (now (text .entry)) (bareIn curly depth) always (suc depth) self (now (tape .entry)) (now (tape .exit)) (now (store .entry)) (now (store .exit)) r ⌝ }
+    {
+        let own = self.records;
+        let mut at = self.at;
+        let mut records = own + 1;
+        let mut stored = self.stored;
+        loop {
+            match (Cursor {
+                at: at,
+                records: records,
+                stored: stored,
+            }).open(text, b'}') {
+                Open::Refused(why) => {
+                    return Step::Refused(why);
+                }
+                Open::Close(next) => {
+                    put_record(tape, own, Record::Object { end: next.records });
+                    return Step::Value(next);
+                }
+                Open::More(first) => match first.member(text, store) {
+                    Member::Refused(why) => {
+                        return Step::Refused(why);
+                    }
+                    Member::Key(n, held) => {
+                        put_record(
+                            tape,
+                            records,
+                            Record::Key {
+                                length: n,
+                                start: stored,
+                            },
+                        );
+                        match held.value(text, depth, tape, store) {
+                            Step::Refused(why) => {
+                                return Step::Refused(why);
+                            }
+                            Step::Value(last) => match last.after(text, b'}') {
+                                After::Refused(why) => {
+                                    return Step::Refused(why);
+                                }
+                                After::Close(next) => {
+                                    put_record(tape, own, Record::Object { end: next.records });
+                                    return Step::Value(next);
+                                }
+                                After::Comma(next) => {
+                                    at = next.at;
+                                    records = next.records;
+                                    stored = next.stored;
+                                }
+                            },
+                        }
+                    }
+                },
+            }
+        }
+    }
+}

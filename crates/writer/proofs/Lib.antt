@@ -1,0 +1,10 @@
+pub mod Laid
+pub mod Filling
+pub mod Signs
+pub mod Pieces
+pub mod Printed
+pub mod Shares
+pub mod Printing
+pub mod Walking
+pub mod Answers
+pub mod Outcomes

@@ -1,0 +1,89 @@
+// The walk over the records of a well-formed tape: the length of its text, then the text.
+ghost use lib.ListN.{length};
+ghost use Rattle.meaning.specs.Tape.{WellFormed};
+ghost use Rattle.writer.specs.Walk.{TextFits, TextLength, TextPut, FirstFormless};
+use crate::Formless;
+use crate::Turn;
+use crate::digits;
+use crate::records;
+
+// How many arrays and objects may be open.
+const DEPTH_LIMIT: usize = 64;
+
+// The shares of all records are the text's length and one more.
+pub fn text_len(tape: &[u8], store: &[u8]) -> usize
+    requires { ⌜ WellFormed (now tape) (now store) ⌝ }
+    ensures { λ r. ⌜ TextLength (now (tape .entry)) (now (store .entry)) r ⌝ }
+{
+    let n = tape.len() / 16;
+    let mut total: usize = 0;
+    let mut i: usize = 0;
+    while i < n {
+        let r = records::record_at(tape, store, i);
+        total += records::share_of(r, i, store);
+        i += 1;
+    }
+    total - 1
+}
+
+// The ends of the open containers and the brackets that close them stand in two arrays; the innermost by itself.
+pub fn write_records(out: &mut [u8], tape: &[u8], store: &[u8]) -> usize
+    requires { ⌜ TextFits (now tape) (now store) (length (now out)) ⌝ }
+    ensures { λ r. ⌜ TextPut (now (tape .entry)) (now (store .entry)) (now (out .entry)) (now (out .exit)) r ⌝ }
+{
+    let mut ends: [usize; DEPTH_LIMIT] = [0; DEPTH_LIMIT];
+    let mut closers: [u8; DEPTH_LIMIT] = [0; DEPTH_LIMIT];
+    let mut depth: usize = 0;
+    let mut end = tape.len() / 16;
+    let mut closer: u8 = 0;
+    let mut comma = false;
+    let mut at: usize = 0;
+    let mut i: usize = 0;
+    loop {
+        if i == end {
+            if depth == 0 {
+                return at;
+            }
+            at = digits::byte_at(out, at, closer);
+            depth -= 1;
+            end = ends[depth];
+            closer = closers[depth];
+            comma = true;
+        } else {
+            let r = records::record_at(tape, store, i);
+            let piece = records::comma_at(out, at, comma);
+            at = records::printed_at(out, piece, r, store);
+            match records::turn(r) {
+                Turn::Pass(due) => {
+                    comma = due;
+                    i += 1;
+                }
+                Turn::Open(last, bracket) => {
+                    ends[depth] = end;
+                    closers[depth] = closer;
+                    depth += 1;
+                    end = last;
+                    closer = bracket;
+                    comma = false;
+                    i += 1;
+                }
+            }
+        }
+    }
+}
+
+pub fn first_formless(tape: &[u8], store: &[u8]) -> Formless
+    ensures { λ r. ⌜ FirstFormless (now (tape .entry)) (now (store .entry)) r ⌝ }
+{
+    let n = tape.len() / 16;
+    let mut i: usize = 0;
+    while i < n {
+        let r = records::record_at(tape, store, i);
+        if records::json_form(r) {
+            i += 1;
+        } else {
+            return Formless::At(i);
+        }
+    }
+    Formless::Nowhere
+}
