@@ -1,0 +1,34 @@
+-- The length, or a refusal. Assumes nothing.
+use Rattle.lanternrung.specs.Told.{textOf}
+use borrow.Author.Needs.{needs}
+use Rattle.lanternrung.proofs.exports.text_of.Statement.{statement}
+use Rattle.lanternrung.proofs.exports.text_of.Tie as tie
+use Rattle.lanternrung.proofs.exports.text_of.Reads as reads
+use Rattle.lanternrung.proofs.exports.text_of.Lts as lts
+use Rattle.lanternrung.proofs.exports.number.Reads as number-reads
+use Rattle.lanternrung.proofs.exports.place.Reads as place-reads
+
+enum-known-a : tie.Need-enum-known-a
+enum-known-a c = search needs
+
+number-requires : tie.Need-number-requires
+number-requires c κs = search needs
+
+place-requires : tie.Need-place-requires
+place-requires c κs = search needs
+
+enum-known-a-2 : tie.Need-enum-known-a-2
+enum-known-a-2 c = search needs
+
+returns : tie.Need-returns
+unfolding textOf
+returns c = rw (c .before .number .ensures, c .place .ensures, c .before .before .before .a .given .1)
+
+returns-2 : tie.Need-returns-2
+unfolding textOf
+returns-2 c = rw (c .before .a2 .given .1)
+
+pub text-of-spec : {M : Type 1} → statement M
+text-of-spec =
+    tie.close
+    (tie.spec enum-known-a number-requires place-requires enum-known-a-2 returns returns-2)

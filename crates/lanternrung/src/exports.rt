@@ -1,0 +1,350 @@
+// The calls for C and Rust (include/lanternrung.h). Each passes on the library's answer, as document 01's number and place.
+ghost use mathlib.Core.Path.{_≡_};
+ghost use Rattle.meaning.specs.Paper.{numberOf, placeOf};
+ghost use Rattle.lanternrung.specs.Told.{sizesOf, textOf, flagOf, refusedFields, plainFields, numberFields, datedFields, timeFields, fieldsOf, Utf8Told, DateTold, MeasureTold, ReadTold, LookTold, JaxnTold, JsonTold};
+use meaning::Date;
+use meaning::Number;
+use meaning::Record;
+use meaning::Refusal;
+use meaning::Time;
+use reader::Answer;
+use rules::DateAnswer;
+use rules::Utf8Answer;
+use tape::Looked;
+use writer::Written;
+
+// A refusal's number, 0 where there is none, and its place.
+#[repr(C)]
+pub struct Status {
+    pub refused: u32,
+    pub place: u64,
+}
+
+// The same, and what a text needs or has filled.
+#[repr(C)]
+pub struct Sizes {
+    pub refused: u32,
+    pub place: u64,
+    pub records: u64,
+    pub bytes: u64,
+}
+
+// The same, and how many bytes were written.
+#[repr(C)]
+pub struct Text {
+    pub refused: u32,
+    pub place: u64,
+    pub length: u64,
+}
+
+// The same, and a record with its fields; those that its kind has not are 0.
+#[repr(C)]
+pub struct Fields {
+    pub refused: u32,
+    pub place: u64,
+    pub kind: u32,
+    pub flag: u32,
+    pub power: i32,
+    pub coefficient: u64,
+    pub length: u64,
+    pub start: u64,
+    pub year: u32,
+    pub month: u32,
+    pub day: u32,
+    pub offset: i32,
+    pub time: u64,
+    pub end: u64,
+}
+
+// The longest text.
+const LONGEST: u64 = 16777216;
+
+// A refusal's number.
+fn number(why: Refusal) -> u32
+    ensures { λ r. ⌜ r ≡ numberOf why ⌝ }
+{
+    match why {
+        Refusal::TextTooLong => 1,
+        Refusal::NotUtf8(_) => 2,
+        Refusal::NotGrammar(_) => 3,
+        Refusal::BadEscape(_) => 4,
+        Refusal::BadTime(_) => 5,
+        Refusal::BadNumber(_) => 6,
+        Refusal::TooDeep(_) => 7,
+        Refusal::TapeTooShort(_) => 8,
+        Refusal::StoreTooShort(_) => 9,
+        Refusal::NotWellFormed(_) => 10,
+        Refusal::NoJsonForm(_) => 11,
+        Refusal::OutputTooShort(_) => 12,
+        Refusal::WrittenTooLong(_) => 13,
+        Refusal::NoSuchRecord(_) => 14,
+    }
+}
+
+// A refusal's place.
+fn place(why: Refusal) -> u64
+    ensures { λ r. ⌜ r ≡ placeOf why ⌝ }
+{
+    match why {
+        Refusal::TextTooLong => LONGEST,
+        Refusal::NotUtf8(at) => at as u64,
+        Refusal::NotGrammar(at) => at as u64,
+        Refusal::BadEscape(at) => at as u64,
+        Refusal::BadTime(at) => at as u64,
+        Refusal::BadNumber(at) => at as u64,
+        Refusal::TooDeep(at) => at as u64,
+        Refusal::TapeTooShort(needed) => needed as u64,
+        Refusal::StoreTooShort(needed) => needed as u64,
+        Refusal::NotWellFormed(at) => at as u64,
+        Refusal::NoJsonForm(index) => index as u64,
+        Refusal::OutputTooShort(needed) => needed as u64,
+        Refusal::WrittenTooLong(size) => size as u64,
+        Refusal::NoSuchRecord(index) => index as u64,
+    }
+}
+
+fn sizes_of(a: Answer) -> Sizes
+    ensures { λ r. ⌜ r ≡ sizesOf a ⌝ }
+{
+    match a {
+        Answer::Refused(why) => Sizes {
+            refused: number(why),
+            place: place(why),
+            records: 0,
+            bytes: 0,
+        },
+        Answer::Counts { records, bytes } => Sizes {
+            refused: 0,
+            place: 0,
+            records: records as u64,
+            bytes: bytes as u64,
+        },
+    }
+}
+
+fn text_of(a: Written) -> Text
+    ensures { λ r. ⌜ r ≡ textOf a ⌝ }
+{
+    match a {
+        Written::Refused(why) => Text {
+            refused: number(why),
+            place: place(why),
+            length: 0,
+        },
+        Written::Wrote(size) => Text {
+            refused: 0,
+            place: 0,
+            length: size as u64,
+        },
+    }
+}
+
+fn flag(b: bool) -> u32
+    ensures { λ r. ⌜ r ≡ flagOf b ⌝ }
+{
+    if b {
+        return 1;
+    }
+    0
+}
+
+// A refusal: all but its number and place are 0.
+fn refusal(why: Refusal) -> Fields
+    ensures { λ r. ⌜ r ≡ refusedFields why ⌝ }
+{
+    Fields {
+        refused: number(why),
+        place: place(why),
+        kind: 0,
+        flag: 0,
+        power: 0,
+        coefficient: 0,
+        length: 0,
+        start: 0,
+        year: 0,
+        month: 0,
+        day: 0,
+        offset: 0,
+        time: 0,
+        end: 0,
+    }
+}
+
+// A record of this kind whose other fields are 0, but for these.
+fn plain(kind: u32, set: u32, length: u64, start: u64, end: u64) -> Fields
+    ensures { λ r. ⌜ r ≡ plainFields kind set length start end ⌝ }
+{
+    Fields {
+        refused: 0,
+        place: 0,
+        kind: kind,
+        flag: set,
+        power: 0,
+        coefficient: 0,
+        length: length,
+        start: start,
+        year: 0,
+        month: 0,
+        day: 0,
+        offset: 0,
+        time: 0,
+        end: end,
+    }
+}
+
+fn number_fields(n: Number) -> Fields
+    ensures { λ r. ⌜ r ≡ numberFields n ⌝ }
+{
+    match n {
+        Number::NotANumber => plain(4, 0, 0, 0, 0),
+        Number::Infinite { minus } => plain(4, 1 + flag(minus), 0, 0, 0),
+        Number::Finite {
+            minus,
+            coefficient,
+            power,
+        } => Fields {
+            refused: 0,
+            place: 0,
+            kind: 3,
+            flag: flag(minus),
+            power: power,
+            coefficient: coefficient,
+            length: 0,
+            start: 0,
+            year: 0,
+            month: 0,
+            day: 0,
+            offset: 0,
+            time: 0,
+            end: 0,
+        },
+    }
+}
+
+// A date with a time of day and an offset, either 0 where the kind has none.
+fn dated(kind: u32, d: Date, clock: u64, offset: i32) -> Fields
+    ensures { λ r. ⌜ r ≡ datedFields kind d clock offset ⌝ }
+{
+    Fields {
+        refused: 0,
+        place: 0,
+        kind: kind,
+        flag: 0,
+        power: 0,
+        coefficient: 0,
+        length: 0,
+        start: 0,
+        year: d.year as u32,
+        month: d.month as u32,
+        day: d.day as u32,
+        offset: offset,
+        time: clock,
+        end: 0,
+    }
+}
+
+fn time_fields(t: Time) -> Fields
+    ensures { λ r. ⌜ r ≡ timeFields t ⌝ }
+{
+    match t {
+        Time::LocalDate(d) => dated(8, d, 0, 0),
+        Time::LocalTime(clock) => dated(
+            9,
+            Date {
+                year: 0,
+                month: 0,
+                day: 0,
+            },
+            clock,
+            0,
+        ),
+        Time::LocalDateTime(d, clock) => dated(10, d, clock, 0),
+        Time::OffsetDateTime(d, clock, offset) => dated(11, d, clock, offset as i32),
+    }
+}
+
+fn fields_of(r: Record) -> Fields
+    ensures { λ f. ⌜ f ≡ fieldsOf r ⌝ }
+{
+    match r {
+        Record::Null => plain(1, 0, 0, 0, 0),
+        Record::Bool(b) => plain(2, flag(b), 0, 0, 0),
+        Record::Number(n) => number_fields(n),
+        Record::Str { length, start } => plain(5, 0, length as u64, start as u64, 0),
+        Record::Key { length, start } => plain(6, 0, length as u64, start as u64, 0),
+        Record::Bin { length, start } => plain(7, 0, length as u64, start as u64, 0),
+        Record::Time(t) => time_fields(t),
+        Record::Array { end } => plain(12, 0, 0, 0, end as u64),
+        Record::Object { end } => plain(13, 0, 0, 0, end as u64),
+    }
+}
+
+#[no_mangle]
+pub extern "C" fn lanternrung_utf8(bytes: &[u8]) -> Status
+    ensures { λ r. ⌜ Utf8Told (now (bytes .entry)) r ⌝ }
+{
+    match rules::utf8(bytes) {
+        Utf8Answer::Done => Status {
+            refused: 0,
+            place: 0,
+        },
+        Utf8Answer::IllFormed(at) => Status {
+            refused: 2,
+            place: at as u64,
+        },
+    }
+}
+
+#[no_mangle]
+pub extern "C" fn lanternrung_date(year: u64, month: u64, day: u64) -> Status
+    ensures { λ r. ⌜ DateTold year month day r ⌝ }
+{
+    match rules::date(year, month, day) {
+        DateAnswer::Done => Status {
+            refused: 0,
+            place: 0,
+        },
+        DateAnswer::NoDate => Status {
+            refused: 5,
+            place: 0,
+        },
+    }
+}
+
+#[no_mangle]
+pub extern "C" fn lanternrung_measure(text: &[u8]) -> Sizes
+    ensures { λ r. ⌜ MeasureTold (now (text .entry)) r ⌝ }
+{
+    sizes_of(reader::measure(text))
+}
+
+#[no_mangle]
+pub extern "C" fn lanternrung_read(text: &[u8], tape: &mut [u8], store: &mut [u8]) -> Sizes
+    ensures { λ r. ⌜ ReadTold (now (text .entry)) (now (tape .entry)) (now (store .entry)) r (now (tape .exit)) (now (store .exit)) ⌝ }
+{
+    sizes_of(reader::read(text, tape, store))
+}
+
+#[no_mangle]
+pub extern "C" fn lanternrung_look(tape: &[u8], store: &[u8], index: u64) -> Fields
+    ensures { λ r. ⌜ LookTold (now (tape .entry)) (now (store .entry)) index r ⌝ }
+{
+    match tape::look(tape, store, index as usize) {
+        Looked::Refused(why) => refusal(why),
+        Looked::Record(r) => fields_of(r),
+    }
+}
+
+#[no_mangle]
+pub extern "C" fn lanternrung_write_jaxn(tape: &[u8], store: &[u8], out: &mut [u8]) -> Text
+    ensures { λ r. ⌜ JaxnTold (now (tape .entry)) (now (store .entry)) (now (out .entry)) r (now (out .exit)) ⌝ }
+{
+    text_of(writer::write_jaxn(tape, store, out))
+}
+
+#[no_mangle]
+pub extern "C" fn lanternrung_write_json(tape: &[u8], store: &[u8], out: &mut [u8]) -> Text
+    ensures { λ r. ⌜ JsonTold (now (tape .entry)) (now (store .entry)) (now (out .entry)) r (now (out .exit)) ⌝ }
+{
+    text_of(writer::write_json(tape, store, out))
+}
