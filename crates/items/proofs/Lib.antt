@@ -7,6 +7,8 @@ pub mod PartsSteps
 pub mod PartsEscapes
 pub mod PartsChars
 pub mod PartsTurns
+-- PartsBlocks: blocks of plain bytes
+pub mod PartsBlocks
 pub mod PartsLines
 -- SpellingLaws: words
 pub mod SpellingLaws
@@ -18,6 +20,8 @@ pub mod NumericsDigits
 pub mod NumericsSettled
 -- NumericsDecimals: the parts of a decimal number
 pub mod NumericsDecimals
+-- NumericsPlain: plain digits
+pub mod NumericsPlain
 -- NumericsHexes: hexadecimal numbers
 pub mod NumericsHexes
 -- NumericsWords: words, a sign, the first byte

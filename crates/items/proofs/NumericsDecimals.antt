@@ -63,7 +63,7 @@ module _ (q : ℕ) (g : Bool) {s : List ℕ} where
 -- ---- where a number ends
 
 module _ (q : ℕ) (g : Bool) (m f : ℕ) where
-  frac-other : {b : ℕ} {c : S.Num} → NumIs b c → NoDigit b → (b ≡ ch "e" → ⊥) → (b ≡ ch "E" → ⊥) → S.onFrac q g m f b c ≡ settle q g m 0 f
+  pub frac-other : {b : ℕ} {c : S.Num} → NumIs b c → NoDigit b → (b ≡ ch "e" → ⊥) → (b ≡ ch "E" → ⊥) → S.onFrac q g m f b c ≡ settle q g m 0 f
   frac-other (NumIs.digit i) n x y = absurd (no-digit n i)
   frac-other NumIs.point n x y = refl
   frac-other (NumIs.eIs G.E.small) n x y = absurd (x refl)
@@ -138,7 +138,7 @@ fraction-on s q g a i w d r t =
 pub whole-on : (s : List ℕ) (q : ℕ) (g : Bool) (a : Acc) (i : ℕ) (w : Run) (d : Digited s i a w) (r : Scanned) → From s (w .acc) (w .at) (λ m. int q g m) r → From s a i (λ m. int q g m) r
 whole-on s q g a i w d r t = record { reads = λ m o. let k = d .holds m o in span-int q g (k .1) r (t .reads (k .0) (k .2)) }
 
-int-other : (q : ℕ) (g : Bool) (m : ℕ) {b : ℕ} {c : S.Num} → NumIs b c → NoDigit b → (b ≡ ch "." → ⊥) → S.onInt q g m b c ≡ S.onFrac q g m 0 b c
+pub int-other : (q : ℕ) (g : Bool) (m : ℕ) {b : ℕ} {c : S.Num} → NumIs b c → NoDigit b → (b ≡ ch "." → ⊥) → S.onInt q g m b c ≡ S.onFrac q g m 0 b c
 int-other q g m (NumIs.digit i) n x = absurd (no-digit n i)
 int-other q g m NumIs.point n x = absurd (x refl)
 int-other q g m (NumIs.eIs e) n x = refl

@@ -7,29 +7,33 @@ use mathlib.Core.List.{List}
 use native.Mathlib.Omega.{arith}
 use native.Mathlib.Nat.{zero-add, pow-le-pow-right, pow-suc}
 use native.Mathlib.Numerals.{add-one}
-use lib.Dec.{eqb}
+use lib.Dec.{eqb, ltb}
 use lib.ListN.{length, getD}
-use borrow.Author.Tests.{eq-eqb, eqb-true, eqb-false}
+use borrow.Author.Tests.{eq-eqb, ne-eqb, eqb-true, eqb-false, ltb-true, ltb-false}
 use Rattle.meaning.specs.Letters.{ch}
 use Rattle.meaning.specs.Limits.{textLimit}
 use Rattle.meaning.specs.declared.Refusal.the-variants.{NotGrammar}
 use Rattle.grammar.specs.Numbers as G
 use Rattle.machine.specs.Scan.{takes, breaks}
 use Rattle.machine.specs.Numeric as S
-use Rattle.machine.specs.Numeric.{scan, dig, begin, int, both, field, hexMark, month, minute, alone, Len, d1, d2, d3, d4, numOf}
+use Rattle.machine.specs.Numeric.{St, scan, dig, begin, int, both, field, hexMark, month, minute, alone, Len, d1, d2, d3, d4, numOf}
 use Rattle.machine.proofs.Runs.{NoDigit}
 use Rattle.machine.proofs.Numeric.Rows.{NumIs, num-class, num-digit, fst-digit}
 use Rattle.items.specs.Places.{byteAt}
-use Rattle.items.specs.Numerics.{Reads, IsDigit, Edge, Holds, Ready, Onto, lenOf, First, FewSays, LeadSays, Marks, Plainly}
+use Rattle.items.specs.Numerics.{Reads, IsDigit, Edge, Holds, Span, PlainSays, TimelySays, Ready, Onto, lenOf, First, FewSays, LeadSays, Marks, Plainly}
 use Rattle.items.specs.declared.numbers.Acc.{Acc}
+use Rattle.items.specs.declared.numbers.Plain.{Plain}
 use Rattle.items.specs.declared.numerics.Few.{Few}
 use Rattle.items.specs.declared.numerics.Lead as LeadOf
 use Rattle.items.specs.declared.numerics.Lead.the-variants as Lead
 use Rattle.items.specs.declared.numerics.Mark as MarkOf
 use Rattle.items.specs.declared.numerics.Mark.the-variants as Mark
+use Rattle.items.specs.declared.numerics.Scanned.{Scanned}
 use Rattle.items.specs.declared.numerics.Scanned.the-variants.{Refused}
 use Rattle.items.proofs.PlacesLaws.{byte-in, byte-out}
 use Rattle.items.proofs.NumericsSteps.{edge-none, no-digit, took, breaks-at, same}
+use Rattle.items.proofs.NumericsDecimals.{span-low}
+use Rattle.items.proofs.NumericsPlain.{span-small}
 
 -- ---- the first digits
 
@@ -283,3 +287,99 @@ module _ (s : List ℕ) (q : ℕ) (w : Few) (f : FewSays s q w) (h : w .at < len
 -- a lead that is known
 pub lead-is : (s : List ℕ) (q : ℕ) (r t : LeadOf.Lead) → LeadSays s q r → r ≡ t → LeadSays s q t
 lead-is s q r t k e = subst (λ (x : LeadOf.Lead). LeadSays s q x) e k
+
+-- ---- plain digits, the first of which is not 0
+
+-- the scanner after n digits with the value w
+abbrev after : ℕ → ℕ → ℕ → St
+after zero q w = begin
+after (suc zero) q w = both q d1 false w
+after (suc (suc zero)) q w = both q d2 false w
+after (suc (suc (suc zero))) q w = both q d3 false w
+after (suc (suc (suc (suc zero)))) q w = both q d4 false w
+after (suc (suc (suc (suc (suc n))))) q w = int q false w
+
+-- one digit more
+grows : (n p q w b : ℕ) → IsDigit b → (n ≡ 0 → (b ≡ ch "0" → ⊥) × (p ≡ q) × (w ≡ 0)) → scan p (after n q w) b ≡ takes (after (suc n) q (dig w b))
+grows zero p q w b i f =
+    let g = f refl in
+    let z : 10 * w + (b - ch "0") ≡ b - ch "0" = omega (arith, g .2) in
+    rw (g .1, z) (begin-digit q b i ∙ ap (λ (x : Bool). takes (both q d1 x (b - ch "0"))) (ne-eqb b (ch "0") (g .0)))
+grows (suc zero) p q w b i f = rw (num-digit b i)
+grows (suc (suc zero)) p q w b i f = rw (num-digit b i)
+grows (suc (suc (suc zero))) p q w b i f = rw (num-digit b i)
+grows (suc (suc (suc (suc zero)))) p q w b i f = rw (num-digit b i)
+grows (suc (suc (suc (suc (suc n))))) p q w b i f = rw (num-digit b i)
+
+span-none : {s : List ℕ} {i m j w : ℕ} → Span s i m j w → j ≡ i → w ≡ m
+span-none Span.here e = refl
+span-none (Span.next h l d) e = absurd (omega (arith, span-low h, e))
+
+module _ (s : List ℕ) (q : ℕ) (n0 : getD s q 0 ≡ ch "0" → ⊥) where
+  reaches : {j w : ℕ} → Span s q 0 j w → (n : ℕ) → j ≡ q + n → Onto s q begin j (after n q w)
+  reaches Span.here zero e = λ r k. k
+  reaches Span.here (suc n) e = absurd (omega arith)
+  reaches (Span.next h l d) zero e = absurd (omega (arith, span-low h))
+  reaches (Span.next {j = j} {w = w} h l d) (suc n) e = λ r k.
+      let f : j ≡ q + n = omega arith in
+      reaches h n f r (took (after (suc n) q (dig w (getD s j 0))) l (grows n j q w (getD s j 0) d (λ z. let g : j ≡ q = omega arith in ((λ x. n0 (ap (λ (y : ℕ). getD s y 0) (sym g) ∙ x)), g, span-none h g)))
+      (subst (λ (x : ℕ). Reads s x (after (suc n) q (dig w (getD s j 0))) r) (sym (add-one j)) k))
+
+  module _ (w : Plain) (p : PlainSays s q 0 w) (d : IsDigit (getD s q 0)) (m : q < length s) (t : TimelySays s (w .at) false) where
+    -- a digit stands at q, and so there is one at least
+    some : q < w .at
+    some = go (p .stop) (ltb q (w .at)) refl
+      where
+        none : w .at ≡ q → w .v ≡ 0
+        none e = span-none (p .span) e
+
+        go : Edge s (w .at) ⊎ (1844674407370955160 < w .v) → (x : Bool) → ltb q (w .at) ≡ x → q < w .at
+        go x true e = ltb-true q (w .at) e
+        go (inl x) false e =
+            let f : w .at ≡ q = omega (arith, ltb-false q (w .at) e, p .low) in
+            absurd (no-digit (edge-none (subst (Edge s) f x)) (rw (byte-in s q m) d))
+        go (inr x) false e = let f : w .at ≡ q = omega (arith, ltb-false q (w .at) e, p .low) in absurd (omega (arith, none f))
+
+    small : (n : ℕ) → w .at ≡ q + n → n ≤ 4 → w .v < 10 ^ 4
+    small n e h =
+        let k = span-small 0 (p .span) (omega arith) in
+        let f : 0 + (w .at - q) ≤ 4 = omega arith in
+        omega (arith, k, pow-le-pow-right {n = 10} (omega arith) {i = 0 + (w .at - q)} {j = 4} f)
+
+    ended : (n : ℕ) → w .at ≡ q + n → n ≤ 4 → NoDigit (byteAt s (w .at))
+    ended n e h = go (p .stop)
+      where
+        go : Edge s (w .at) ⊎ (1844674407370955160 < w .v) → NoDigit (byteAt s (w .at))
+        go (inl x) = edge-none x
+        go (inr x) = absurd (omega (arith, small n e h))
+
+    -- the byte after up to four digits makes a number of them
+    turned : (n : ℕ) → w .at ≡ q + n → 1 ≤ n → n ≤ 4 → (r : Scanned) → Reads s (w .at) (int q false (w .v)) r → Reads s (w .at) (both q (lenOf n) false (w .v)) r
+    turned n e l h r k =
+        same (int q false (w .v)) (as-number (lenOf n) false (w .at) q (w .v) (num-class (byteAt s (w .at))) (apart n (byteAt s (w .at)) l h (inr (ended n e h)) (λ x y. t .0 y) (λ x y. t .1 y)) ∙ plain (lenOf n)) k
+      where
+        plain : (k : Len) → S.asNumber (w .at) q k false (w .v) (byteAt s (w .at)) (numOf (byteAt s (w .at))) ≡ scan (w .at) (int q false (w .v)) (byteAt s (w .at))
+        plain d1 = refl
+        plain d2 = refl
+        plain d3 = refl
+        plain d4 = refl
+
+    pub plain-leads : Onto s q begin (w .at) (int q false (w .v))
+    plain-leads = λ r k. let e : w .at ≡ q + (w .at - q) = omega (arith, p .low) in reaches (p .span) (w .at - q) e r (go (w .at - q) e (omega (arith, some)) r k)
+      where
+        go : (n : ℕ) → w .at ≡ q + n → 1 ≤ n → (r : Scanned) → Reads s (w .at) (int q false (w .v)) r → Reads s (w .at) (after n q (w .v)) r
+        go zero e h r k = absurd (omega arith)
+        go (suc zero) e h r k = turned 1 e (omega arith) (omega arith) r k
+        go (suc (suc zero)) e h r k = turned 2 e (omega arith) (omega arith) r k
+        go (suc (suc (suc zero))) e h r k = turned 3 e (omega arith) (omega arith) r k
+        go (suc (suc (suc (suc zero)))) e h r k = turned 4 e (omega arith) (omega arith) r k
+        go (suc (suc (suc (suc (suc n))))) e h r k = k
+
+    pub plain-small : w .v < 10 ^ w .at
+    plain-small = omega (arith, span-small 0 (p .span) (omega arith), pow-le-pow-right {n = 10} (omega arith) {i = 0 + (w .at - q)} {j = w .at} (omega (arith, p .low)))
+
+pub timely-over : (s : List ℕ) (at : ℕ) → length s ≤ at → TimelySays s at false
+timely-over s at h = let e = byte-out s at h in ((λ f. omega arith), (λ f. omega arith))
+
+pub timely-none : (s : List ℕ) (at : ℕ) → at < length s → (getD s at 0 ≡ ch ":" → ⊥) → (getD s at 0 ≡ ch "-" → ⊥) → TimelySays s at false
+timely-none s at h x y = let e = byte-in s at h in ((λ f. x (sym e ∙ f)), (λ f. y (sym e ∙ f)))

@@ -24,6 +24,7 @@ use Rattle.items.specs.declared.numbers.Acc.{Acc}
 use Rattle.items.specs.declared.numbers.Run.{Run}
 use Rattle.items.specs.declared.numbers.Coef.{Coef}
 use Rattle.items.specs.declared.numbers.Coef.the-variants.{Fits, Over}
+use Rattle.items.specs.declared.numbers.Plain.{Plain}
 use Rattle.items.specs.declared.numbers.Power.{Power}
 use Rattle.items.specs.declared.numbers.Hex.{Hex}
 use Rattle.items.specs.declared.numerics.Item as ItemOf
@@ -121,6 +122,29 @@ pub record Digited (s : List ℕ) (from : ℕ) (a : Acc) (r : Run) : Type 0 wher
   pub edge : Edge s (r .at)
   pub zeros : r .acc .z ≤ r .at
   pub holds : (m : ℕ) → Holds m a → (w : ℕ) × Span s from m (r .at) w × Holds w (r .acc)
+
+-- the digits from a place on, after others with the value `had`: up to one that is none, or while they are sure to fit
+pub record PlainSays (s : List ℕ) (from had : ℕ) (r : Plain) : Type 0 where
+  pub low : from ≤ r .at
+  pub high : r .at ≤ length s
+  pub span : Span s from had (r .at) (r .v)
+  pub stop : Edge s (r .at) ⊎ (1844674407370955160 < r .v)
+
+-- a number ends at this place: no digit, no point and no exponent follows
+pub record Ended (s : List ℕ) (at : ℕ) : Type 0 where
+  pub edge : Edge s at
+  pub point : byteAt s at ≡ ch "." → ⊥
+  pub small-e : byteAt s at ≡ ch "e" → ⊥
+  pub large-e : byteAt s at ≡ ch "E" → ⊥
+
+abbrev pub EndsSays : List ℕ → ℕ → Bool → Type 0
+EndsSays s at true = Ended s at
+EndsSays s at false = at < length s
+
+-- whether the digits before a place may be a time's
+abbrev pub TimelySays : List ℕ → ℕ → Bool → Type 0
+TimelySays s at true = Unit {0}
+TimelySays s at false = (byteAt s at ≡ ch ":" → ⊥) × (byteAt s at ≡ ch "-" → ⊥)
 
 -- a number below a thousand million, or any two that are not
 abbrev pub Capped : ℕ → ℕ → Type 0

@@ -2,9 +2,9 @@
 -- place where the part may stand in a text. Assumes nothing.
 use mathlib.Core.Path.{_≡_}
 use Prim.Native.Nat.{ℕ, zero, suc, _+_, _*_, _-_, _≤_, _<_}
-use mathlib.Core.Bool.{Bool, false, cond}
+use mathlib.Core.Bool.{Bool, true, false, cond}
 use mathlib.Core.List.{List, [], _++_}
-use lib.ListN.{length, drop, take}
+use lib.ListN.{length, drop, take, getD}
 use lib.Dec.{eqb}
 use lib.Seq.{sets}
 use Rattle.rules.specs.Rfc3629.{encode}
@@ -35,6 +35,26 @@ pub record Passed (s : List ℕ) (q i j : ℕ) : Type 0 where
   pub behind : i ≤ j
   pub within : j ≤ length s
   pub stopped : plain q (byteAt s j) ≡ false
+
+-- how far apart two numbers are
+abbrev pub gap : ℕ → ℕ → ℕ
+gap a b = (a - b) + (b - a)
+
+-- a byte that is plain beside the quote q
+pub record Plain (q b : ℕ) : Type 0 where
+  pub byte : b < over
+  pub low : 0x20 ≤ b
+  pub slash : b ≡ ch "\\" → ⊥
+  pub quote : b ≡ q → ⊥
+
+-- each of the n bytes at the place `at` is
+pub record Plains (s : List ℕ) (q at n : ℕ) : Type 0 where
+  pub each : (k : ℕ) → k < n → Plain q (getD s (at + k) 0)
+
+-- a block: yes says that all of it is plain, no nothing
+abbrev pub BlockSays : List ℕ → ℕ → ℕ → Bool → Type 0
+BlockSays s q at true = Plains s q at 16
+BlockSays s q at false = Unit {0}
 
 -- ---- escapes
 

@@ -6,6 +6,7 @@ use meaning::Number;
 use meaning::Refusal;
 ghost use mathlib.Core.Path.{_≡_};
 ghost use Prim.Native.Nat.{ℕ, _+_, _*_, _^_, _≤_, _<_};
+ghost use lib.ListN.{length};
 ghost use Rattle.meaning.specs.Limits.{textLimit, powerLimit};
 ghost use Rattle.meaning.specs.declared.Number.the-variants as Number;
 ghost use Rattle.grammar.specs.Times.{signed};
@@ -13,7 +14,7 @@ ghost use Rattle.machine.specs.Numeric as Numeric;
 ghost use Rattle.machine.specs.Numeric.{dig};
 ghost use Rattle.items.specs.declared.numerics.Item.the-variants as Item;
 ghost use Rattle.items.specs.declared.numerics.Scanned.the-variants as Scanned;
-ghost use Rattle.items.specs.Numerics.{Reads, IsDigit, Place, Edge, Holds, Shifted, Digited, Capped, Powered, Ready, From, Settles, Hexed};
+ghost use Rattle.items.specs.Numerics.{Reads, IsDigit, Place, Edge, Holds, Shifted, Digited, Capped, Powered, Ready, From, Settles, PlainSays, EndsSays, Hexed};
 
 // A coefficient that does not end in 0 (or is 0), or is too large to keep, and how many zeros follow it.
 pub struct Acc {
@@ -30,6 +31,12 @@ pub enum Coef {
 // Digits so far, and the place after them.
 pub struct Run {
     pub acc: Acc,
+    pub at: usize,
+}
+
+// Plain digits: their value, and the place after them.
+pub struct Plain {
+    pub v: u64,
     pub at: usize,
 }
 
@@ -344,6 +351,91 @@ fn stripped(v: u64) -> Acc
         over: false,
         z: z,
     }
+}
+
+// Any number without the zeros at its end.
+fn held(v: u64) -> Acc
+    ensures small { λ r. ⌜ ((k : ℕ) → v < 10 ^ k → r .z ≤ k) ⌝ }
+    ensures holds { λ r. ⌜ Holds v r ⌝ }
+{
+    if v == 0 {
+        return Acc {
+            c: 0,
+            over: false,
+            z: 0,
+        };
+    }
+    stripped(v)
+}
+
+// The digits from a place on, after others with the value `had`, as long as one more is sure to fit.
+pub fn plain_digits(s: &[u8], from: usize, had: u64) -> Plain
+    requires { ⌜ from ≤ length (now s) ⌝ }
+    ensures { λ r. ⌜ PlainSays (now (s .entry)) from had r ⌝ }
+{
+    let mut v = had;
+    let mut i = from;
+    while i < s.len() {
+        let b = s[i];
+        if b < b'0' {
+            return Plain { v: v, at: i };
+        }
+        if b > b'9' {
+            return Plain { v: v, at: i };
+        }
+        if v > 1844674407370955160 {
+            return Plain { v: v, at: i };
+        }
+        v = v * 10 + (b - b'0') as u64;
+        i += 1;
+    }
+    Plain { v: v, at: i }
+}
+
+// Whether a number that has digits before this place ends here: no digit, no point and no exponent follows.
+fn ends(s: &[u8], at: usize) -> bool
+    ensures { λ r. ⌜ EndsSays (now (s .entry)) at r ⌝ }
+{
+    if at >= s.len() {
+        return true;
+    }
+    let b = s[at];
+    if b < b'0' {
+        if b == b'.' {
+            return false;
+        }
+        return true;
+    }
+    if b <= b'9' {
+        return false;
+    }
+    if b == b'e' {
+        return false;
+    }
+    if b == b'E' {
+        return false;
+    }
+    true
+}
+
+// The rest of a decimal number, after digits of its whole part with the value v. Most are short, with no exponent.
+pub fn rest(s: &[u8], q: usize, g: bool, v: u64, at: usize) -> Scanned
+    requires { ⌜ Place (now s) at × (v < 10 ^ at) ⌝ }
+    ensures { λ r. ⌜ Reads (now (s .entry)) at (Numeric.int q g v) r ⌝ }
+{
+    if ends(s, at) {
+        return settle(q, g, held(v), 0, 0, at);
+    }
+    if s[at] != b'.' {
+        return decimal(s, q, g, held(v), at);
+    }
+    let w = plain_digits(s, at + 1, v);
+    let all = w.v;
+    let end = w.at;
+    if ends(s, end) {
+        return settle(q, g, held(all), 0, end - (at + 1), end);
+    }
+    decimal(s, q, g, held(v), at)
 }
 
 // The hexadecimal digits from a place on.

@@ -12,7 +12,7 @@ ghost use Prim.Native.Nat.{_≤_, _<_};
 ghost use lib.ListN.{length};
 ghost use Rattle.meaning.specs.Limits.{textLimit};
 ghost use Rattle.machine.specs.Numeric as Numeric;
-ghost use Rattle.items.specs.Numerics.{NumericSays, Reads, Place, Edge, AtDigit, FewSays, LeadSays, Marks, Plainly};
+ghost use Rattle.items.specs.Numerics.{NumericSays, Reads, Place, Edge, AtDigit, FewSays, LeadSays, Marks, Plainly, TimelySays};
 
 // One value that is no array and no object; a string or binary with how many store bytes it has.
 pub enum Item {
@@ -176,7 +176,8 @@ fn leading(s: &[u8], q: usize) -> Lead
     }
 }
 
-fn unsigned(s: &[u8], q: usize) -> Scanned
+// Digits with no sign, whatever they begin.
+fn open(s: &[u8], q: usize) -> Scanned
     requires { ⌜ AtDigit (now s) q ⌝ }
     ensures { λ r. ⌜ Reads (now (s .entry)) q Numeric.begin r ⌝ }
 {
@@ -187,6 +188,40 @@ fn unsigned(s: &[u8], q: usize) -> Scanned
         Lead::Year(v, at) => times::after_year(s, q, v, at),
         Lead::Nothing(p) => Scanned::Refused(Refusal::NotGrammar(p)),
     }
+}
+
+// Whether the digits before a place may be a time's.
+fn timely(s: &[u8], at: usize) -> bool
+    ensures { λ r. ⌜ TimelySays (now (s .entry)) at r ⌝ }
+{
+    if at >= s.len() {
+        return false;
+    }
+    let b = s[at];
+    if b == b':' {
+        return true;
+    }
+    if b == b'-' {
+        return true;
+    }
+    false
+}
+
+// Digits with no sign. Most are of a short number that does not begin with 0.
+fn unsigned(s: &[u8], q: usize) -> Scanned
+    requires { ⌜ AtDigit (now s) q ⌝ }
+    ensures { λ r. ⌜ Reads (now (s .entry)) q Numeric.begin r ⌝ }
+{
+    if s[q] == b'0' {
+        return open(s, q);
+    }
+    let w = numbers::plain_digits(s, q, 0);
+    let v = w.v;
+    let at = w.at;
+    if timely(s, at) {
+        return open(s, q);
+    }
+    numbers::rest(s, q, false, v, at)
 }
 
 fn named(s: &[u8], from: usize, spelt: &[u8], n: Number) -> Scanned

@@ -6,7 +6,7 @@ ghost use Prim.Native.Nat.{_+_, _≤_, _<_, _^_};
 ghost use lib.ListN.{length, getD};
 ghost use Rattle.meaning.specs.Letters.{ch};
 ghost use Rattle.machine.specs.Strings.{lineByte};
-ghost use Rattle.items.specs.Parts.{EscapeSays, Grown, CharSays, Passed, Earlier, InnerSays, OneSays, ThreeSays, PartSays, Begun, LinesSays};
+ghost use Rattle.items.specs.Parts.{EscapeSays, Grown, CharSays, gap, BlockSays, Passed, Earlier, InnerSays, OneSays, ThreeSays, PartSays, Begun, LinesSays};
 
 // What a part comes to: the bytes taken and the store bytes put; the backslash of the first bad escape; a byte that no
 // rule allows.
@@ -178,8 +178,49 @@ fn character(s: &[u8], at: usize) -> Char
     }
 }
 
-// The first place from `from` on that is no plain byte.
-fn plain_end(s: &[u8], from: usize, q: u8) -> usize
+// How far apart two bytes are.
+fn apart(a: u8, b: u8) -> u8
+    ensures { λ r. ⌜ r ≡ gap a b ⌝ }
+{
+    if a < b { b - a } else { a - b }
+}
+
+fn lesser(a: u8, b: u8) -> u8
+    ensures { λ r. ⌜ (r ≤ a) × (r ≤ b) ⌝ }
+{
+    if a < b { a } else { b }
+}
+
+// Whether each of the 16 bytes at `at` is plain. There is no early exit, so that it is compiled to vector instructions.
+fn plain_block(s: &[u8], at: usize, q: u8) -> bool
+    requires { ⌜ at + 16 ≤ length (now s) ⌝ }
+    ensures { λ r. ⌜ BlockSays (now (s .entry)) q at r ⌝ }
+{
+    let mut least: u8 = 255;
+    let mut slash: u8 = 255;
+    let mut quote: u8 = 255;
+    let mut k: usize = 0;
+    while k < 16 {
+        let b = s[at + k];
+        least = lesser(least, b);
+        slash = lesser(slash, apart(b, b'\\'));
+        quote = lesser(quote, apart(b, q));
+        k += 1;
+    }
+    if least < 0x20 {
+        return false;
+    }
+    if slash == 0 {
+        return false;
+    }
+    if quote == 0 {
+        return false;
+    }
+    true
+}
+
+// The first place from `from` on that is no plain byte, one at a time.
+fn plain_bytes(s: &[u8], from: usize, q: u8) -> usize
     requires { ⌜ from ≤ length (now s) ⌝ }
     ensures { λ r. ⌜ Passed (now (s .entry)) q from r ⌝ }
 {
@@ -198,6 +239,22 @@ fn plain_end(s: &[u8], from: usize, q: u8) -> usize
         at = at + 1;
     }
     at
+}
+
+// The same, in blocks of 16 as long as all of a block is plain.
+fn plain_end(s: &[u8], from: usize, q: u8) -> usize
+    requires { ⌜ from ≤ length (now s) ⌝ }
+    ensures { λ r. ⌜ Passed (now (s .entry)) q from r ⌝ }
+{
+    let mut at = from;
+    while s.len() - at >= 16 {
+        if plain_block(s, at, q) {
+            at += 16;
+        } else {
+            return plain_bytes(s, at, q);
+        }
+    }
+    plain_bytes(s, at, q)
 }
 
 fn earlier(bad: usize, at: usize) -> usize

@@ -11,7 +11,8 @@ use borrow.Author.Tests.{leb-false}
 use Rattle.rules.specs.Rfc3629.{Judged, ill, Fault}
 use Rattle.rules.specs.declared.Utf8Answer.{Utf8Answer}
 use Rattle.rules.specs.declared.Utf8Answer.the-variants.{Done, IllFormed}
-use Rattle.rules.proofs.Decided.{judged, judged-is}
+use Rattle.rules.specs.Decided.{judged}
+use Rattle.rules.proofs.Decided.{judged-is}
 use Rattle.meaning.specs.Letters.{letters, ch}
 use Rattle.meaning.specs.Limits.{depthLimit, textLimit}
 use Rattle.meaning.specs.Meaning.{Meaning}

@@ -7,7 +7,7 @@ use mathlib.Core.List.{List, [], _∷_}
 use lib.Count.{leadingZeros}
 use Rattle.rules.specs.Posts.{lowOf, highOf}
 use Rattle.rules.specs.Rfc3629.{encode}
-use Rattle.rules.proofs.Decided.{isWide, lengthAt, faultFrom, judged}
+use Rattle.rules.specs.Decided.{isWide, lengthAt, faultFrom, judged}
 use Rattle.rules.proofs.Months.{isLeap, isDate}
 use Rattle.meaning.specs.Letters.{letters}
 use Rattle.meaning.specs.Limits.{depthLimit}

@@ -10,7 +10,8 @@ use borrow.Author.Tests.{le-leb, leb-true, leb-false}
 use Rattle.rules.specs.Rfc3629.{Octets}
 use Rattle.rules.specs.declared.Utf8Answer.{Utf8Answer}
 use Rattle.rules.specs.declared.Utf8Answer.the-variants.{Done, IllFormed}
-use Rattle.rules.proofs.Decided.{judged, judged-done, done-judged}
+use Rattle.rules.specs.Decided.{judged}
+use Rattle.rules.proofs.Decided.{judged-done, done-judged}
 use Rattle.meaning.specs.Limits.{textLimit}
 use Rattle.meaning.specs.Meaning.{Meaning}
 use Rattle.meaning.specs.declared.Refusal.{Refusal}

@@ -479,4 +479,4 @@ took-inside {text} {tape} {tape'} {entry} {store} {store'} b d depth e c n last 
 
 pub says-inside : (text tape tape' entry store store' : List ℕ) (b : Bracket) (d depth : ℕ) → depth ≡ suc d → (c n : Cursor) → Opened text c b n → store ≡ entry → (a : Step) → Says text (bareIn b d) always (suc d) n tape tape' store store' a → Says text (wants depth) (λ k. Shut text (c .at) depth k) depth c tape tape' entry store' a
 says-inside text tape tape' entry store store' b d depth e c n h q (Step.Value last) w = took-inside b d depth e c n last h q w
-says-inside text tape tape' entry store store' b d depth e c n h q (Step.Refused why) w = λ k s. rw e (h .opens d k ∙ w k tt)
+says-inside text tape tape' entry store store' b d depth e c n h q (Step.Refused was why) w = λ k s. rw e (h .opens d k ∙ w k tt)

@@ -11,7 +11,8 @@ use borrow.Author.Tests.{leb-true, leb-false, le-leb, lt-leb, le-ltb, lt-ltb}
 use Rattle.rules.specs.declared.Utf8Answer.{Utf8Answer}
 use Rattle.rules.specs.declared.Utf8Answer.the-variants.{Done, IllFormed}
 use Rattle.rules.specs.Rfc3629.{Judged}
-use Rattle.rules.proofs.Decided.{judged, judged-is}
+use Rattle.rules.specs.Decided.{judged}
+use Rattle.rules.proofs.Decided.{judged-is}
 use Rattle.rules.proofs.Outcomes.{one-outcome-utf8}
 use Rattle.meaning.specs.declared.Refusal.{Refusal}
 use Rattle.meaning.specs.declared.Refusal.the-variants.{NotGrammar, TextTooLong, NotUtf8, TapeTooShort, StoreTooShort}

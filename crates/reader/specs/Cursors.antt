@@ -219,7 +219,7 @@ Left text start ok p why = (k : List Frame) → ok k → Ends text (start k) p w
 
 abbrev pub Says : List ℕ → (List Frame → Conf) → (List Frame → Type 0) → ℕ → Cursor → List ℕ → List ℕ → List ℕ → List ℕ → Step → Type 0
 Says text start ok top c tape tape' store store' (Step.Value n) = Took text start top c tape tape' store store' n
-Says text start ok top c tape tape' store store' (Step.Refused why) = Left text start ok (c .at) why
+Says text start ok top c tape tape' store store' (Step.Refused was why) = Left text start ok (c .at) why
 
 -- where a value is wanted
 abbrev pub wants : ℕ → List Frame → Conf

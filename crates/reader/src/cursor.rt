@@ -27,10 +27,11 @@ pub struct Cursor {
     pub stored: usize,
 }
 
-// A value has been read, or a refusal is given.
+// A value has been read, or a refusal is given where the reader stood. The refusal comes after a cursor, not in its place: laid over
+// the cursor's words, its mark would have them stored in pieces.
 pub enum Step {
     Value(Cursor),
-    Refused(Refusal),
+    Refused(Cursor, Refusal),
 }
 
 // What begins where a value is wanted: an item, or an opening bracket.
@@ -300,20 +301,20 @@ impl Cursor {
         ensures { λ r. ⌜ Says (now (text .entry)) (wants depth) (λ k. Shut (now (text .entry)) (self .at) depth k) depth self (now (tape .entry)) (now (tape .exit)) (now (store .entry)) (now (store .exit)) r ⌝ }
     {
         match self.head(text, store) {
-            Head::Refused(why) => Step::Refused(why),
+            Head::Refused(why) => Step::Refused(self, why),
             Head::Item(item, next) => {
                 put_record(tape, self.records, record_of(item, self.stored));
                 Step::Value(next)
             }
             Head::Array(inside) => {
                 if depth == 0 {
-                    return Step::Refused(Refusal::TooDeep(self.at));
+                    return Step::Refused(self, Refusal::TooDeep(self.at));
                 }
                 inside.array(text, depth - 1, tape, store)
             }
             Head::Object(inside) => {
                 if depth == 0 {
-                    return Step::Refused(Refusal::TooDeep(self.at));
+                    return Step::Refused(self, Refusal::TooDeep(self.at));
                 }
                 inside.object(text, depth - 1, tape, store)
             }
@@ -336,19 +337,26 @@ impl Cursor {
                 stored: stored,
             }).open(text, b']') {
                 Open::Refused(why) => {
-                    return Step::Refused(why);
+                    return Step::Refused(
+                        Cursor {
+                            at: at,
+                            records: records,
+                            stored: stored,
+                        },
+                        why,
+                    );
                 }
                 Open::Close(next) => {
                     put_record(tape, own, Record::Array { end: next.records });
                     return Step::Value(next);
                 }
                 Open::More(first) => match first.value(text, depth, tape, store) {
-                    Step::Refused(why) => {
-                        return Step::Refused(why);
+                    Step::Refused(_, why) => {
+                        return Step::Refused(first, why);
                     }
                     Step::Value(last) => match last.after(text, b']') {
                         After::Refused(why) => {
-                            return Step::Refused(why);
+                            return Step::Refused(last, why);
                         }
                         After::Close(next) => {
                             put_record(tape, own, Record::Array { end: next.records });
@@ -381,7 +389,14 @@ impl Cursor {
                 stored: stored,
             }).open(text, b'}') {
                 Open::Refused(why) => {
-                    return Step::Refused(why);
+                    return Step::Refused(
+                        Cursor {
+                            at: at,
+                            records: records,
+                            stored: stored,
+                        },
+                        why,
+                    );
                 }
                 Open::Close(next) => {
                     put_record(tape, own, Record::Object { end: next.records });
@@ -389,7 +404,7 @@ impl Cursor {
                 }
                 Open::More(first) => match first.member(text, store) {
                     Member::Refused(why) => {
-                        return Step::Refused(why);
+                        return Step::Refused(first, why);
                     }
                     Member::Key(n, held) => {
                         put_record(
@@ -401,12 +416,12 @@ impl Cursor {
                             },
                         );
                         match held.value(text, depth, tape, store) {
-                            Step::Refused(why) => {
-                                return Step::Refused(why);
+                            Step::Refused(_, why) => {
+                                return Step::Refused(held, why);
                             }
                             Step::Value(last) => match last.after(text, b'}') {
                                 After::Refused(why) => {
-                                    return Step::Refused(why);
+                                    return Step::Refused(last, why);
                                 }
                                 After::Close(next) => {
                                     put_record(tape, own, Record::Object { end: next.records });

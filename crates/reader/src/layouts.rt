@@ -179,8 +179,8 @@ fn blanks(text: &[u8], from: usize) -> usize
     at
 }
 
-// The first place from `from` on where no layout stands.
-pub fn pass(text: &[u8], from: usize) -> Layout
+// All the layout from `from` on, where there is some.
+fn long_pass(text: &[u8], from: usize) -> Layout
     requires { ⌜ from ≤ length (now text) ⌝ }
     ensures { λ r. ⌜ LayoutSays (now (text .entry)) from r ⌝ }
 {
@@ -199,4 +199,25 @@ pub fn pass(text: &[u8], from: usize) -> Layout
         }
     }
     Layout::Ended(at)
+}
+
+// The first place from `from` on where no layout stands. Most often that is `from` itself.
+pub fn pass(text: &[u8], from: usize) -> Layout
+    requires { ⌜ from ≤ length (now text) ⌝ }
+    ensures { λ r. ⌜ LayoutSays (now (text .entry)) from r ⌝ }
+{
+    if from >= text.len() {
+        return Layout::Ended(from);
+    }
+    let b = text[from];
+    if b <= b' ' {
+        return long_pass(text, from);
+    }
+    if b == b'#' {
+        return long_pass(text, from);
+    }
+    if b == b'/' {
+        return long_pass(text, from);
+    }
+    Layout::Ended(from)
 }

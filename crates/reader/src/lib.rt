@@ -42,7 +42,7 @@ fn walk(text: &[u8], tape: &mut [u8], store: &mut [u8]) -> Answer
             records: 0,
             stored: 0,
         }).value(text, DEEPEST, tape, store) {
-            Step::Refused(why) => Answer::Refused(why),
+            Step::Refused(_, why) => Answer::Refused(why),
             Step::Value(next) => match layouts::pass(text, next.at) {
                 Layout::Broken(p) => Answer::Refused(Refusal::NotGrammar(p)),
                 Layout::Ended(end) => {

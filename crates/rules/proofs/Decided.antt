@@ -1,4 +1,4 @@
--- The first fault of any bytes, as a function that computes. Assumes nothing.
+-- The first fault of any bytes, computed, is the one that Rfc3629 allows. Assumes nothing.
 use mathlib.Core.Path.{_≡_, refl, sym, ap, _∙_, subst}
 use mathlib.Core.Bool.{Bool, true, false, cond}
 use mathlib.Core.List.{List, [], _∷_}
@@ -11,42 +11,12 @@ use lib.ListN.{length, getD}
 use borrow.Author.Tests.{eqb-true, eqb-false, leb-true, leb-false, ltb-true, ltb-false, le-leb, lt-ltb, le-ltb}
 use Rattle.rules.specs.Rfc3629.{Octets, Judged, done}
 use Rattle.rules.specs.Posts.{CharAt, lowOf, highOf}
+use Rattle.rules.specs.Decided.{ones, conj, bounds, isWide, lengthAt, faultFrom, judged}
 use Rattle.rules.specs.declared.Utf8Answer.{Utf8Answer}
 use Rattle.rules.specs.declared.Utf8Answer.the-variants.{Done, IllFormed}
-use Rattle.rules.proofs.Places.{ones, step1, down⁻, Wide, no-char, ascii-char, back2, back3, back4}
+use Rattle.rules.proofs.Places.{step1, down⁻, Wide, no-char, ascii-char, back2, back3, back4}
 use Rattle.rules.proofs.Outcomes.{one-outcome-utf8}
 use Rattle.rules.proofs.Runs.{Passed, passed-none, passed-char, char-room, fault-at, all-passed}
-
-abbrev conj : List Bool → Bool
-conj [] = true
-conj (b ∷ bs) = cond b (conj bs) false
-
--- the bounds of `Wide`, as a test
-abbrev bounds : List ℕ → ℕ → ℕ → List Bool
-bounds s i n =
-    leb 2 n ∷ leb n 4 ∷ leb (i + n) (length s) ∷ leb 0xC2 (getD s i 0) ∷ leb (getD s i 0) 0xF4
-    ∷ leb (lowOf (getD s i 0)) (getD s (i + 1) 0) ∷ leb (getD s (i + 1) 0) (highOf (getD s i 0))
-    ∷ cond (ltb n 3) true (leb 0x80 (getD s (i + 2) 0)) ∷ cond (ltb n 3) true (leb (getD s (i + 2) 0) 0xBF)
-    ∷ cond (ltb n 4) true (leb 0x80 (getD s (i + 3) 0)) ∷ cond (ltb n 4) true (leb (getD s (i + 3) 0) 0xBF) ∷ []
-
-unfoldable pub isWide : List ℕ → ℕ → ℕ → Bool
-isWide s i n = conj (bounds s i n)
-
--- the length of the character at the place i, or 0
-unfoldable pub lengthAt : List ℕ → ℕ → ℕ
-lengthAt s i = let n = ones (getD s i 0) in cond (eqb n 0) 1 (cond (isWide s i n) n 0)
-
--- from the place i on, in at most so many characters
-unfoldable pub faultFrom : ℕ → List ℕ → ℕ → Utf8Answer
-faultFrom zero s i = Done
-faultFrom (suc f) s i =
-    let n = lengthAt s i in
-    let further = faultFrom f s (i + n) in
-    cond (leb (length s) i) Done (cond (eqb n 0) (IllFormed i) further)
-
--- what `utf8` answers
-unfoldable pub judged : List ℕ → Utf8Answer
-judged s = faultFrom (length s) s 0
 
 -- ---- it is right
 

@@ -7,3 +7,5 @@ pub mod Rfc3339
 pub mod Paper
 -- Posts: what the functions below the two public calls promise.
 pub mod Posts
+-- Decided: the first fault, as a function that computes.
+pub mod Decided

@@ -1,17 +1,19 @@
 -- Two's complement.
 pub mod Signs
--- Numbers in bytes, as the loops put and get them.
-pub mod Little
 -- What a test promises, used and made.
 pub mod Deciding
 -- The rules of a record's own fields, as their tests say them.
 pub mod Ranges
 -- Put: where there is room, and where there is none; one piece after the other.
 pub mod Puts
+-- Numbers in bytes, as the code puts and gets them.
+pub mod Little
 -- A record's four numbers: they make its bytes, and they are of no other record.
 pub mod Wording
 -- The record at an index, by its four numbers.
 pub mod Looks
+-- What the record at an index does to the judge, by its four numbers.
+pub mod Stepping
 -- A machine that reads records.
 pub mod Machine
 -- It takes the records of every meaning that is not too deep.

@@ -14,16 +14,12 @@ use Rattle.meaning.specs.declared.Record.{Record}
 use Rattle.meaning.specs.Limits.{depthLimit, recordLimit, storeLimit}
 use Rattle.meaning.specs.Meaning.{Meaning, null, bool, number, string, binary, time, array, object, more, member}
 use Rattle.meaning.specs.Look.{RecordAt}
-use Rattle.meaning.specs.declared.Refusal.{Refusal}
 use Rattle.meaning.proofs.Whole.{well-formed-length}
 use Rattle.meaning.proofs.Look.{well-formed-record}
 use Rattle.tape.specs.declared.Turn.{Turn}
-use Rattle.tape.specs.declared.Looked.{Looked}
 use Rattle.tape.specs.declared.Judged.{Judged}
-use Rattle.tape.specs.Looking.{Looks}
 use Rattle.tape.specs.Judging.{Judges, well, ill}
-use Rattle.tape.proofs.Looks.{refused}
-use Rattle.tape.specs.Turns.{afterValue, afterKey, passOf, passBytesOf, openOf, turnOf}
+use Rattle.tape.specs.Turns.{afterValue, afterKey, passOf, passBytesOf, openOf, turnOf, Steps, stands, none}
 use Rattle.tape.proofs.Machine.{Frame, root, inArray, inObject, Conf, nothing, whole, elements, members, keyed, broken, says, nay, Kind, ofValues, ofMembers, slot, put, key, begin, enter, give, settle, give-put, sizeOf, startOf, there, does, part, actOf, push, finish, run, run-settle, run-broken}
 use Rattle.tape.proofs.Whole.{readAt, read-is, recordsFrom, verdict, nay-ill, says-well-formed}
 
@@ -475,10 +471,11 @@ module _ {tape store : List ℕ} {n : ℕ} {ends kinds : List ℕ} {d end state 
         → (m : Meaning) × (verdict n tape store ≡ says m) → Judges tape store Judged.Well
     answer-well b s l e y = well (says-well-formed tape store n h b s (v .few) l (λ k q. v .each k (omega arith)) (y .0) (y .1))
 
-    -- a record does not stand by itself
-    pub answer-fault : (i ≡ n → ⊥) → {a : Looked} {why : Refusal} → Looks tape store i a → a ≡ Looked.Refused why → Judges tape store Judged.Ill
-    answer-fault q l e =
-        ill (λ w. refused l e _ (well-formed-record tape store w i (omega (arith, well-formed-length tape store w, v .within))))
+    -- no record stands there, or none that may
+    pub answer-no : (end ≡ i → ⊥) → (i ≡ n → ⊥) → {t : Turn} → Steps tape store i at d state t → t ≡ Turn.No → Judges tape store Judged.Ill
+    answer-no q l (stands r a f) e = answer-ill (state-no v q l r a (sym e ∙ f))
+    answer-no q l (none g) e =
+        ill (λ w. g _ (well-formed-record tape store w i (omega (arith, well-formed-length tape store w, v .within))))
 
 -- sizes over their limits
 pub answer-not-whole : {tape store : List ℕ} → (length tape ≡ length tape / 16 * 16 → ⊥) → Judges tape store Judged.Ill

@@ -8,7 +8,6 @@ use lib.ListN.{getD, take, drop, take-append-drop}
 use lib.Seq.{take-at}
 use Rattle.meaning.specs.declared.Record.{Record}
 use Rattle.meaning.specs.declared.Refusal.{Refusal}
-use Rattle.meaning.specs.Bytes.{get}
 use Rattle.meaning.specs.Tape.{recordBytes}
 use Rattle.meaning.specs.Words.{Fit}
 use Rattle.meaning.specs.Look.{OwnFields, wholeRecords, RecordAt}
@@ -17,7 +16,7 @@ use Rattle.meaning.proofs.Records.{record-length, Stands, stands, stands-drop}
 use Rattle.tape.specs.declared.Words.{Words}
 use Rattle.tape.specs.declared.Shape.{Shape}
 use Rattle.tape.specs.declared.Looked.{Looked}
-use Rattle.tape.specs.Shapes.{Worded, Loaded, Shaped, shaped, junk, wordsAt}
+use Rattle.tape.specs.Shapes.{Worded, Loaded, onlyRecord, Shaped, shaped, junk, wordsAt}
 use Rattle.tape.specs.Fields.{Decides}
 use Rattle.tape.specs.Looking.{Looks, found, past-end, not-one}
 use Rattle.tape.proofs.Deciding.{held, failed}
@@ -25,18 +24,19 @@ use Rattle.tape.proofs.Wording.{only}
 
 -- ---- four numbers that were loaded
 
-pub loaded : (s : List ℕ) (p a b c d : ℕ) → ((j : ℕ) → getD s j 0 < 256) → a ≡ get 2 s p → b ≡ get 2 s (p + 2) → c ≡ get 4 s (p + 4)
-    → d ≡ get 8 s (p + 8) → Loaded (record { mark = a; low = b; mid = c; high = d })
-loaded s p a b c d h e f g i = record {
+pub loaded : (s : List ℕ) (p : ℕ) → ((j : ℕ) → getD s j 0 < 256) → Loaded (wordsAt s p)
+loaded s p h = record {
   mark-small = omega (arith, get-lt 2 s p h);
   low-small = omega (arith, get-lt 2 s (p + 2) h);
   mid-small = omega (arith, get-lt 4 s (p + 4) h);
   high-small = omega (arith, get-lt 8 s (p + 8) h);
 }
 
-pub shaped-at : (s : List ℕ) (p a b c d : ℕ) {x : Shape} → a ≡ get 2 s p → b ≡ get 2 s (p + 2) → c ≡ get 4 s (p + 4)
-    → d ≡ get 8 s (p + 8) → Shaped (record { mark = a; low = b; mid = c; high = d }) x → Shaped (wordsAt s p) x
-shaped-at s p a b c d {x} e f g i h = subst (λ (w : Words). Shaped w x) (λ k. record { mark = e k; low = f k; mid = g k; high = i k }) h
+pub loaded-as : {w : Words} (s : List ℕ) (p : ℕ) → w ≡ wordsAt s p → ((j : ℕ) → getD s j 0 < 256) → Loaded w
+loaded-as s p e h = subst Loaded (sym e) (loaded s p h)
+
+pub shaped-as : {w v : Words} {x : Shape} → w ≡ v → Shaped w x → Shaped v x
+shaped-as {x = x} e h = subst (λ (y : Words). Shaped y x) e h
 
 shape-record : {w : Words} {s : Shape} {r : Record} → Shaped w s → s ≡ Shape.Record r → Fit r × Worded r w
 shape-record {w} {r = r} (shaped {r = x} f e) q = let z : x ≡ r = cc in subst (λ (y : Record). Fit y × Worded y w) z (f, e)
@@ -58,8 +58,12 @@ module _ (tape store : List ℕ) (index : ℕ) where
       let s = stands tape (drop 16 (drop p tape)) p r (a .fits) (omega arith) e in
       record { mark-is = s .mark-at; low-is = s .low-at; mid-is = s .mid-at; high-is = s .high-at }
 
+  -- so it is the only one that may stand there
+  pub record-only : (r : Record) → RecordAt tape store index r → onlyRecord (wordsAt tape (index * 16)) ≡ r
+  record-only r a = only (wordsAt tape (index * 16)) r (a .fits) (record-numbers r a)
+
   module _ (bytes : (j : ℕ) → getD tape j 0 < 256) (within : index < wholeRecords tape) where
-    record-there : (r : Record) → Fit r → Worded r (wordsAt tape (index * 16)) → OwnFields r index (wholeRecords tape) store → RecordAt tape store index r
+    pub record-there : (r : Record) → Fit r → Worded r (wordsAt tape (index * 16)) → OwnFields r index (wholeRecords tape) store → RecordAt tape store index r
     record-there r f e o =
         let p = index * 16 in
         let s : Stands tape p r = record { mark-at = e .mark-is; low-at = e .low-is; mid-at = e .mid-is; high-at = e .high-is } in
@@ -84,7 +88,7 @@ module _ (tape store : List ℕ) (index : ℕ) where
             let w = wordsAt tape (index * 16) in
             not-one within
             (λ x a.
-            let z : x ≡ r = sym (only w x (a .fits) (record-numbers x a)) ∙ only w r (q .0) (q .1) in
+            let z : x ≡ r = sym (record-only x a) ∙ only w r (q .0) (q .1) in
             failed own t (subst (λ (y : Record). OwnFields y index (wholeRecords tape) store) z (a .own)))
 
 -- ---- what `look` answered

@@ -1,12 +1,12 @@
 -- Put: where there is room, and where there is none; one piece after the other. Assumes nothing.
-use mathlib.Core.Path.{_≡_, refl, sym, ap, _∙_}
+use mathlib.Core.Path.{_≡_, refl, sym, ap, ap₂, _∙_}
 use mathlib.Core.Bool.{Bool, true, false, cond}
-use mathlib.Core.List.{List, [], _∷_, _++_}
-use Prim.Native.Nat.{ℕ, suc, _+_, _*_, _≤_, _<_}
+use mathlib.Core.List.{List, [], _∷_, _++_, append-assoc, append-nil}
+use Prim.Native.Nat.{ℕ, suc, _+_, _-_, _*_, _≤_, _<_}
 use native.Mathlib.Omega.{arith}
 use lib.Dec.{leb, ltb}
-use lib.ListN.{length, set, length-append}
-use lib.Seq.{sets, length-sets}
+use lib.ListN.{length, take, drop, set, length-append, drop-of-length-le}
+use lib.Seq.{sets, length-sets, sets-eq, drop-drop}
 use borrow.Author.Tests.{le-leb, lt-leb, lt-ltb, le-ltb}
 use Rattle.meaning.specs.declared.Record.{Record}
 use Rattle.meaning.specs.Bytes.{le}
@@ -14,6 +14,7 @@ use Rattle.meaning.specs.Tape.{recordBytes}
 use Rattle.meaning.specs.Words.{fourWords}
 use Rattle.meaning.specs.Look.{wholeRecords}
 use Rattle.meaning.proofs.Bytes.{le-length}
+use Rattle.meaning.proofs.Records.{record-length}
 use Rattle.tape.specs.declared.Words.{Words}
 use Rattle.tape.specs.Putting.{putRecord, putBytes}
 use Rattle.tape.specs.Shapes.{Written}
@@ -67,7 +68,11 @@ bytes-append store at next a b e h =
     ∙ sym (bytes-room store at (a ++ b) (omega arith))
 
 -- the four numbers, one after the other
-pub put-words : (t : List ℕ) (p a b c d : ℕ)
+words-length : (a b c d : ℕ) → length (fourWords a b c d) ≡ 16
+unfolding fourWords le
+words-length a b c d = refl
+
+put-words : (t : List ℕ) (p a b c d : ℕ)
     → sets (sets (sets (sets t p (le 2 a)) (p + 2) (le 2 b)) (p + 4) (le 4 c)) (p + 8) (le 8 d) ≡ sets t p (fourWords a b c d)
 unfolding fourWords
 put-words t p a b c d =
@@ -77,15 +82,32 @@ put-words t p a b c d =
     ∙ sets-append x (p + 2) (p + 4) (le 2 b) (le 4 c ++ le 8 d) (omega (arith, le-length 2 b))
     ∙ sets-append t p (p + 2) (le 2 a) (le 2 b ++ (le 4 c ++ le 8 d)) (omega (arith, le-length 2 a))
 
--- a record, by its four numbers
-pub put-by-words : (t t1 t2 t3 t4 : List ℕ) (index : ℕ) (r : Record) (w : Words) → Written r w → index < wholeRecords t
-    → t1 ≡ sets t (index * 16) (le 2 (w .mark)) → t2 ≡ sets t1 (index * 16 + 2) (le 2 (w .low))
-    → t3 ≡ sets t2 (index * 16 + 4) (le 4 (w .mid)) → t4 ≡ sets t3 (index * 16 + 8) (le 8 (w .high)) → t4 ≡ putRecord t index r
-put-by-words t t1 t2 t3 t4 index r w f h e1 e2 e3 e4 =
-    let p = index * 16 in
+-- over all of sixteen bytes
+pub words-all : (t t1 t2 t3 t4 : List ℕ) (a b c d : ℕ) → length t ≡ 16 → t1 ≡ sets t 0 (le 2 a) → t2 ≡ sets t1 2 (le 2 b)
+    → t3 ≡ sets t2 4 (le 4 c) → t4 ≡ sets t3 8 (le 8 d) → t4 ≡ fourWords a b c d
+words-all t t1 t2 t3 t4 a b c d h e1 e2 e3 e4 =
+    let n = words-length a b c d in
     e4
-    ∙ ap (λ (x : List ℕ). sets x (p + 8) (le 8 (w .high)))
-    (e3 ∙ ap (λ (x : List ℕ). sets x (p + 4) (le 4 (w .mid))) (e2 ∙ ap (λ (x : List ℕ). sets x (p + 2) (le 2 (w .low))) e1))
-    ∙ put-words t p (w .mark) (w .low) (w .mid) (w .high)
-    ∙ ap (sets t p) (sym (f .bytes-are))
-    ∙ sym (record-room t index r h)
+    ∙ ap (λ (x : List ℕ). sets x 8 (le 8 d)) (e3 ∙ ap (λ (x : List ℕ). sets x 4 (le 4 c)) (e2 ∙ ap (λ (x : List ℕ). sets x 2 (le 2 b)) e1))
+    ∙ put-words t 0 a b c d
+    ∙ sets-eq (fourWords a b c d) t 0 (omega arith)
+    ∙ ap (λ (x : List ℕ). fourWords a b c d ++ x) (drop-of-length-le t {i = 0 + length (fourWords a b c d)} (omega arith))
+    ∙ append-nil (fourWords a b c d)
+
+-- a part of the bytes that was lent, come back
+pub put-part : (t part vs : List ℕ) (p e : ℕ) → e ≡ p + length vs → e ≤ length t → part ≡ vs
+    → take p t ++ (part ++ drop (e - p) (drop p t)) ≡ sets t p vs
+put-part t part vs p e z h q =
+    let n : e - p ≡ length vs = omega arith in
+    ap₂ (λ (x : List ℕ) (k : ℕ). take p t ++ (x ++ drop k (drop p t))) q n
+    ∙ ap (λ (x : List ℕ). take p t ++ (vs ++ x)) (drop-drop (length vs) p t)
+    ∙ sym (append-assoc (take p t) vs (drop (p + length vs) t))
+    ∙ sym (sets-eq vs t p (omega arith))
+
+-- a record, by its four numbers
+pub put-by-words : (t part : List ℕ) (index e : ℕ) (r : Record) (w : Words) → Written r w → index < wholeRecords t → e ≡ index * 16 + 16
+    → part ≡ fourWords (w .mark) (w .low) (w .mid) (w .high)
+    → take (index * 16) t ++ (part ++ drop (e - index * 16) (drop (index * 16) t)) ≡ putRecord t index r
+put-by-words t part index e r w f h z q =
+    let n = record-length r in
+    put-part t part (recordBytes r) (index * 16) e (omega arith) (omega arith) (q ∙ sym (f .bytes-are)) ∙ sym (record-room t index r h)

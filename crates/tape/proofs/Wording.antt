@@ -106,6 +106,28 @@ only w r f e =
     ∙ ap₂ (recordOf (markOf r) (lowOf r)) (e .mid-is) (e .high-is)
     ∙ record-back r f
 
+-- which it is, by the mark
+module _ (a low mid high : ℕ) where
+  pub only-key : a ≡ mark "k" "y" → recordOf a low mid high ≡ Record.Key mid high
+  unfolding recordOf
+  only-key e = ap (λ (x : ℕ). recordOf x low mid high) e
+
+  pub only-text : a ≡ mark "s" "t" → recordOf a low mid high ≡ Record.Str mid high
+  unfolding recordOf
+  only-text e = ap (λ (x : ℕ). recordOf x low mid high) e
+
+  pub only-finite : a ≡ mark "n" "b" → recordOf a low mid high ≡ Record.Number (Finite (eqb low 1) high (toZ w32 mid))
+  unfolding recordOf
+  only-finite e = ap (λ (x : ℕ). recordOf x low mid high) e
+
+  pub only-array : a ≡ mark "a" "r" → recordOf a low mid high ≡ Record.Array high
+  unfolding recordOf
+  only-array e = ap (λ (x : ℕ). recordOf x low mid high) e
+
+  pub only-object : a ≡ mark "o" "b" → recordOf a low mid high ≡ Record.Object high
+  unfolding recordOf
+  only-object e = ap (λ (x : ℕ). recordOf x low mid high) e
+
 -- so where that one has other numbers, there is none
 module _ (w v : Words) (r : Record) (is : r ≡ recordOf (w .mark) (w .low) (w .mid) (w .high)) (g : Worded r v) where
   junk-by : ((s : Record) → Fit s → Worded s w → Worded s v → ⊥) → Shaped w Shape.Junk
@@ -132,7 +154,7 @@ by-cond P false x y p q = q
 date-fits : (low mid : ℕ) → low < 2 ^ 16 → FitDate (dateOf low mid)
 date-fits low mid h = omega arith
 
-record-of-fits : (w : Words) → Loaded w → Fit (recordOf (w .mark) (w .low) (w .mid) (w .high))
+pub record-of-fits : (w : Words) → Loaded w → Fit (recordOf (w .mark) (w .low) (w .mid) (w .high))
 unfolding recordOf notFinite
 record-of-fits w l =
     let high = l .high-small in

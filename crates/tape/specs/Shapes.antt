@@ -60,6 +60,9 @@ recordOf a low mid high =
     (cond (eqb a (mark "o" "b")) (Record.Object high)
     Record.Null)))))))))))
 
+abbrev pub onlyRecord : Words → Record
+onlyRecord w = recordOf (w .mark) (w .low) (w .mid) (w .high)
+
 -- a record whose numbers are these, or no record has them
 pub data Shaped (w : Words) : Shape → Type 0 where
   shaped : {r : Record} → Fit r → Worded r w → Shaped w (Shape.Record r)

@@ -1,10 +1,13 @@
 -- What one record does to the judge: its state is 0 nothing yet, 1 the root is complete, 2 in an array, 3 before a key,
 -- 4 after a key. Assumes nothing.
+use mathlib.Core.Path.{_≡_}
 use mathlib.Core.Bool.{cond}
+use mathlib.Core.List.{List}
 use Prim.Native.Nat.{ℕ, _+_}
 use lib.Dec.{eqb, ltb}
 use Rattle.meaning.specs.declared.Record.{Record}
 use Rattle.meaning.specs.Limits.{depthLimit}
+use Rattle.meaning.specs.Look.{RecordAt}
 use Rattle.tape.specs.declared.Turn.{Turn}
 
 -- the state after a value, or after a key; 0 where none may stand
@@ -47,3 +50,13 @@ bytesEnd (Record.Bin size start) = start + size
 bytesEnd (Record.Time t) = 0
 bytesEnd (Record.Array end) = 0
 bytesEnd (Record.Object end) = 0
+
+-- the turn t where P holds
+pub data Tested (P : Type 0) (t : Turn) : Turn → Type 0 where
+  passes : {u : Turn} → P → u ≡ t → Tested P t u
+  fails : (P → ⊥) → Tested P t Turn.No
+
+-- the turn of the record at this index, if one stands there
+pub data Steps (tape store : List ℕ) (index at depth state : ℕ) : Turn → Type 0 where
+  stands : {t : Turn} (r : Record) → RecordAt tape store index r → t ≡ turnOf r at depth state → Steps tape store index at depth state t
+  none : ((r : Record) → RecordAt tape store index r → ⊥) → Steps tape store index at depth state Turn.No

@@ -24,7 +24,7 @@ const GREATEST_OFFSET: i16 = 1439;
 const DAY: u64 = 24 * 60 * 60 * 1000000000;
 
 // Zero has power 0; any other coefficient does not end in the digit 0, and its power lies from -9,999 to 9,999.
-fn good_finite(coefficient: u64, power: i32) -> bool
+pub fn good_finite(coefficient: u64, power: i32) -> bool
     ensures { λ b. ⌜ Decides (GoodFinite coefficient power) b ⌝ }
 {
     if coefficient == 0 {
@@ -112,7 +112,7 @@ fn inside(length: usize, start: usize, store: &[u8]) -> bool
 }
 
 // Inside the store, and UTF-8.
-fn utf8_inside(length: usize, start: usize, store: &[u8]) -> bool
+pub fn utf8_inside(length: usize, start: usize, store: &[u8]) -> bool
     ensures { λ b. ⌜ Decides (Utf8Inside length start (now (store .entry))) b ⌝ }
 {
     if inside(length, start, store) {
@@ -127,7 +127,7 @@ fn utf8_inside(length: usize, start: usize, store: &[u8]) -> bool
 }
 
 // A container's end is past its own index and not above the number of whole records.
-fn ends(end: usize, index: usize, whole: usize) -> bool
+pub fn ends(end: usize, index: usize, whole: usize) -> bool
     ensures { λ b. ⌜ Decides (Ends end index whole) b ⌝ }
 {
     if index < end {

@@ -2,11 +2,15 @@
 mod fields;
 mod numbers;
 mod records;
+mod steps;
 mod turns;
 
 ghost use mathlib.Core.Path.{_≡_};
 ghost use Rattle.tape.specs.Putting.{putRecord, putBytes};
+ghost use Prim.Native.Nat.{_<_};
+ghost use Rattle.meaning.specs.Look.{wholeRecords};
 ghost use Rattle.tape.specs.Looking.{Looks};
+ghost use Rattle.tape.specs.Standing.{RecordIs};
 ghost use Rattle.tape.specs.Judging.{Judges};
 use meaning::Record;
 use meaning::Refusal;
@@ -63,15 +67,8 @@ pub fn put_record(tape: &mut [u8], index: usize, r: Record)
     let whole = tape.len() / 16;
     if index < whole {
         let at = index * 16;
-        let w = records::words_of(r);
-        let mark = w.mark;
-        let low = w.low;
-        let mid = w.mid;
-        let high = w.high;
-        numbers::store(tape, at, 2, mark);
-        numbers::store(tape, at + 2, 2, low);
-        numbers::store(tape, at + 4, 4, mid);
-        numbers::store(tape, at + 8, 8, high);
+        let end = at + 16;
+        records::put_words(&mut tape[at..end], records::words_of(r));
     }
 }
 
@@ -108,6 +105,14 @@ pub fn look(tape: &[u8], store: &[u8], index: usize) -> Looked
             Looked::Refused(Refusal::NotWellFormed(index))
         }
     }
+}
+
+// The record at this index of a well-formed tape. Nothing is tested: it is for callers that know so from `judge`.
+pub fn record_at(tape: &[u8], index: usize) -> Record
+    requires { ⌜ index < wholeRecords (now tape) ⌝ }
+    ensures { λ r. ⌜ RecordIs (now (tape .entry)) index r ⌝ }
+{
+    records::only_at(tape, index * 16)
 }
 
 // Judge a whole tape: one loop over its records, each looked at once, with the ends of the open containers and the states
@@ -153,29 +158,22 @@ pub fn judge(tape: &[u8], store: &[u8]) -> Judged
                 }
                 return Judged::Ill;
             }
-            match look(tape, store, i) {
-                Looked::Refused(_) => {
+            match steps::step(tape, store, i, at, d, state) {
+                Turn::No => {
                     return Judged::Ill;
                 }
-                Looked::Record(r) => {
-                    match turns::turn(r, at, d, state) {
-                        Turn::No => {
-                            return Judged::Ill;
-                        }
-                        Turn::Pass(s, a) => {
-                            state = s;
-                            at = a;
-                            i += 1;
-                        }
-                        Turn::Open(s, e, t) => {
-                            ends[d] = end;
-                            kinds[d] = s;
-                            d += 1;
-                            end = e;
-                            state = t;
-                            i += 1;
-                        }
-                    }
+                Turn::Pass(s, a) => {
+                    state = s;
+                    at = a;
+                    i += 1;
+                }
+                Turn::Open(s, e, t) => {
+                    ends[d] = end;
+                    kinds[d] = s;
+                    d += 1;
+                    end = e;
+                    state = t;
+                    i += 1;
                 }
             }
         }

@@ -1,40 +1,63 @@
 // Numbers in bytes, the lowest first, at any width; signed numbers as their two's complement.
 ghost use mathlib.Core.Path.{_≡_};
-ghost use Prim.Native.Nat.{_+_, _≤_};
+ghost use Prim.Native.Nat.{_+_, _≤_, _<_, _^_};
 ghost use lib.ListN.{length};
 ghost use lib.Seq.{sets};
 ghost use mir.Syntax.{w16, w32};
 ghost use mir.Val.{ofZ, toZ};
 ghost use Rattle.meaning.specs.Bytes.{le, get, flag};
 
-// v in the w bytes from the place `at`.
-pub fn store(bytes: &mut [u8], at: usize, w: usize, v: u64)
-    requires { ⌜ at + w ≤ length (now bytes) ⌝ }
-    ensures { λ _. ⌜ now (bytes .exit) ≡ sets (now (bytes .entry)) at (le w v) ⌝ }
+// v in two, four or eight bytes from the place `at`: byte by byte with no loop, which is compiled to one store.
+pub fn store2(bytes: &mut [u8], at: usize, v: u64)
+    requires { ⌜ at + 2 ≤ length (now bytes) ⌝ }
+    ensures { λ _. ⌜ now (bytes .exit) ≡ sets (now (bytes .entry)) at (le 2 v) ⌝ }
 {
-    let mut rest = v;
-    let mut i = at;
-    let end = at + w;
-    while i < end {
-        bytes[i] = (rest % 256) as u8;
-        rest = rest / 256;
-        i += 1;
-    }
+    bytes[at] = (v % 256) as u8;
+    bytes[at + 1] = (v / 256 % 256) as u8;
 }
 
-// The number in the w bytes from the place `at`.
-pub fn load(bytes: &[u8], at: usize, w: usize) -> u64
-    requires { ⌜ (at + w ≤ length (now bytes)) × (w ≤ 8) ⌝ }
-    ensures { λ r. ⌜ r ≡ get w (now (bytes .entry)) at ⌝ }
+pub fn store4(bytes: &mut [u8], at: usize, v: u64)
+    requires { ⌜ at + 4 ≤ length (now bytes) ⌝ }
+    ensures { λ _. ⌜ now (bytes .exit) ≡ sets (now (bytes .entry)) at (le 4 v) ⌝ }
 {
-    let mut v: u64 = 0;
-    let mut i = at + w;
-    while i > at {
-        i -= 1;
-        let b = bytes[i] as u64;
-        v = v * 256 + b;
-    }
-    v
+    store2(bytes, at, v);
+    store2(bytes, at + 2, v / 65536);
+}
+
+pub fn store8(bytes: &mut [u8], at: usize, v: u64)
+    requires { ⌜ at + 8 ≤ length (now bytes) ⌝ }
+    ensures { λ _. ⌜ now (bytes .exit) ≡ sets (now (bytes .entry)) at (le 8 v) ⌝ }
+{
+    store4(bytes, at, v);
+    store4(bytes, at + 4, v / 4294967296);
+}
+
+fn wide(b: u8) -> u64
+    ensures { λ r. ⌜ r ≡ b ⌝ }
+{
+    b as u64
+}
+
+// The number in two, four or eight bytes from the place `at`: one load, likewise.
+pub fn load2(bytes: &[u8], at: usize) -> u64
+    requires { ⌜ at + 2 ≤ length (now bytes) ⌝ }
+    ensures { λ r. ⌜ (r ≡ get 2 (now (bytes .entry)) at) × (r < 2 ^ 16) ⌝ }
+{
+    wide(bytes[at]) + wide(bytes[at + 1]) * 256
+}
+
+pub fn load4(bytes: &[u8], at: usize) -> u64
+    requires { ⌜ at + 4 ≤ length (now bytes) ⌝ }
+    ensures { λ r. ⌜ (r ≡ get 4 (now (bytes .entry)) at) × (r < 2 ^ 32) ⌝ }
+{
+    load2(bytes, at) + load2(bytes, at + 2) * 65536
+}
+
+pub fn load8(bytes: &[u8], at: usize) -> u64
+    requires { ⌜ at + 8 ≤ length (now bytes) ⌝ }
+    ensures { λ r. ⌜ r ≡ get 8 (now (bytes .entry)) at ⌝ }
+{
+    load4(bytes, at) + load4(bytes, at + 4) * 4294967296
 }
 
 // The bits of a signed number.

@@ -3,8 +3,8 @@ ghost use mathlib.Core.Path.{_≡_};
 ghost use Prim.Native.Nat.{_+_, _≤_, _<_, _^_};
 ghost use lib.ListN.{length};
 ghost use Rattle.meaning.specs.declared.Record.{Record};
-ghost use Rattle.meaning.specs.Words.{monthDay, FitDate};
-ghost use Rattle.tape.specs.Shapes.{Written, Loaded, notFinite, dateOf, recordOf, Shaped, wordsAt};
+ghost use Rattle.meaning.specs.Words.{monthDay, fourWords, FitDate};
+ghost use Rattle.tape.specs.Shapes.{Written, Loaded, notFinite, dateOf, onlyRecord, Shaped, wordsAt};
 use crate::Shape;
 use crate::Words;
 use crate::numbers;
@@ -18,13 +18,13 @@ const NU: u64 = b'n' as u64 + b'u' as u64 * 256;
 
 const BO: u64 = b'b' as u64 + b'o' as u64 * 256;
 
-const NB: u64 = b'n' as u64 + b'b' as u64 * 256;
+pub const NB: u64 = b'n' as u64 + b'b' as u64 * 256;
 
 const NX: u64 = b'n' as u64 + b'x' as u64 * 256;
 
-const ST: u64 = b's' as u64 + b't' as u64 * 256;
+pub const ST: u64 = b's' as u64 + b't' as u64 * 256;
 
-const KY: u64 = b'k' as u64 + b'y' as u64 * 256;
+pub const KY: u64 = b'k' as u64 + b'y' as u64 * 256;
 
 const BY: u64 = b'b' as u64 + b'y' as u64 * 256;
 
@@ -36,9 +36,9 @@ const DT: u64 = b'd' as u64 + b't' as u64 * 256;
 
 const OD: u64 = b'o' as u64 + b'd' as u64 * 256;
 
-const AR: u64 = b'a' as u64 + b'r' as u64 * 256;
+pub const AR: u64 = b'a' as u64 + b'r' as u64 * 256;
 
-const OB: u64 = b'o' as u64 + b'b' as u64 * 256;
+pub const OB: u64 = b'o' as u64 + b'b' as u64 * 256;
 
 fn number_words(n: Number) -> Words
     ensures { λ w. ⌜ Written (Record.Number n) w ⌝ }
@@ -166,6 +166,17 @@ pub fn words_of(r: Record) -> Words
     }
 }
 
+// The sixteen bytes of four numbers.
+pub fn put_words(bytes: &mut [u8], w: Words)
+    requires { ⌜ length (now bytes) ≡ 16 ⌝ }
+    ensures { λ _. ⌜ now (bytes .exit) ≡ fourWords (w .mark) (w .low) (w .mid) (w .high) ⌝ }
+{
+    numbers::store2(bytes, 0, w.mark);
+    numbers::store2(bytes, 2, w.low);
+    numbers::store4(bytes, 4, w.mid);
+    numbers::store8(bytes, 8, w.high);
+}
+
 fn not_finite(mid: u64) -> Number
     ensures { λ n. ⌜ n ≡ notFinite mid ⌝ }
 {
@@ -192,7 +203,7 @@ fn date_of(low: u64, mid: u64) -> Date
 // The record with these four numbers, if there is one; what they must be beside the mark is not tested here.
 fn record_of(w: Words) -> Record
     requires { ⌜ Loaded w ⌝ }
-    ensures { λ r. ⌜ r ≡ recordOf (w .mark) (w .low) (w .mid) (w .high) ⌝ }
+    ensures { λ r. ⌜ r ≡ onlyRecord w ⌝ }
 {
     let mark = w.mark;
     let low = w.low;
@@ -254,6 +265,49 @@ fn record_of(w: Words) -> Record
     Record::Null
 }
 
+// The same. Keys, strings, numbers and containers, which fill most tapes, come first: this much is compiled into its callers.
+fn common_record(w: Words) -> Record
+    requires { ⌜ Loaded w ⌝ }
+    ensures { λ r. ⌜ r ≡ onlyRecord w ⌝ }
+{
+    let mark = w.mark;
+    let low = w.low;
+    let mid = w.mid;
+    let high = w.high;
+    if mark == KY {
+        return Record::Key {
+            length: mid as usize,
+            start: high as usize,
+        };
+    }
+    if mark == ST {
+        return Record::Str {
+            length: mid as usize,
+            start: high as usize,
+        };
+    }
+    if mark == NB {
+        return Record::Number(Number::Finite {
+            minus: low == 1,
+            coefficient: high,
+            power: numbers::signed32(mid as u32),
+        });
+    }
+    if mark == AR {
+        return Record::Array { end: high as usize };
+    }
+    if mark == OB {
+        return Record::Object { end: high as usize };
+    }
+    let r = record_of(Words {
+        mark: mark,
+        low: low,
+        mid: mid,
+        high: high,
+    });
+    r
+}
+
 // The record with these four numbers, or none: a record's own numbers are these, or no record has them.
 fn shape_of(w: Words) -> Shape
     requires { ⌜ Loaded w ⌝ }
@@ -276,19 +330,35 @@ fn shape_of(w: Words) -> Shape
     Shape::Record(r)
 }
 
+// The four numbers in the sixteen bytes from the place `at`.
+pub fn words_at(tape: &[u8], at: usize) -> Words
+    requires { ⌜ at + 16 ≤ length (now tape) ⌝ }
+    ensures { λ w. ⌜ w ≡ wordsAt (now (tape .entry)) at ⌝ }
+{
+    let mark = numbers::load2(tape, at);
+    let low = numbers::load2(tape, at + 2);
+    let mid = numbers::load4(tape, at + 4);
+    let high = numbers::load8(tape, at + 8);
+    Words {
+        mark: mark,
+        low: low,
+        mid: mid,
+        high: high,
+    }
+}
+
 // What stands in the sixteen bytes from the place `at`.
 pub fn shape_at(tape: &[u8], at: usize) -> Shape
     requires { ⌜ at + 16 ≤ length (now tape) ⌝ }
     ensures { λ s. ⌜ Shaped (wordsAt (now (tape .entry)) at) s ⌝ }
 {
-    let mark = numbers::load(tape, at, 2);
-    let low = numbers::load(tape, at + 2, 2);
-    let mid = numbers::load(tape, at + 4, 4);
-    let high = numbers::load(tape, at + 8, 8);
-    shape_of(Words {
-        mark: mark,
-        low: low,
-        mid: mid,
-        high: high,
-    })
+    shape_of(words_at(tape, at))
+}
+
+// The one record that may stand in the sixteen bytes from the place `at`.
+pub fn only_at(tape: &[u8], at: usize) -> Record
+    requires { ⌜ at + 16 ≤ length (now tape) ⌝ }
+    ensures { λ r. ⌜ r ≡ onlyRecord (wordsAt (now (tape .entry)) at) ⌝ }
+{
+    common_record(words_at(tape, at))
 }

@@ -18,7 +18,7 @@ pub const BEFORE_KEY: u8 = 3;
 pub const AFTER_KEY: u8 = 4;
 
 // The state after a value; 0 where no value may stand.
-fn after_value(state: u8) -> u8
+pub fn after_value(state: u8) -> u8
     ensures { λ s. ⌜ s ≡ afterValue state ⌝ }
 {
     if state == NOTHING {
@@ -34,7 +34,7 @@ fn after_value(state: u8) -> u8
 }
 
 // The state after a key; 0 where no key may stand.
-fn after_key(state: u8) -> u8
+pub fn after_key(state: u8) -> u8
     ensures { λ s. ⌜ s ≡ afterKey state ⌝ }
 {
     if state == BEFORE_KEY {
@@ -44,7 +44,7 @@ fn after_key(state: u8) -> u8
 }
 
 // A record that holds no bytes.
-fn pass(next: u8, at: usize) -> Turn
+pub fn pass(next: u8, at: usize) -> Turn
     ensures { λ t. ⌜ t ≡ passOf next at ⌝ }
 {
     if next == 0 {
@@ -54,7 +54,7 @@ fn pass(next: u8, at: usize) -> Turn
 }
 
 // A string, a key or a binary: it starts where the one before ended.
-fn pass_bytes(next: u8, length: usize, start: usize, at: usize) -> Turn
+pub fn pass_bytes(next: u8, length: usize, start: usize, at: usize) -> Turn
     requires { ⌜ start + length < 2 ^ 64 ⌝ }
     ensures { λ t. ⌜ t ≡ passBytesOf next length start at ⌝ }
 {
@@ -68,7 +68,7 @@ fn pass_bytes(next: u8, length: usize, start: usize, at: usize) -> Turn
 }
 
 // A container: not too deep.
-fn open(next: u8, end: usize, inner: u8, depth: usize) -> Turn
+pub fn open(next: u8, end: usize, inner: u8, depth: usize) -> Turn
     ensures { λ t. ⌜ t ≡ openOf next end inner depth ⌝ }
 {
     if next == 0 {

@@ -10,15 +10,10 @@ use borrow.Author.Tests.{eq-eqb, ne-eqb}
 use Rattle.meaning.specs.declared.Number.{Number}
 use Rattle.meaning.specs.declared.Time.{Time}
 use Rattle.meaning.specs.declared.Record.{Record}
-use Rattle.meaning.specs.declared.Refusal.{Refusal}
 use Rattle.meaning.specs.Letters.{letters}
-use Rattle.meaning.specs.Look.{RecordAt}
 use Rattle.meaning.specs.Canonical.{numberText, quoted, binaryText, timeText}
-use Rattle.meaning.proofs.Look.{one-record}
 use Rattle.meaning.proofs.Quotes.{pairs-length}
-use Rattle.tape.specs.declared.Looked.{Looked}
-use Rattle.tape.specs.Looking.{Looks, found, past-end, not-one}
-use Rattle.writer.specs.Walk.{part, printed, closes, follows, share, RecordIs}
+use Rattle.writer.specs.Walk.{part, printed, closes, follows, share}
 use Rattle.writer.proofs.Pieces.{binary-is}
 
 pub closes-none : (end i : ℕ) → end ≡ i + 1 → closes end i ≡ 2
@@ -133,22 +128,3 @@ module _ {r : Record} (i : ℕ) (store : List ℕ) where
   pub object-share : {end : ℕ} → r ≡ Record.Object end → share r i store ≡ 1 + closes end i
   unfolding printed follows
   object-share e = same e
-
--- ---- the record at an index
-
-module _ (tape store : List ℕ) (index : ℕ) {x : Looked} (d : Looks tape store index x) where
-  pub record-is : (r : Record) → x ≡ Looked.Record r → RecordIs tape store index r
-  record-is r q = record { is = λ s a. looked d q s a }
-    where
-      looked : {x : Looked} → Looks tape store index x → x ≡ Looked.Record r → (s : Record) → RecordAt tape store index s → r ≡ s
-      looked (found {r = y} b) q s a = let z : r ≡ y = cc in z ∙ one-record tape store index y s b a
-      looked (past-end h) q s a = let z : _≡_ {A = ℕ} 0 1 = cc in absurd (omega arith)
-      looked (not-one h n) q s a = let z : _≡_ {A = ℕ} 0 1 = cc in absurd (omega arith)
-
-  pub no-record : (r : Record) {why : Refusal} → x ≡ Looked.Refused why → RecordIs tape store index r
-  no-record r {why} q = record { is = λ s a. absurd (refused d q s a) }
-    where
-      refused : {x : Looked} → Looks tape store index x → x ≡ Looked.Refused why → (s : Record) → RecordAt tape store index s → ⊥
-      refused (found b) q s a = let z : _≡_ {A = ℕ} 0 1 = cc in absurd (omega arith)
-      refused (past-end h) q s a = omega (arith, a .within)
-      refused (not-one h n) q s a = n s a

@@ -17,11 +17,12 @@ use Rattle.meaning.proofs.Whole.{one-meaning, well-formed-length}
 use Rattle.meaning.proofs.Look.{well-formed-record}
 use Rattle.meaning.proofs.Json.{json-on, json-stop, json-end, json-whole}
 use Rattle.meaning.proofs.Text.{canonical-below}
+use Rattle.tape.specs.Standing.{RecordIs}
 use Rattle.tape.specs.Turns.{bytesEnd}
 use Rattle.writer.specs.declared.Turn.{Turn}
 use Rattle.writer.specs.declared.Formless.{Formless}
 use Rattle.writer.specs.Laid.{PutAt}
-use Rattle.writer.specs.Walk.{printed, commaText, turnOf, share, RecordIs, TextFits, TextLength, TextPut, at, nowhere, FirstFormless}
+use Rattle.writer.specs.Walk.{printed, commaText, turnOf, share, TextFits, TextLength, TextPut, at, nowhere, FirstFormless}
 use Rattle.writer.proofs.Laid.{put-as, put-whole, Writing, begin, writing-as, writing-put, writing-room, writing-length, finish}
 use Rattle.writer.proofs.Shares.{shares, shares-at, shares-end, value-shares}
 use Rattle.writer.proofs.Printing.{Prints, Stack, bottom, frames, frames-height, frames-push, frames-pop, frames-none, prints-all, prints-done, prints-close, prints-take, Takes, Closes}
@@ -57,10 +58,10 @@ module _ (tape store : List ℕ) (w : WellFormed tape store) where
   there i h = well-formed-record tape store w i (omega (arith, whole-is, records-length (w .meaning) 0 0))
 
   -- the record that was read is the meaning's
-  pub read-is : (i : ℕ) (r : Record) → i < wholeRecords tape → RecordIs tape store i r → r ≡ getD (recordsIn w) i Record.Null
-  read-is i r h d = d .is (getD (recordsIn w) i Record.Null) (there i h)
+  pub read-is : (i : ℕ) (r : Record) → i < wholeRecords tape → RecordIs tape i r → r ≡ getD (recordsIn w) i Record.Null
+  read-is i r h d = d .is store (getD (recordsIn w) i Record.Null) (there i h)
 
-  pub read-bytes : (i : ℕ) (r : Record) → i < wholeRecords tape → RecordIs tape store i r → bytesEnd r ≤ length store
+  pub read-bytes : (i : ℕ) (r : Record) → i < wholeRecords tape → RecordIs tape i r → bytesEnd r ≤ length store
   read-bytes i r h d =
       let s = getD (recordsIn w) i Record.Null in
       subst (λ (x : Record). bytesEnd x ≤ length store) (sym (read-is i r h d)) (own-bytes s i (wholeRecords tape) store (there i h .own))
@@ -80,7 +81,7 @@ module _ (tape store : List ℕ) where
       }
 
   module _ {total i : ℕ} (s : Summing tape store total i) where
-    pub sum-more : (r : Record) (n : ℕ) → i < wholeRecords tape → RecordIs tape store i r → n ≡ share r i store → Summing tape store (total + n) (i + 1)
+    pub sum-more : (r : Record) (n : ℕ) → i < wholeRecords tape → RecordIs tape i r → n ≡ share r i store → Summing tape store (total + n) (i + 1)
     sum-more r n h d e =
         let w = s .well in
         let q : n ≡ share (getD (recordsIn w) i Record.Null) i store = e ∙ ap (λ (x : Record). share x i store) (read-is tape store w i r h d) in
@@ -112,7 +113,7 @@ module _ (tape store : List ℕ) where
   search-begin = record { so-far = λ w. json-whole (w .meaning) }
 
   module _ {i : ℕ} (s : Searching tape store i) where
-    module _ (r : Record) (h : i < wholeRecords tape) (d : RecordIs tape store i r) where
+    module _ (r : Record) (h : i < wholeRecords tape) (d : RecordIs tape i r) where
       form : (w : WellFormed tape store) {b : Bool} → jsonForm r ≡ b → jsonForm (getD (recordsIn w) i Record.Null) ≡ b
       form w e = sym (ap jsonForm (read-is tape store w i r h d)) ∙ e
 
@@ -205,61 +206,60 @@ module _ (tape store o : List ℕ) where
       pub walk-inside : i < wholeRecords tape
       walk-inside = omega (arith, takes .inside, whole-is tape store (s .well))
 
-      module _ (r : Record) (d : RecordIs tape store i r) where
-        read : getD (recordsIn (s .well)) i Record.Null ≡ r
+      abbrev here : Record
+      here = getD (recordsIn (s .well)) i Record.Null
+
+      comes : Writing (canonical (s .well .meaning)) (commaText comma ++ (printed here store ++ takes .rest)) 0 o out place
+      comes = writing-as (takes .text ∙ append-assoc (commaText comma) (printed here store) (takes .rest)) (s .writing)
+
+      pub walk-comma : place + length (commaText comma) ≤ length out
+      walk-comma = writing-room (commaText comma) (printed here store ++ takes .rest) comes
+
+      pub walk-bytes : (r : Record) → RecordIs tape i r → bytesEnd r ≤ length store
+      walk-bytes r d = read-bytes tape store (s .well) i r walk-inside d
+
+      module _ {mid : List ℕ} {p : ℕ} (a : PutAt (commaText comma) place out mid p) (r : Record) (d : RecordIs tape i r) where
+        read : here ≡ r
         read = sym (read-is tape store (s .well) i r walk-inside d)
 
-        comes : Writing (canonical (s .well .meaning)) (commaText comma ++ (printed r store ++ takes .rest)) 0 o out place
-        comes =
-            writing-as
-            (takes .text ∙ ap (λ (x : Record). commaText comma ++ printed x store ++ takes .rest) read
-            ∙ append-assoc (commaText comma) (printed r store) (takes .rest)) (s .writing)
+        after-comma : Writing (canonical (s .well .meaning)) (printed r store ++ takes .rest) 0 o mid p
+        after-comma = writing-as (ap (λ (x : Record). printed x store ++ takes .rest) read) (writing-put (commaText comma) comes a)
 
-        pub walk-comma : place + length (commaText comma) ≤ length out
-        walk-comma = writing-room (commaText comma) (printed r store ++ takes .rest) comes
+        pub walk-piece : p + length (printed r store) ≤ length mid
+        walk-piece = writing-room (printed r store) (takes .rest) after-comma
 
-        pub walk-bytes : bytesEnd r ≤ length store
-        walk-bytes = read-bytes tape store (s .well) i r walk-inside d
+        module _ {out′ : List ℕ} {q : ℕ} (b : PutAt (printed r store) p mid out′ q) (t : Turn) (e : t ≡ turnOf r) where
+          turned : turnOf here ≡ t
+          turned = ap turnOf read ∙ sym e
 
-        module _ {mid : List ℕ} {p : ℕ} (a : PutAt (commaText comma) place out mid p) where
-          after-comma : Writing (canonical (s .well .meaning)) (printed r store ++ takes .rest) 0 o mid p
-          after-comma = writing-put (commaText comma) comes a
+          pub walk-pass : (due : Bool) → t ≡ Turn.Pass due → Walking tape store o out′ ends closers depth end closer due q (i + 1)
+          walk-pass due f =
+              record {
+                well = s .well;
+                rest = takes .rest;
+                prints = takes .passed due (turned ∙ f);
+                writing = writing-put (printed r store) after-comma b;
+                deep = s .deep;
+                ends-size = s .ends-size;
+                closers-size = s .closers-size;
+              }
 
-          pub walk-piece : p + length (printed r store) ≤ length mid
-          walk-piece = writing-room (printed r store) (takes .rest) after-comma
+          module _ (last bracket : ℕ) (f : t ≡ Turn.Open last bracket) where
+            pub walk-shallow : depth < 64
+            walk-shallow = omega (arith, takes .entered last bracket (turned ∙ f) .0, frames-height depth ends closers, depth-limit)
 
-          module _ {out′ : List ℕ} {q : ℕ} (b : PutAt (printed r store) p mid out′ q) (t : Turn) (e : t ≡ turnOf r) where
-            turned : turnOf (getD (recordsIn (s .well)) i Record.Null) ≡ t
-            turned = ap turnOf read ∙ sym e
-
-            pub walk-pass : (due : Bool) → t ≡ Turn.Pass due → Walking tape store o out′ ends closers depth end closer due q (i + 1)
-            walk-pass due f =
+            pub walk-open : Walking tape store o out′ (set ends depth end) (set closers depth closer) (depth + 1) last bracket false q (i + 1)
+            walk-open =
+                let l = walk-shallow in
                 record {
                   well = s .well;
                   rest = takes .rest;
-                  prints = takes .passed due (turned ∙ f);
+                  prints =
+                      subst (λ (x : Stack). Prints (recordsIn (s .well)) store (i + 1) false last bracket x (takes .rest))
+                      (sym (frames-push depth ends closers end closer (omega (arith, s .ends-size)) (omega (arith, s .closers-size))))
+                      (takes .entered last bracket (turned ∙ f) .1);
                   writing = writing-put (printed r store) after-comma b;
-                  deep = s .deep;
-                  ends-size = s .ends-size;
-                  closers-size = s .closers-size;
+                  deep = omega arith;
+                  ends-size = length-set ends depth end ∙ s .ends-size;
+                  closers-size = length-set closers depth closer ∙ s .closers-size;
                 }
-
-            module _ (last bracket : ℕ) (f : t ≡ Turn.Open last bracket) where
-              pub walk-shallow : depth < 64
-              walk-shallow = omega (arith, takes .entered last bracket (turned ∙ f) .0, frames-height depth ends closers, depth-limit)
-
-              pub walk-open : Walking tape store o out′ (set ends depth end) (set closers depth closer) (depth + 1) last bracket false q (i + 1)
-              walk-open =
-                  let l = walk-shallow in
-                  record {
-                    well = s .well;
-                    rest = takes .rest;
-                    prints =
-                        subst (λ (x : Stack). Prints (recordsIn (s .well)) store (i + 1) false last bracket x (takes .rest))
-                        (sym (frames-push depth ends closers end closer (omega (arith, s .ends-size)) (omega (arith, s .closers-size))))
-                        (takes .entered last bracket (turned ∙ f) .1);
-                    writing = writing-put (printed r store) after-comma b;
-                    deep = omega arith;
-                    ends-size = length-set ends depth end ∙ s .ends-size;
-                    closers-size = length-set closers depth closer ∙ s .closers-size;
-                  }

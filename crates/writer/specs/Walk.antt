@@ -10,7 +10,6 @@ use Rattle.meaning.specs.declared.Record.{Record}
 use Rattle.meaning.specs.Letters.{letters, ch}
 use Rattle.meaning.specs.Meaning.{Meaning}
 use Rattle.meaning.specs.Tape.{WellFormed}
-use Rattle.meaning.specs.Look.{RecordAt}
 use Rattle.meaning.specs.Canonical.{numberText, quoted, binaryText, timeText, canonical}
 use Rattle.meaning.specs.Json.{noJson}
 use Rattle.writer.specs.declared.Turn.{Turn}
@@ -71,10 +70,6 @@ abbrev pub share : Record → ℕ → List ℕ → ℕ
 share r index store = length (printed r store) + follows r index
 
 -- ---- what the functions of the walk promise of a well-formed tape
-
--- r is the record at this index, if there is one
-pub record RecordIs (tape store : List ℕ) (index : ℕ) (r : Record) : Type 0 where
-  pub is : (s : Record) → RecordAt tape store index s → r ≡ s
 
 -- well formed, and its text fits into so many bytes
 pub record TextFits (tape store : List ℕ) (room : ℕ) : Type 0 where

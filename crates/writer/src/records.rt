@@ -9,7 +9,7 @@ ghost use Rattle.meaning.specs.Canonical.{quoted};
 ghost use Rattle.meaning.specs.Json.{jsonForm};
 ghost use Rattle.tape.specs.Turns.{bytesEnd};
 ghost use Rattle.writer.specs.Laid.{PutAt};
-ghost use Rattle.writer.specs.Walk.{part, printed, commaText, turnOf, closes, share, RecordIs};
+ghost use Rattle.writer.specs.Walk.{part, printed, commaText, turnOf, closes, share};
 use crate::Turn;
 use crate::digits;
 use crate::numbers;
@@ -17,17 +17,6 @@ use crate::strings;
 use crate::times;
 use meaning::Number;
 use meaning::Record;
-use tape::Looked;
-
-// The record at this index of a well-formed tape.
-pub fn record_at(tape: &[u8], store: &[u8], index: usize) -> Record
-    ensures { λ r. ⌜ RecordIs (now (tape .entry)) (now (store .entry)) index r ⌝ }
-{
-    match tape::look(tape, store, index) {
-        Looked::Record(r) => r,
-        Looked::Refused(_) => Record::Null,
-    }
-}
 
 pub fn turn(r: Record) -> Turn
     ensures { λ t. ⌜ t ≡ turnOf r ⌝ }

@@ -19,7 +19,7 @@ pub fn text_len(tape: &[u8], store: &[u8]) -> usize
     let mut total: usize = 0;
     let mut i: usize = 0;
     while i < n {
-        let r = records::record_at(tape, store, i);
+        let r = tape::record_at(tape, i);
         total += records::share_of(r, i, store);
         i += 1;
     }
@@ -50,8 +50,8 @@ pub fn write_records(out: &mut [u8], tape: &[u8], store: &[u8]) -> usize
             closer = closers[depth];
             comma = true;
         } else {
-            let r = records::record_at(tape, store, i);
             let piece = records::comma_at(out, at, comma);
+            let r = tape::record_at(tape, i);
             at = records::printed_at(out, piece, r, store);
             match records::turn(r) {
                 Turn::Pass(due) => {
@@ -78,7 +78,7 @@ pub fn first_formless(tape: &[u8], store: &[u8]) -> Formless
     let n = tape.len() / 16;
     let mut i: usize = 0;
     while i < n {
-        let r = records::record_at(tape, store, i);
+        let r = tape::record_at(tape, i);
         if records::json_form(r) {
             i += 1;
         } else {

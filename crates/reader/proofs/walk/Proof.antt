@@ -76,7 +76,7 @@ same-length-4 c = search needs
 
 -- src/lib.rt:38:1
 returns-3 : tie.Need-returns-3
-returns-3 c = walk-refused (c .before .before .before .before .before .before .before .before .before .before .before .before .before .before .before .before .before .args .text .now) (c .before .before .before .before .before .before .before .before .before .before .before .first .given .0 .0) (subst (λ (r : Layout). LayoutSays (c .before .before .before .before .before .before .before .before .before .before .before .before .before .before .before .before .before .args .text .now) 0 r) (c .before .before .before .before .before .before .before .before .before .before .before .first .given .1) (c .before .before .before .before .before .before .before .before .before .before .before .before .before .pass .ensures)) (c .before .why .given .0 .0) (subst (λ (r : Step). Says (c .before .before .before .before .before .before .before .before .before .before .before .before .before .before .before .before .before .args .text .now) (wants 64) (λ k. Shut (c .before .before .before .before .before .before .before .before .before .before .before .before .before .before .before .before .before .args .text .now) (c .before .before .before .before .before .before .before .before .before .before .before .first .given .0 .0) 64 k) 64 (first-at (c .before .before .before .before .before .before .before .before .before .before .before .first .given .0 .0)) (c .before .before .before .before .before .before .before .before .before .before .before .before .before .before .before .before .before .args .tape .now) (c .before .before .before .before .before .before .before .value .last .1 .1 .1 .0) (c .before .before .before .before .before .before .before .before .before .before .before .before .before .before .before .before .before .args .store .now) (c .before .before .before .before .before .before .before .value .last .1 .1 .1 .1 .0) r) (c .before .why .given .1) (c .before .before .before .before .before .before .before .value .ensures))
+returns-3 c = walk-refused (c .before .before .before .before .before .before .before .before .before .before .before .before .before .before .before .before .before .args .text .now) (c .before .before .before .before .before .before .before .before .before .before .before .first .given .0 .0) (subst (λ (r : Layout). LayoutSays (c .before .before .before .before .before .before .before .before .before .before .before .before .before .before .before .before .before .args .text .now) 0 r) (c .before .before .before .before .before .before .before .before .before .before .before .first .given .1) (c .before .before .before .before .before .before .before .before .before .before .before .before .before .pass .ensures)) (c .before .why .given .0 .1 .0) (subst (λ (r : Step). Says (c .before .before .before .before .before .before .before .before .before .before .before .before .before .before .before .before .before .args .text .now) (wants 64) (λ k. Shut (c .before .before .before .before .before .before .before .before .before .before .before .before .before .before .before .before .before .args .text .now) (c .before .before .before .before .before .before .before .before .before .before .before .first .given .0 .0) 64 k) 64 (first-at (c .before .before .before .before .before .before .before .before .before .before .before .first .given .0 .0)) (c .before .before .before .before .before .before .before .before .before .before .before .before .before .before .before .before .before .args .tape .now) (c .before .before .before .before .before .before .before .value .last .1 .1 .1 .0) (c .before .before .before .before .before .before .before .before .before .before .before .before .before .before .before .before .before .args .store .now) (c .before .before .before .before .before .before .before .value .last .1 .1 .1 .1 .0) r) (c .before .why .given .1) (c .before .before .before .before .before .before .before .value .ensures))
 
 -- src/lib.rt:38:1
 same-length-5 : tie.Need-same-length-5

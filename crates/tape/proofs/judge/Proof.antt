@@ -1,12 +1,11 @@
 -- `judge`: the locals say the state of the machine that reads the records. Assumes nothing.
-use mathlib.Core.Path.{refl, sym, _∙_}
+use mathlib.Core.Path.{refl}
 use Prim.Native.Nat.{_+_, _-_, _*_}
 use native.Mathlib.Omega.{arith}
 use Rattle.meaning.specs.Limits.{depthLimit}
 use Rattle.meaning.proofs.Sizes.{depth-limit-small}
-use Rattle.tape.proofs.Looks.{looked-record}
-use Rattle.tape.proofs.Whole.{record-inside}
-use Rattle.tape.proofs.Link.{State, state-start, state-key, state-none, state-pop, state-well, state-left, state-open, state-no, state-pass, open-room, state-opened, answer-ill, answer-well, answer-fault, answer-not-whole, answer-many, answer-long}
+use Rattle.tape.proofs.Stepping.{passed, opened}
+use Rattle.tape.proofs.Link.{State, state-start, state-key, state-none, state-pop, state-well, state-left, state-open, state-pass, open-room, state-opened, answer-ill, answer-well, answer-no, answer-not-whole, answer-many, answer-long}
 use borrow.Author.Needs.{needs}
 use Rattle.tape.proofs.judge.Statement.{statement}
 use Rattle.tape.proofs.judge.Tie as tie
@@ -68,64 +67,52 @@ returns-7 c = answer-ill (c .before .before .before .before .loop .inv) (c .befo
 returns-8 : tie.Need-returns-8 Inv-loop μ-loop
 returns-8 c = answer-ill (c .before .before .before .loop .inv) (c .before .before .before .before .before .before .if1 .left) (state-open (c .before .before .before .loop .inv) (c .before .before .if4 .left) (c .before .if7 .taken) (c .if8 .left))
 
-look-requires : tie.Need-look-requires Inv-loop μ-loop
-look-requires c κs = search needs
+step-requires : tie.Need-step-requires Inv-loop μ-loop
+step-requires c κs = (omega (arith, c .if7 .left, c .before .before .loop .inv .within), c .before .before .before .if3 .left)
 
 enum-told : tie.Need-enum-told Inv-loop μ-loop
 enum-told c = search needs
 
 returns-9 : tie.Need-returns-9 Inv-loop μ-loop
-returns-9 c = answer-fault (c .before .before .before .before .before .loop .inv) (c .before .before .before .before .before .before .before .before .if1 .left) (c .before .before .before .if7 .left) (c .before .before .look .ensures) (c .enum-told .given .1)
-
-enum-known-r : tie.Need-enum-known-r Inv-loop μ-loop
-enum-known-r c = search needs
-
-turn-requires : tie.Need-turn-requires Inv-loop μ-loop
-turn-requires c κs = omega (arith, record-inside (looked-record (c .before .before .before .look .ensures) (c .before .r .given .1)), c .before .before .before .before .before .before .before .if3 .left)
-
-enum-told-2 : tie.Need-enum-told-2 Inv-loop μ-loop
-enum-told-2 c = search needs
-
-returns-10 : tie.Need-returns-10 Inv-loop μ-loop
-returns-10 c = answer-ill (c .before .before .before .before .before .before .before .before .before .loop .inv) (c .before .before .before .before .before .before .before .before .before .before .before .before .if1 .left) (state-no (c .before .before .before .before .before .before .before .before .before .loop .inv) (c .before .before .before .before .before .before .before .before .if4 .left) (c .before .before .before .before .before .before .before .if7 .left) _ (looked-record (c .before .before .before .before .before .before .look .ensures) (c .before .before .before .before .r .given .1)) (sym (c .enum-told2 .given .1) ∙ c .before .before .turn .ensures))
+returns-9 c = answer-no (c .before .before .before .before .before .loop .inv) (c .before .before .before .before .before .before .before .before .if1 .left) (c .before .before .before .before .if4 .left) (c .before .before .before .if7 .left) (c .before .before .step .ensures) (c .enum-told .given .1)
 
 enum-known-s : tie.Need-enum-known-s Inv-loop μ-loop
 enum-known-s c = search needs
 
 add-i : tie.Need-add-i Inv-loop μ-loop
-add-i c = omega (arith, c .before .before .before .before .before .before .before .before .if7 .left, c .before .before .before .before .before .before .before .before .before .before .loop .inv .within, c .before .before .before .before .before .before .before .before .before .before .loop .inv .few)
+add-i c = omega (arith, c .before .before .before .before .if7 .left, c .before .before .before .before .before .before .loop .inv .within, c .before .before .before .before .before .before .loop .inv .few)
 
 loop-less-2 : tie.Need-loop-less-2 Inv-loop μ-loop
-loop-less-2 c = omega (arith, c .before .before .before .before .before .before .before .before .if7 .left, c .before .before .before .before .before .before .before .before .before .before .loop .inv .within, c .before .before .before .before .before .before .before .before .before .before .loop .inv .few)
+loop-less-2 c = omega (arith, c .before .before .before .before .if7 .left, c .before .before .before .before .before .before .loop .inv .within, c .before .before .before .before .before .before .loop .inv .few)
 
 loop-again-2 : tie.Need-loop-again-2 Inv-loop μ-loop
-loop-again-2 c = state-pass (c .before .before .before .before .before .before .before .before .before .before .loop .inv) (c .before .before .before .before .before .before .before .before .before .if4 .left) (c .before .before .before .before .before .before .before .before .if7 .left) _ (looked-record (c .before .before .before .before .before .before .before .look .ensures) (c .before .before .before .before .before .r .given .1)) _ _ (sym (c .before .s .given .1) ∙ c .before .before .before .turn .ensures)
+loop-again-2 c = let p = passed (c .before .before .before .step .ensures) (c .before .s .given .1) in state-pass (c .before .before .before .before .before .before .loop .inv) (c .before .before .before .before .before .if4 .left) (c .before .before .before .before .if7 .left) (p .r) (p .there) _ _ (p .turned)
 
 enum-known-s-2 : tie.Need-enum-known-s-2 Inv-loop μ-loop
 enum-known-s-2 c = search needs
 
 mul-ends : tie.Need-mul-ends Inv-loop μ-loop
-mul-ends c = omega (arith, open-room (c .before .before .before .before .before .before .before .before .before .before .loop .inv) (c .before .before .before .before .before .before .before .before .before .if4 .left) (c .before .before .before .before .before .before .before .before .if7 .left) _ (looked-record (c .before .before .before .before .before .before .before .look .ensures) (c .before .before .before .before .before .r .given .1)) _ _ _ (sym (c .before .s2 .given .1) ∙ c .before .before .before .turn .ensures), depth-limit-small)
+mul-ends c = let p = opened (c .before .before .before .step .ensures) (c .before .s2 .given .1) in omega (arith, open-room (c .before .before .before .before .before .before .loop .inv) (c .before .before .before .before .before .if4 .left) (c .before .before .before .before .if7 .left) (p .r) (p .there) _ _ _ (p .turned), depth-limit-small)
 
 array-write-ends : tie.Need-array-write-ends Inv-loop μ-loop
 unfolding depthLimit
-array-write-ends c = omega (arith, open-room (c .before .before .before .before .before .before .before .before .before .before .loop .inv) (c .before .before .before .before .before .before .before .before .before .if4 .left) (c .before .before .before .before .before .before .before .before .if7 .left) _ (looked-record (c .before .before .before .before .before .before .before .look .ensures) (c .before .before .before .before .before .r .given .1)) _ _ _ (sym (c .before .s2 .given .1) ∙ c .before .before .before .turn .ensures))
+array-write-ends c = let p = opened (c .before .before .before .step .ensures) (c .before .s2 .given .1) in omega (arith, open-room (c .before .before .before .before .before .before .loop .inv) (c .before .before .before .before .before .if4 .left) (c .before .before .before .before .if7 .left) (p .r) (p .there) _ _ _ (p .turned))
 
 array-write-kinds : tie.Need-array-write-kinds Inv-loop μ-loop
 unfolding depthLimit
-array-write-kinds c = omega (arith, open-room (c .before .before .before .before .before .before .before .before .before .before .loop .inv) (c .before .before .before .before .before .before .before .before .before .if4 .left) (c .before .before .before .before .before .before .before .before .if7 .left) _ (looked-record (c .before .before .before .before .before .before .before .look .ensures) (c .before .before .before .before .before .r .given .1)) _ _ _ (sym (c .before .s2 .given .1) ∙ c .before .before .before .turn .ensures))
+array-write-kinds c = let p = opened (c .before .before .before .step .ensures) (c .before .s2 .given .1) in omega (arith, open-room (c .before .before .before .before .before .before .loop .inv) (c .before .before .before .before .before .if4 .left) (c .before .before .before .before .if7 .left) (p .r) (p .there) _ _ _ (p .turned))
 
 add-d : tie.Need-add-d Inv-loop μ-loop
-add-d c = omega (arith, open-room (c .before .before .before .before .before .before .before .before .before .before .loop .inv) (c .before .before .before .before .before .before .before .before .before .if4 .left) (c .before .before .before .before .before .before .before .before .if7 .left) _ (looked-record (c .before .before .before .before .before .before .before .look .ensures) (c .before .before .before .before .before .r .given .1)) _ _ _ (sym (c .before .s2 .given .1) ∙ c .before .before .before .turn .ensures), depth-limit-small)
+add-d c = let p = opened (c .before .before .before .step .ensures) (c .before .s2 .given .1) in omega (arith, open-room (c .before .before .before .before .before .before .loop .inv) (c .before .before .before .before .before .if4 .left) (c .before .before .before .before .if7 .left) (p .r) (p .there) _ _ _ (p .turned), depth-limit-small)
 
 add-i-2 : tie.Need-add-i-2 Inv-loop μ-loop
-add-i-2 c = omega (arith, c .before .before .before .before .before .before .before .before .if7 .left, c .before .before .before .before .before .before .before .before .before .before .loop .inv .within, c .before .before .before .before .before .before .before .before .before .before .loop .inv .few)
+add-i-2 c = omega (arith, c .before .before .before .before .if7 .left, c .before .before .before .before .before .before .loop .inv .within, c .before .before .before .before .before .before .loop .inv .few)
 
 loop-less-3 : tie.Need-loop-less-3 Inv-loop μ-loop
-loop-less-3 c = omega (arith, c .before .before .before .before .before .before .before .before .if7 .left, c .before .before .before .before .before .before .before .before .before .before .loop .inv .within, c .before .before .before .before .before .before .before .before .before .before .loop .inv .few)
+loop-less-3 c = omega (arith, c .before .before .before .before .if7 .left, c .before .before .before .before .before .before .loop .inv .within, c .before .before .before .before .before .before .loop .inv .few)
 
 loop-again-3 : tie.Need-loop-again-3 Inv-loop μ-loop
-loop-again-3 c = state-opened (c .before .before .before .before .before .before .before .before .before .before .loop .inv) (c .before .before .before .before .before .before .before .before .before .if4 .left) (c .before .before .before .before .before .before .before .before .if7 .left) _ (looked-record (c .before .before .before .before .before .before .before .look .ensures) (c .before .before .before .before .before .r .given .1)) _ _ _ (sym (c .before .s2 .given .1) ∙ c .before .before .before .turn .ensures)
+loop-again-3 c = let p = opened (c .before .before .before .step .ensures) (c .before .s2 .given .1) in state-opened (c .before .before .before .before .before .before .loop .inv) (c .before .before .before .before .before .if4 .left) (c .before .before .before .before .if7 .left) (p .r) (p .there) _ _ _ (p .turned)
 
 pub judge-spec : {M : Type 1} → statement M
 judge-spec =
@@ -149,13 +136,9 @@ judge-spec =
     returns-6
     returns-7
     returns-8
-    look-requires
+    step-requires
     enum-told
     returns-9
-    enum-known-r
-    turn-requires
-    enum-told-2
-    returns-10
     enum-known-s
     add-i
     loop-less-2

@@ -1,71 +1,55 @@
--- What the digits begin, read on. Assumes nothing.
-use Rattle.items.proofs.NumericsLeads.{lead-is}
+-- A short number, where the first digit is not 0 and the byte after the digits makes no time of them. Assumes nothing.
+use mathlib.Core.Path.{subst}
+use mathlib.Core.Bool.{Bool}
+use Rattle.items.specs.Numerics.{TimelySays}
+use Rattle.items.proofs.NumericsLeads.{plain-leads, plain-small}
 use borrow.Author.Needs.{needs}
 use Rattle.items.proofs.numerics.unsigned.Statement.{statement}
 use Rattle.items.proofs.numerics.unsigned.Tie as tie
 use Rattle.items.proofs.numerics.unsigned.Reads as reads
+use Rattle.items.proofs.numerics.unsigned.Lts as lts
+use Rattle.items.proofs.numbers.plain_digits.Reads as plain-digits-reads
+use Rattle.items.proofs.numbers.rest.Reads as rest-reads
+use Rattle.items.proofs.numerics.open.Reads as open-reads
+use Rattle.items.proofs.numerics.timely.Reads as timely-reads
 
-leading-requires : tie.Need-leading-requires
-leading-requires c κs = search needs
+shared-slice-read-if1 : tie.Need-shared-slice-read-if1
+shared-slice-read-if1 c = search needs
 
-enum-known-x : tie.Need-enum-known-x
-enum-known-x c = search needs
-
-decimal-requires : tie.Need-decimal-requires
-decimal-requires c κs = lead-is _ _ _ _ (c .before .before .before .leading .ensures) (c .before .x .given .1) .0
-
-enum-known-at : tie.Need-enum-known-at
-enum-known-at c = search needs
-
-hexadecimal-requires : tie.Need-hexadecimal-requires
-hexadecimal-requires c κs = record { within = lead-is _ _ _ _ (c .before .before .before .leading .ensures) (c .before .at .given .1) .0; short = c .before .before .before .before .before .pre .short }
-
-enum-known-v : tie.Need-enum-known-v
-enum-known-v c = search needs
-
-after-hour-requires : tie.Need-after-hour-requires
-after-hour-requires c κs = record { within = lead-is _ _ _ _ (c .before .before .before .leading .ensures) (c .before .v .given .1) .0; short = c .before .before .before .before .before .pre .short }
-
-enum-known-v-2 : tie.Need-enum-known-v-2
-enum-known-v-2 c = search needs
-
-after-year-requires : tie.Need-after-year-requires
-after-year-requires c κs = record { within = lead-is _ _ _ _ (c .before .before .before .leading .ensures) (c .before .v2 .given .1) .0; short = c .before .before .before .before .before .pre .short }
-
-enum-known-p : tie.Need-enum-known-p
-enum-known-p c = search needs
+open-requires : tie.Need-open-requires
+open-requires c κs = search needs
 
 returns : tie.Need-returns
-returns c = let g = lead-is _ _ _ _ (c .before .before .before .before .leading .ensures) (c .before .before .x .given .1) .1 in g .2 _ (c .decimal .ensures .reads (g .0) (g .1))
+returns c = search needs
+
+plain-digits-requires : tie.Need-plain-digits-requires
+plain-digits-requires c κs = search needs
+
+timely-requires : tie.Need-timely-requires
+timely-requires c κs = search needs
+
+open-requires-2 : tie.Need-open-requires-2
+open-requires-2 c κs = search needs
 
 returns-2 : tie.Need-returns-2
-returns-2 c = lead-is _ _ _ _ (c .before .before .before .before .leading .ensures) (c .before .before .at .given .1) .1 _ (c .hexadecimal .ensures)
+returns-2 c = search needs
+
+rest-requires : tie.Need-rest-requires
+rest-requires c κs = (record { within = c .before .before .plain-digits .ensures .high; short = (c .before .before .before .before .before .before .pre) .short }, plain-small (c .before .before .before .before .before .before .args .s .now) (c .before .before .before .before .before .before .args .q) (c .before .before .before .if1 .left) (c .before .before .plain-digits .result) (c .before .before .plain-digits .ensures) ((c .before .before .before .before .before .before .pre) .digit) ((c .before .before .before .before .before .before .pre) .within) (subst (λ (b : Bool). TimelySays (c .before .before .before .before .before .before .args .s .now) (c .before .before .plain-digits .result .at) b) (c .if2 .left) (c .before .timely .ensures)))
 
 returns-3 : tie.Need-returns-3
-returns-3 c = lead-is _ _ _ _ (c .before .before .before .before .leading .ensures) (c .before .before .v .given .1) .2 _ (c .after-hour .ensures)
-
-returns-4 : tie.Need-returns-4
-returns-4 c = lead-is _ _ _ _ (c .before .before .before .before .leading .ensures) (c .before .before .v2 .given .1) .2 _ (c .after-year .ensures)
-
-returns-5 : tie.Need-returns-5
-returns-5 c = lead-is _ _ _ _ (c .before .before .before .leading .ensures) (c .before .p .given .1)
+returns-3 c = plain-leads (c .before .before .before .before .before .before .before .args .s .now) (c .before .before .before .before .before .before .before .args .q) (c .before .before .before .before .if1 .left) (c .before .before .before .plain-digits .result) (c .before .before .before .plain-digits .ensures) ((c .before .before .before .before .before .before .before .pre) .digit) ((c .before .before .before .before .before .before .before .pre) .within) (subst (λ (b : Bool). TimelySays (c .before .before .before .before .before .before .before .args .s .now) (c .before .before .before .plain-digits .result .at) b) (c .before .if2 .left) (c .before .before .timely .ensures)) _ (c .rest .ensures)
 
 pub unsigned-spec : {M : Type 1} → statement M
 unsigned-spec =
     tie.close
     (tie.spec
-    leading-requires
-    enum-known-x
-    decimal-requires
-    enum-known-at
-    hexadecimal-requires
-    enum-known-v
-    after-hour-requires
-    enum-known-v-2
-    after-year-requires
-    enum-known-p
+    shared-slice-read-if1
+    open-requires
     returns
+    plain-digits-requires
+    timely-requires
+    open-requires-2
     returns-2
-    returns-3
-    returns-4
-    returns-5)
+    rest-requires
+    returns-3)

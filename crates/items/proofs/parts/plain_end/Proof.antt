@@ -1,12 +1,18 @@
--- The bytes so far are plain. Assumes nothing.
+-- The blocks passed so far are plain. Assumes nothing.
+use mathlib.Core.Path.{subst}
+use mathlib.Core.Bool.{Bool}
 use Prim.Native.Nat.{_-_}
 use native.Mathlib.Omega.{arith}
 use lib.ListN.{length}
-use Rattle.items.proofs.PartsTurns.{Passing, pass-none, pass-more, pass-stop, pass-end, plain-slash, plain-quote, plain-low}
+use Rattle.items.specs.Parts.{BlockSays}
+use Rattle.items.proofs.PartsBlocks.{pass-plains, pass-then}
+use Rattle.items.proofs.PartsTurns.{Passing, pass-none}
 use Rattle.items.proofs.parts.plain_end.Statement.{statement}
 use Rattle.items.proofs.parts.plain_end.Tie as tie
 use Rattle.items.proofs.parts.plain_end.Reads as reads
 use Rattle.items.proofs.parts.plain_end.Lts as lts
+use Rattle.items.proofs.parts.plain_block.Reads as plain-block-reads
+use Rattle.items.proofs.parts.plain_bytes.Reads as plain-bytes-reads
 
 abbrev Inv-loop : tie.InvT-loop
 Inv-loop s from q at₀ at = Passing s q at₀ at
@@ -15,19 +21,13 @@ abbrev μ-loop : tie.MeasureT-loop
 μ-loop s from q at₀ at = length s - at
 
 loop-holds : tie.Need-loop-holds Inv-loop μ-loop
-loop-holds c = pass-none (c .args .s .now) (c .args .q) (c .args .from) (omega arith)
+loop-holds c = pass-none (c .before .args .s .now) (c .before .args .q) (c .before .args .from) (omega arith)
 
-shared-slice-read-b : tie.Need-shared-slice-read-b Inv-loop μ-loop
-shared-slice-read-b c = omega arith
+sub-loop : tie.Need-sub-loop Inv-loop μ-loop
+sub-loop c = omega arith
 
-returns : tie.Need-returns Inv-loop μ-loop
-returns c = pass-stop (c .before .before .before .before .args .s .now) (c .before .before .before .before .args .q) (c .before .before .before .before .args .from) (c .before .before .before .loop .at) (c .before .before .before .loop .inv) (c .before .before .loop-test .taken) (plain-slash (c .before .before .before .before .args .q) _ (c .if1 .taken))
-
-returns-2 : tie.Need-returns-2 Inv-loop μ-loop
-returns-2 c = pass-stop (c .before .before .before .before .before .args .s .now) (c .before .before .before .before .before .args .q) (c .before .before .before .before .before .args .from) (c .before .before .before .before .loop .at) (c .before .before .before .before .loop .inv) (c .before .before .before .loop-test .taken) (plain-quote (c .before .before .before .before .before .args .q) _ (c .before .if1 .left) (c .if2 .taken))
-
-returns-3 : tie.Need-returns-3 Inv-loop μ-loop
-returns-3 c = pass-stop (c .before .before .before .before .before .before .args .s .now) (c .before .before .before .before .before .before .args .q) (c .before .before .before .before .before .before .args .from) (c .before .before .before .before .before .loop .at) (c .before .before .before .before .before .loop .inv) (c .before .before .before .before .loop-test .taken) (plain-low (c .before .before .before .before .before .before .args .q) _ (c .before .before .if1 .left) (c .before .if2 .left) (c .if3 .taken))
+plain-block-requires : tie.Need-plain-block-requires Inv-loop μ-loop
+plain-block-requires c κs = omega arith
 
 add-at : tie.Need-add-at Inv-loop μ-loop
 add-at c = omega arith
@@ -36,10 +36,19 @@ loop-less : tie.Need-loop-less Inv-loop μ-loop
 loop-less c = omega arith
 
 loop-again : tie.Need-loop-again Inv-loop μ-loop
-loop-again c = pass-more (c .before .before .before .before .before .before .args .s .now) (c .before .before .before .before .before .before .args .q) (c .before .before .before .before .before .before .args .from) (c .before .before .before .before .before .loop .at) (c .before .before .before .before .before .loop .inv) (c .before .before .before .before .loop-test .taken) (c .before .before .if1 .left) (c .before .if2 .left) (c .if3 .left) (omega (arith, c .before .before .before .shared-slice-known .given (c .before .before .before .before .before .loop .at)))
+loop-again c = pass-plains (c .before .before .before .before .before .args .s .now) (c .before .before .before .before .before .args .q) (c .before .before .before .before .before .args .from) (c .before .before .before .loop .at) 16 (c .before .before .before .loop .inv) (subst (λ (r : Bool). BlockSays (c .before .before .before .before .before .args .s .now) (c .before .before .before .before .before .args .q) (c .before .before .before .loop .at) r) (c .if1 .taken) (c .before .plain-block .ensures)) (omega arith)
 
-returns-4 : tie.Need-returns-4 Inv-loop μ-loop
-returns-4 c = pass-end (c .before .before .args .s .now) (c .before .before .args .q) (c .before .before .args .from) (c .before .loop .at) (c .before .loop .inv) (c .loop-test .left)
+plain-bytes-requires : tie.Need-plain-bytes-requires Inv-loop μ-loop
+plain-bytes-requires c κs = omega arith
+
+returns : tie.Need-returns Inv-loop μ-loop
+returns c = pass-then (c .before .before .before .before .before .before .args .s .now) (c .before .before .before .before .before .before .args .q) (c .before .before .before .before .before .before .args .from) (c .before .before .before .before .loop .at) (c .plain-bytes .result) (c .before .before .before .before .loop .inv) (c .plain-bytes .ensures)
+
+plain-bytes-requires-2 : tie.Need-plain-bytes-requires-2 Inv-loop μ-loop
+plain-bytes-requires-2 c κs = omega arith
+
+returns-2 : tie.Need-returns-2 Inv-loop μ-loop
+returns-2 c = pass-then (c .before .before .before .before .args .s .now) (c .before .before .before .before .args .q) (c .before .before .before .before .args .from) (c .before .before .loop .at) (c .plain-bytes2 .result) (c .before .before .loop .inv) (c .plain-bytes2 .ensures)
 
 pub plain-end-spec : {M : Type 1} → statement M
 plain-end-spec =
@@ -48,11 +57,12 @@ plain-end-spec =
     Inv-loop
     μ-loop
     loop-holds
-    shared-slice-read-b
-    returns
-    returns-2
-    returns-3
+    sub-loop
+    plain-block-requires
     add-at
     loop-less
     loop-again
-    returns-4)
+    plain-bytes-requires
+    returns
+    plain-bytes-requires-2
+    returns-2)

@@ -1,72 +1,52 @@
-use borrow.Author.Needs.{needs}
+-- No layout stands there, or all of it is passed. Assumes nothing.
 use native.Mathlib.Omega.{arith}
-use Prim.Native.Nat.{_-_}
-use lib.ListN.{length}
-use Rattle.reader.proofs.Blanked.{Laying, laying, laid-end, laid-stop, laid-breaks, laid-more}
+use lib.ListN.{getD}
+use Rattle.reader.proofs.Blanked.{none-yet, blanks-stop, laying, laid-stop}
+use Rattle.reader.proofs.Classes.{not-blank, not-hash, not-slash}
+use borrow.Author.Needs.{needs}
 use Rattle.reader.proofs.layouts.pass.Statement.{statement}
 use Rattle.reader.proofs.layouts.pass.Tie as tie
 use Rattle.reader.proofs.layouts.pass.Reads as reads
 use Rattle.reader.proofs.layouts.pass.Lts as lts
-use Rattle.reader.proofs.layouts.blanks.Reads as blanks-reads
-use Rattle.reader.proofs.layouts.comment_at.Reads as comment-at-reads
+use Rattle.reader.proofs.layouts.long_pass.Reads as long-pass-reads
 
-abbrev Inv-loop : tie.InvT-loop
-Inv-loop text from at₀ at = Laying text from at
+returns : tie.Need-returns
+returns c = search needs
 
-abbrev μ-loop : tie.MeasureT-loop
-μ-loop text from at₀ at = length text - at
+shared-slice-read-b : tie.Need-shared-slice-read-b
+shared-slice-read-b c = search needs
 
-blanks-requires : tie.Need-blanks-requires Inv-loop μ-loop
-blanks-requires c κs = search needs
+long-pass-requires : tie.Need-long-pass-requires
+long-pass-requires c κs = search needs
 
-loop-holds : tie.Need-loop-holds Inv-loop μ-loop
-loop-holds c = laying (c .blanks .ensures)
+returns-2 : tie.Need-returns-2
+returns-2 c = search needs
 
-comment-at-requires : tie.Need-comment-at-requires Inv-loop μ-loop
-comment-at-requires c κs = search needs
+long-pass-requires-2 : tie.Need-long-pass-requires-2
+long-pass-requires-2 c κs = search needs
 
-enum-told : tie.Need-enum-told Inv-loop μ-loop
-enum-told c = search needs
+returns-3 : tie.Need-returns-3
+returns-3 c = search needs
 
-returns : tie.Need-returns Inv-loop μ-loop
-returns c = let e = rw (c .enum-told .given .1) at (c .before .before .comment-at .ensures) in laid-stop (c .before .before .before .before .loop .inv) (e .0) (e .1)
+long-pass-requires-3 : tie.Need-long-pass-requires-3
+long-pass-requires-3 c κs = search needs
 
-enum-known-p : tie.Need-enum-known-p Inv-loop μ-loop
-enum-known-p c = search needs
+returns-4 : tie.Need-returns-4
+returns-4 c = search needs
 
-returns-2 : tie.Need-returns-2 Inv-loop μ-loop
-returns-2 c = laid-breaks (c .before .before .before .before .before .loop .inv) (rw (c .before .p .given .1) at (c .before .before .before .comment-at .ensures))
-
-enum-known-p-2 : tie.Need-enum-known-p-2 Inv-loop μ-loop
-enum-known-p-2 c = search needs
-
-blanks-requires-2 : tie.Need-blanks-requires-2 Inv-loop μ-loop
-blanks-requires-2 c κs = let e = rw (c .before .p2 .given .1) at (c .before .before .before .comment-at .ensures) in e .0 .onward .within
-
-loop-less : tie.Need-loop-less Inv-loop μ-loop
-loop-less c = let e = rw (c .before .before .p2 .given .1) at (c .before .before .before .before .comment-at .ensures) in omega (arith, e .1, e .0 .onward .within, c .blanks2 .ensures .onward .behind)
-
-loop-again : tie.Need-loop-again Inv-loop μ-loop
-loop-again c = let e = rw (c .before .before .p2 .given .1) at (c .before .before .before .before .comment-at .ensures) in laid-more (c .before .before .before .before .before .before .loop .inv) (e .0) (c .blanks2 .ensures)
-
-returns-3 : tie.Need-returns-3 Inv-loop μ-loop
-returns-3 c = laid-end (c .before .loop .inv) (omega arith)
+returns-5 : tie.Need-returns-5
+returns-5 c = laid-stop (laying (blanks-stop (none-yet (c .before .before .before .before .before .before .args .from) (c .before .before .before .before .before .before .pre)) (not-blank (getD (c .before .before .before .before .before .before .args .text .now) (c .before .before .before .before .before .before .args .from) 0) (omega arith) (omega arith) (omega arith) (omega arith)))) (not-hash _ (c .before .if3 .left)) (not-slash _ (c .if4 .left))
 
 pub pass-spec : {M : Type 1} → statement M
 pass-spec =
     tie.close
     (tie.spec
-    Inv-loop
-    μ-loop
-    blanks-requires
-    loop-holds
-    comment-at-requires
-    enum-told
     returns
-    enum-known-p
+    shared-slice-read-b
+    long-pass-requires
     returns-2
-    enum-known-p-2
-    blanks-requires-2
-    loop-less
-    loop-again
-    returns-3)
+    long-pass-requires-2
+    returns-3
+    long-pass-requires-3
+    returns-4
+    returns-5)

@@ -69,24 +69,14 @@ loop-again c =
     let byte-at = c .before .before .byte-at in
     walk-close (args .tape .now) (args .store .now) (args .out .now) (loop .inv) (if1 .taken) (if2 .left) (byte-at .ensures)
 
-record-at-requires : tie.Need-record-at-requires Inv-loop μ-loop
-record-at-requires c κs = search needs
-
 comma-at-requires : tie.Need-comma-at-requires Inv-loop μ-loop
-comma-at-requires c κs =
-    let args = c .before .before .before .before .before .before .before .args in
-    let loop = c .before .before .before .loop in
-    let if1 = c .before .before .if1 in
-    walk-comma (args .tape .now) (args .store .now) (args .out .now) (loop .inv) (if1 .left) _ (c .before .record-at .ensures)
+comma-at-requires c κs = walk-comma (c .before .before .before .before .before .before .args .tape .now) (c .before .before .before .before .before .before .args .store .now) (c .before .before .before .before .before .before .args .out .now) (c .before .before .loop .inv) (c .before .if1 .left)
+
+record-at-requires : tie.Need-record-at-requires Inv-loop μ-loop
+record-at-requires c κs = walk-inside (c .before .before .before .before .before .before .before .before .before .args .tape .now) (c .before .before .before .before .before .before .before .before .before .args .store .now) (c .before .before .before .before .before .before .before .before .before .args .out .now) (c .before .before .before .before .before .loop .inv) (c .before .before .before .before .if1 .left)
 
 printed-at-requires : tie.Need-printed-at-requires Inv-loop μ-loop
-printed-at-requires c κs =
-    let args = c .before .before .before .before .before .before .before .before .before .before .before .args in
-    let loop = c .before .before .before .before .before .before .before .loop in
-    let if1 = c .before .before .before .before .before .before .if1 in
-    let record-at = c .before .before .before .before .before .record-at in
-    let comma-at = c .before .before .before .comma-at in
-    (walk-bytes (args .tape .now) (args .store .now) (args .out .now) (loop .inv) (if1 .left) _ (record-at .ensures), walk-piece (args .tape .now) (args .store .now) (args .out .now) (loop .inv) (if1 .left) _ (record-at .ensures) (comma-at .ensures))
+printed-at-requires c κs = (walk-bytes (c .before .before .before .before .before .before .before .before .before .before .before .args .tape .now) (c .before .before .before .before .before .before .before .before .before .before .before .args .store .now) (c .before .before .before .before .before .before .before .before .before .before .before .args .out .now) (c .before .before .before .before .before .before .before .loop .inv) (c .before .before .before .before .before .before .if1 .left) _ (c .before .record-at .ensures), walk-piece (c .before .before .before .before .before .before .before .before .before .before .before .args .tape .now) (c .before .before .before .before .before .before .before .before .before .before .before .args .store .now) (c .before .before .before .before .before .before .before .before .before .before .before .args .out .now) (c .before .before .before .before .before .before .before .loop .inv) (c .before .before .before .before .before .before .if1 .left) (c .before .before .before .before .comma-at .ensures) _ (c .before .record-at .ensures))
 
 turn-requires : tie.Need-turn-requires Inv-loop μ-loop
 turn-requires c κs = search needs
@@ -109,62 +99,22 @@ loop-less-2 c =
     omega (arith, (walk-inside (args .tape .now) (args .store .now) (args .out .now) (loop .inv) (if1 .left)))
 
 loop-again-2 : tie.Need-loop-again-2 Inv-loop μ-loop
-loop-again-2 c =
-    let args = c .before .before .before .before .before .before .before .before .before .before .before .before .before .before .before .before .before .before .args in
-    let loop = c .before .before .before .before .before .before .before .before .before .before .before .before .before .before .loop in
-    let if1 = c .before .before .before .before .before .before .before .before .before .before .before .before .before .if1 in
-    let record-at = c .before .before .before .before .before .before .before .before .before .before .before .before .record-at in
-    let comma-at = c .before .before .before .before .before .before .before .before .before .before .comma-at in
-    let printed-at = c .before .before .before .before .before .before .printed-at in
-    let turn = c .before .before .before .turn in
-    walk-pass (args .tape .now) (args .store .now) (args .out .now) (loop .inv) (if1 .left) _ (record-at .ensures) (comma-at .ensures) (printed-at .ensures) _ (turn .ensures) _ (c .before .due .given .1)
+loop-again-2 c = walk-pass (c .before .before .before .before .before .before .before .before .before .before .before .before .before .before .before .before .before .before .args .tape .now) (c .before .before .before .before .before .before .before .before .before .before .before .before .before .before .before .before .before .before .args .store .now) (c .before .before .before .before .before .before .before .before .before .before .before .before .before .before .before .before .before .before .args .out .now) (c .before .before .before .before .before .before .before .before .before .before .before .before .before .before .loop .inv) (c .before .before .before .before .before .before .before .before .before .before .before .before .before .if1 .left) (c .before .before .before .before .before .before .before .before .before .before .before .comma-at .ensures) _ (c .before .before .before .before .before .before .before .before .record-at .ensures) (c .before .before .before .before .before .before .printed-at .ensures) _ (c .before .before .before .turn .ensures) _ (c .before .due .given .1)
 
 enum-known-last : tie.Need-enum-known-last Inv-loop μ-loop
 enum-known-last c = search needs
 
 mul-ends : tie.Need-mul-ends Inv-loop μ-loop
-mul-ends c =
-    let args = c .before .before .before .before .before .before .before .before .before .before .before .before .before .before .before .before .before .before .args in
-    let loop = c .before .before .before .before .before .before .before .before .before .before .before .before .before .before .loop in
-    let if1 = c .before .before .before .before .before .before .before .before .before .before .before .before .before .if1 in
-    let record-at = c .before .before .before .before .before .before .before .before .before .before .before .before .record-at in
-    let comma-at = c .before .before .before .before .before .before .before .before .before .before .comma-at in
-    let printed-at = c .before .before .before .before .before .before .printed-at in
-    let turn = c .before .before .before .turn in
-    omega (arith, (walk-shallow (args .tape .now) (args .store .now) (args .out .now) (loop .inv) (if1 .left) _ (record-at .ensures) (comma-at .ensures) (printed-at .ensures) _ (turn .ensures) _ _ (c .before .last .given .1)))
+mul-ends c = omega (arith, walk-shallow (c .before .before .before .before .before .before .before .before .before .before .before .before .before .before .before .before .before .before .args .tape .now) (c .before .before .before .before .before .before .before .before .before .before .before .before .before .before .before .before .before .before .args .store .now) (c .before .before .before .before .before .before .before .before .before .before .before .before .before .before .before .before .before .before .args .out .now) (c .before .before .before .before .before .before .before .before .before .before .before .before .before .before .loop .inv) (c .before .before .before .before .before .before .before .before .before .before .before .before .before .if1 .left) (c .before .before .before .before .before .before .before .before .before .before .before .comma-at .ensures) _ (c .before .before .before .before .before .before .before .before .record-at .ensures) (c .before .before .before .before .before .before .printed-at .ensures) _ (c .before .before .before .turn .ensures) _ _ (c .before .last .given .1))
 
 array-write-ends : tie.Need-array-write-ends Inv-loop μ-loop
-array-write-ends c =
-    let args = c .before .before .before .before .before .before .before .before .before .before .before .before .before .before .before .before .before .before .args in
-    let loop = c .before .before .before .before .before .before .before .before .before .before .before .before .before .before .loop in
-    let if1 = c .before .before .before .before .before .before .before .before .before .before .before .before .before .if1 in
-    let record-at = c .before .before .before .before .before .before .before .before .before .before .before .before .record-at in
-    let comma-at = c .before .before .before .before .before .before .before .before .before .before .comma-at in
-    let printed-at = c .before .before .before .before .before .before .printed-at in
-    let turn = c .before .before .before .turn in
-    omega (arith, (walk-shallow (args .tape .now) (args .store .now) (args .out .now) (loop .inv) (if1 .left) _ (record-at .ensures) (comma-at .ensures) (printed-at .ensures) _ (turn .ensures) _ _ (c .before .last .given .1)))
+array-write-ends c = omega (arith, walk-shallow (c .before .before .before .before .before .before .before .before .before .before .before .before .before .before .before .before .before .before .args .tape .now) (c .before .before .before .before .before .before .before .before .before .before .before .before .before .before .before .before .before .before .args .store .now) (c .before .before .before .before .before .before .before .before .before .before .before .before .before .before .before .before .before .before .args .out .now) (c .before .before .before .before .before .before .before .before .before .before .before .before .before .before .loop .inv) (c .before .before .before .before .before .before .before .before .before .before .before .before .before .if1 .left) (c .before .before .before .before .before .before .before .before .before .before .before .comma-at .ensures) _ (c .before .before .before .before .before .before .before .before .record-at .ensures) (c .before .before .before .before .before .before .printed-at .ensures) _ (c .before .before .before .turn .ensures) _ _ (c .before .last .given .1))
 
 array-write-closers : tie.Need-array-write-closers Inv-loop μ-loop
-array-write-closers c =
-    let args = c .before .before .before .before .before .before .before .before .before .before .before .before .before .before .before .before .before .before .args in
-    let loop = c .before .before .before .before .before .before .before .before .before .before .before .before .before .before .loop in
-    let if1 = c .before .before .before .before .before .before .before .before .before .before .before .before .before .if1 in
-    let record-at = c .before .before .before .before .before .before .before .before .before .before .before .before .record-at in
-    let comma-at = c .before .before .before .before .before .before .before .before .before .before .comma-at in
-    let printed-at = c .before .before .before .before .before .before .printed-at in
-    let turn = c .before .before .before .turn in
-    omega (arith, (walk-shallow (args .tape .now) (args .store .now) (args .out .now) (loop .inv) (if1 .left) _ (record-at .ensures) (comma-at .ensures) (printed-at .ensures) _ (turn .ensures) _ _ (c .before .last .given .1)))
+array-write-closers c = omega (arith, walk-shallow (c .before .before .before .before .before .before .before .before .before .before .before .before .before .before .before .before .before .before .args .tape .now) (c .before .before .before .before .before .before .before .before .before .before .before .before .before .before .before .before .before .before .args .store .now) (c .before .before .before .before .before .before .before .before .before .before .before .before .before .before .before .before .before .before .args .out .now) (c .before .before .before .before .before .before .before .before .before .before .before .before .before .before .loop .inv) (c .before .before .before .before .before .before .before .before .before .before .before .before .before .if1 .left) (c .before .before .before .before .before .before .before .before .before .before .before .comma-at .ensures) _ (c .before .before .before .before .before .before .before .before .record-at .ensures) (c .before .before .before .before .before .before .printed-at .ensures) _ (c .before .before .before .turn .ensures) _ _ (c .before .last .given .1))
 
 add-depth : tie.Need-add-depth Inv-loop μ-loop
-add-depth c =
-    let args = c .before .before .before .before .before .before .before .before .before .before .before .before .before .before .before .before .before .before .args in
-    let loop = c .before .before .before .before .before .before .before .before .before .before .before .before .before .before .loop in
-    let if1 = c .before .before .before .before .before .before .before .before .before .before .before .before .before .if1 in
-    let record-at = c .before .before .before .before .before .before .before .before .before .before .before .before .record-at in
-    let comma-at = c .before .before .before .before .before .before .before .before .before .before .comma-at in
-    let printed-at = c .before .before .before .before .before .before .printed-at in
-    let turn = c .before .before .before .turn in
-    omega (arith, (walk-shallow (args .tape .now) (args .store .now) (args .out .now) (loop .inv) (if1 .left) _ (record-at .ensures) (comma-at .ensures) (printed-at .ensures) _ (turn .ensures) _ _ (c .before .last .given .1)))
+add-depth c = omega (arith, walk-shallow (c .before .before .before .before .before .before .before .before .before .before .before .before .before .before .before .before .before .before .args .tape .now) (c .before .before .before .before .before .before .before .before .before .before .before .before .before .before .before .before .before .before .args .store .now) (c .before .before .before .before .before .before .before .before .before .before .before .before .before .before .before .before .before .before .args .out .now) (c .before .before .before .before .before .before .before .before .before .before .before .before .before .before .loop .inv) (c .before .before .before .before .before .before .before .before .before .before .before .before .before .if1 .left) (c .before .before .before .before .before .before .before .before .before .before .before .comma-at .ensures) _ (c .before .before .before .before .before .before .before .before .record-at .ensures) (c .before .before .before .before .before .before .printed-at .ensures) _ (c .before .before .before .turn .ensures) _ _ (c .before .last .given .1))
 
 add-i-2 : tie.Need-add-i-2 Inv-loop μ-loop
 add-i-2 c =
@@ -181,15 +131,7 @@ loop-less-3 c =
     omega (arith, (walk-inside (args .tape .now) (args .store .now) (args .out .now) (loop .inv) (if1 .left)))
 
 loop-again-3 : tie.Need-loop-again-3 Inv-loop μ-loop
-loop-again-3 c =
-    let args = c .before .before .before .before .before .before .before .before .before .before .before .before .before .before .before .before .before .before .args in
-    let loop = c .before .before .before .before .before .before .before .before .before .before .before .before .before .before .loop in
-    let if1 = c .before .before .before .before .before .before .before .before .before .before .before .before .before .if1 in
-    let record-at = c .before .before .before .before .before .before .before .before .before .before .before .before .record-at in
-    let comma-at = c .before .before .before .before .before .before .before .before .before .before .comma-at in
-    let printed-at = c .before .before .before .before .before .before .printed-at in
-    let turn = c .before .before .before .turn in
-    walk-open (args .tape .now) (args .store .now) (args .out .now) (loop .inv) (if1 .left) _ (record-at .ensures) (comma-at .ensures) (printed-at .ensures) _ (turn .ensures) _ _ (c .before .last .given .1)
+loop-again-3 c = walk-open (c .before .before .before .before .before .before .before .before .before .before .before .before .before .before .before .before .before .before .args .tape .now) (c .before .before .before .before .before .before .before .before .before .before .before .before .before .before .before .before .before .before .args .store .now) (c .before .before .before .before .before .before .before .before .before .before .before .before .before .before .before .before .before .before .args .out .now) (c .before .before .before .before .before .before .before .before .before .before .before .before .before .before .loop .inv) (c .before .before .before .before .before .before .before .before .before .before .before .before .before .if1 .left) (c .before .before .before .before .before .before .before .before .before .before .before .comma-at .ensures) _ (c .before .before .before .before .before .before .before .before .record-at .ensures) (c .before .before .before .before .before .before .printed-at .ensures) _ (c .before .before .before .turn .ensures) _ _ (c .before .last .given .1)
 
 pub write-records-spec : {M : Type 1} → statement M
 write-records-spec =
@@ -207,8 +149,8 @@ write-records-spec =
     array-read-closer
     loop-less
     loop-again
-    record-at-requires
     comma-at-requires
+    record-at-requires
     printed-at-requires
     turn-requires
     enum-known-due

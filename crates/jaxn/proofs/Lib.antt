@@ -1,0 +1,2 @@
+-- Rewriting: a text read, and its tape and store written
+pub mod Rewriting

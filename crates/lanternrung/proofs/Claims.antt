@@ -1,0 +1,14 @@
+-- The claims, a theorem for each row of the table in docs/CLAIMS.md. Each is about the promises of the public calls (the specs/ of rules,
+-- tape, reader and writer), so about any program that meets them. Assumes nothing.
+pub mod Reading
+pub mod Writing
+pub mod Outcomes
+pub mod PList
+pub mod Impostors
+pub mod Exports
+pub use Reading.{accepted, measured, bounded, unambiguous}
+pub use Writing.{written, same-text, read-back}
+pub use Outcomes.{untouched, one-outcome-utf8, one-outcome-date, one-outcome-measure, one-outcome-read, one-outcome-look, one-outcome-write-jaxn, one-outcome-write-json}
+pub use PList.{P-list, slips-hold}
+pub use Impostors.{impostors}
+pub use Exports.{one-outcome-c-utf8, one-outcome-c-date, one-outcome-c-measure, one-outcome-c-read, one-outcome-c-look, one-outcome-c-write-jaxn, one-outcome-c-write-json, calls-for-c}

@@ -1,0 +1,391 @@
+-- impostors: wrong programs, each a function from what it is given to what it answers and leaves, and each shown to break its promise.
+-- Assumes nothing.
+use mathlib.Core.Path.{_≡_, refl, sym, ap, _∙_, subst}
+use mathlib.Core.Bool.{true, false}
+use mathlib.Core.List.{List, [], _∷_, _++_}
+use mathlib.Core.Option.{none as nowhere}
+use Prim.Native.Nat.{ℕ, _≤_, _<_, _^_}
+use native.Mathlib.Omega.{arith}
+use lib.Count.{leadingZeros}
+use lib.Dec.{lit≤, lit<}
+use lib.IntN.{pos}
+use lib.ListN.{length, getD, drop}
+use Rattle.rules.specs.declared.Utf8Answer.{Utf8Answer}
+use Rattle.rules.specs.declared.DateAnswer.{DateAnswer}
+use Rattle.rules.specs.Rfc3629.{Octets, Judged}
+use Rattle.rules.specs.Rfc3339.{Date, Dated}
+use Rattle.rules.specs.Decided.{isWide, lengthAt, faultFrom, judged}
+use Rattle.rules.proofs.Decided.{judged-is}
+use Rattle.rules.proofs.Months.{isLeap, isDate, date-is, is-date}
+use Rattle.rules.proofs.Outcomes.{one-outcome-utf8, one-outcome-date}
+use Rattle.meaning.specs.declared.Number.the-variants.{Finite}
+use Rattle.meaning.specs.declared.Record.{Record}
+use Rattle.meaning.specs.declared.Refusal.{Refusal}
+use Rattle.meaning.specs.Letters.{letters}
+use Rattle.meaning.specs.Limits.{textLimit, depthLimit}
+use Rattle.meaning.specs.Meaning.{Meaning, null, bool, number, string, array, none, more}
+use Rattle.meaning.specs.Good.{Bytes, most, depth, Good}
+use Rattle.meaning.specs.Bytes.{le, unnamed}
+use Rattle.meaning.specs.Tape.{records, storeOf, bytes, recordsOf, recordBytes, recordsBytes, tapeOf, WellFormed}
+use Rattle.meaning.specs.Canonical.{escaped, escapes, quoted, canonical}
+use Rattle.meaning.specs.Json.{firstWithout, noJson}
+use Rattle.meaning.specs.Look.{wholeRecords}
+use Rattle.meaning.proofs.Bytes.{le-length, le-bytes}
+use Rattle.meaning.proofs.Fitting.{octets-bytes, store-bytes}
+use Rattle.meaning.proofs.Quotes.{ascii-octets}
+use Rattle.meaning.proofs.Whole.{tape-length, tape-bytes}
+use Rattle.grammar.specs.Values.{Text}
+use Rattle.grammar.proofs.Utf8.{text-octets}
+use Rattle.grammar.proofs.Good.{text-good}
+use Rattle.grammar.proofs.Sizes.{text-fits}
+use Rattle.grammar.proofs.Canonical.{text-derived}
+use Rattle.tape.specs.declared.Looked.{Looked}
+use Rattle.tape.specs.Looking.{Looks}
+use Rattle.tape.proofs.Outcomes.{look-well-formed}
+use Rattle.reader.specs.declared.Answer.{Answer}
+use Rattle.reader.specs.Answers.{tapeBytes, Measures, Reads}
+use Rattle.writer.specs.declared.Written.{Written}
+use Rattle.writer.specs.Written.{WritesJaxn, WritesJson}
+use Rattle.lanternrung.specs.Samples.{Outcome, Says, IsTaken, Case, All, _&_}
+use Rattle.lanternrung.proofs.Claims.PList.{P-list, slips-hold}
+use Rattle.lanternrung.proofs.Claims.Reading.{Done, Takes, Holds, accepted, measured}
+use Rattle.lanternrung.proofs.Claims.Writing.{Room, Prints, written}
+
+-- what a program can be lent: bytes, fewer than 2^64
+pub record Lent (s : List ℕ) : Type 0 where
+  pub each : Bytes s
+  pub few : length s < 2 ^ 64
+
+-- ---- programs, and what it is for one to keep its promise, whatever it is given
+
+abbrev pub Measurer : Type 0
+Measurer = List ℕ → Answer
+
+abbrev pub KeepsMeasure : Measurer → Type 0
+KeepsMeasure f = (text : List ℕ) → Lent text → Measures text (f text)
+
+-- the answer, the tape and the store at exit
+abbrev pub Reader : Type 0
+Reader = List ℕ → List ℕ → List ℕ → Answer × List ℕ × List ℕ
+
+abbrev pub KeepsRead : Reader → Type 0
+KeepsRead f = (text tape store : List ℕ) → Lent text → Lent tape → Lent store → Reads text tape store (f text tape store .0) (f text tape store .1) (f text tape store .2)
+
+-- the answer, and the output at exit
+abbrev pub Writer : Type 0
+Writer = List ℕ → List ℕ → List ℕ → Written × List ℕ
+
+abbrev pub KeepsJaxn : Writer → Type 0
+KeepsJaxn f = (tape store out : List ℕ) → Lent tape → Lent store → Lent out → WritesJaxn tape store out (f tape store out .0) (f tape store out .1)
+
+abbrev pub KeepsJson : Writer → Type 0
+KeepsJson f = (tape store out : List ℕ) → Lent tape → Lent store → Lent out → WritesJson tape store out (f tape store out .0) (f tape store out .1)
+
+abbrev pub Looker : Type 0
+Looker = List ℕ → List ℕ → ℕ → Looked
+
+abbrev pub KeepsLook : Looker → Type 0
+KeepsLook f = (tape store : List ℕ) (index : ℕ) → Lent tape → Lent store → index < 2 ^ 64 → Looks tape store index (f tape store index)
+
+abbrev pub KeepsUtf8 : (List ℕ → Utf8Answer) → Type 0
+KeepsUtf8 f = (s : List ℕ) → Lent s → Judged s (f s)
+
+abbrev pub Calendar : Type 0
+Calendar = ℕ → ℕ → ℕ → DateAnswer
+
+abbrev pub KeepsDate : Calendar → Type 0
+KeepsDate f = (y m d : ℕ) → y < 2 ^ 64 → m < 2 ^ 64 → d < 2 ^ 64 → Dated y m d (f y m d)
+
+-- whatever it writes is the text t
+abbrev pub WritesOnly : List ℕ → Writer → Type 0
+WritesOnly t f = (tape store out : List ℕ) (n : ℕ) → f tape store out .0 ≡ Written.Wrote n → f tape store out .1 ≡ t ++ drop (length t) out
+
+pub record Impostors : Type 0 where
+  -- a reader that refuses everything, for whatever reason
+  pub refuses-all : (f : Reader) → ((text tape store : List ℕ) → (why : Refusal) × (f text tape store .0 ≡ Answer.Refused why)) → KeepsRead f → ⊥
+  -- one that answers `null` for all that it accepts
+  pub null-for-all : (f : Reader)
+      → ((text tape store : List ℕ) (m : Meaning) → Takes text tape store m → Holds null tape store (f text tape store .0) (f text tape store .1) (f text tape store .2)) → KeepsRead f → ⊥
+  -- one that touches no buffer; one that leaves the tape, or the store, as it was
+  pub touches-nothing : (f : Reader) → ((text tape store : List ℕ) → (f text tape store .1 ≡ tape) × (f text tape store .2 ≡ store)) → KeepsRead f → ⊥
+  pub leaves-tape : (f : Reader) → ((text tape store : List ℕ) → f text tape store .1 ≡ tape) → KeepsRead f → ⊥
+  pub leaves-store : (f : Reader) → ((text tape store : List ℕ) → f text tape store .2 ≡ store) → KeepsRead f → ⊥
+  -- a writer that always prints one text, or refuses
+  pub one-text-jaxn : (f : Writer) (t : List ℕ) → WritesOnly t f → KeepsJaxn f → ⊥
+  pub one-text-json : (f : Writer) (t : List ℕ) → WritesOnly t f → KeepsJson f → ⊥
+  -- one that remembers the text that its tape was read from, and prints that
+  pub copies : (f : List ℕ → Writer)
+      → ((text : List ℕ) (m : Meaning) (out : List ℕ) → Text true text m → length text ≤ length out → Prints text out (f text (tapeOf m) (storeOf m) out .0) (f text (tapeOf m) (storeOf m) out .1))
+      → ((text : List ℕ) → KeepsJaxn (f text)) → ⊥
+  -- a measure that invents its counts: for one text; the same for all; some for all
+  pub invents : (f : Measurer) {text : List ℕ} {m : Meaning} → Text true text m → (f text ≡ Answer.Counts (records m) (bytes m) → ⊥) → KeepsMeasure f → ⊥
+  pub one-count : (f : Measurer) (r s : ℕ) → ((text : List ℕ) → Done (f text) → f text ≡ Answer.Counts r s) → KeepsMeasure f → ⊥
+  pub counts-all : (f : Measurer) → ((text : List ℕ) → Done (f text)) → KeepsMeasure f → ⊥
+  -- a look that answers `null` for all, or refuses all
+  pub looks-null : (f : Looker) → ((tape store : List ℕ) (index : ℕ) → index < wholeRecords tape → f tape store index ≡ Looked.Record Record.Null) → KeepsLook f → ⊥
+  pub looks-nowhere : (f : Looker) → ((tape store : List ℕ) (index : ℕ) → (why : Refusal) × (f tape store index ≡ Looked.Refused why)) → KeepsLook f → ⊥
+  -- a test of UTF-8 that passes all, or refuses all
+  pub all-utf8 : (f : List ℕ → Utf8Answer) → ((s : List ℕ) → f s ≡ Utf8Answer.Done) → KeepsUtf8 f → ⊥
+  pub no-utf8 : (f : List ℕ → Utf8Answer) → ((s : List ℕ) → (k : ℕ) × (f s ≡ Utf8Answer.IllFormed k)) → KeepsUtf8 f → ⊥
+  -- a calendar in which every month has 31 days, or that refuses all
+  pub long-months : (f : Calendar) → ((y m d : ℕ) → y ≤ 9999 → 1 ≤ m → m ≤ 12 → 1 ≤ d → d ≤ 31 → f y m d ≡ DateAnswer.Done) → KeepsDate f → ⊥
+  pub no-date : (f : Calendar) → ((y m d : ℕ) → f y m d ≡ DateAnswer.NoDate) → KeepsDate f → ⊥
+
+-- ---- what they are tried on
+
+zeros : (n : ℕ) → n < 2 ^ 64 → Lent (unnamed n)
+zeros n h = record { each = le-bytes n 0; few = omega (arith, le-length n 0) }
+
+text-length : {t : List ℕ} {m : Meaning} → Text true t m → length t ≤ textLimit
+text-length (Text.text w v l h) = h
+
+text-lent : {t : List ℕ} {m : Meaning} → Text true t m → Lent t
+text-lent x = record { each = octets-bytes (text-octets x); few = omega (arith, text-length x) }
+
+-- a small meaning
+record Small (m : Meaning) : Type 0 where
+  good : Good m
+  short : length (canonical m) ≤ textLimit
+
+module _ {m : Meaning} (s : Small m) where
+  derived : Text true (canonical m) m
+  derived = text-derived m (s .good) (s .short)
+
+  abbrev tape₀ : List ℕ
+  tape₀ = unnamed (tapeBytes m)
+
+  abbrev store₀ : List ℕ
+  store₀ = unnamed (bytes m)
+
+  tape-lent : Lent (tapeOf m)
+  tape-lent = record { each = tape-bytes m; few = omega (arith, tape-length m, text-fits derived .few, text-length derived) }
+
+  store-lent : Lent (storeOf m)
+  store-lent = record { each = store-bytes m (s .good .parts); few = omega (arith, text-fits derived .small, text-length derived) }
+
+  abbrev well-formed : WellFormed (tapeOf m) (storeOf m)
+  well-formed =
+      let f = text-fits derived in
+      let l = text-length derived in
+      record { meaning = m; good = s .good; few = omega (arith, f .few); short = omega (arith, f .small); taped = refl; stored = refl }
+
+  takes : Takes (canonical m) tape₀ store₀ m
+  takes = record { means = derived; tape-room = omega (arith, le-length (tapeBytes m) 0); store-room = omega (arith, le-length (bytes m) 0) }
+
+  reads : (f : Reader) → KeepsRead f → Holds m tape₀ store₀ (f (canonical m) tape₀ store₀ .0) (f (canonical m) tape₀ store₀ .1) (f (canonical m) tape₀ store₀ .2)
+  reads f k =
+      let x = text-fits derived in
+      let l = text-length derived in
+      accepted (k (canonical m) tape₀ store₀ (text-lent derived) (zeros (tapeBytes m) (omega (arith, x .few))) (zeros (bytes m) (omega (arith, x .small)))) .then m takes
+
+  room : (n : ℕ) → length (canonical m) ≤ n → Room (canonical m) (unnamed n)
+  room n h = record { short = s .short; fits = omega (arith, le-length n 0) }
+
+  prints-jaxn : (f : Writer) → KeepsJaxn f → (n : ℕ) → length (canonical m) ≤ n → n < 2 ^ 64 → Prints (canonical m) (unnamed n) (f (tapeOf m) (storeOf m) (unnamed n) .0) (f (tapeOf m) (storeOf m) (unnamed n) .1)
+  prints-jaxn f k n h l = written .jaxn (k (tapeOf m) (storeOf m) (unnamed n) tape-lent store-lent (zeros n l)) .then well-formed (room n h)
+
+  prints-json : (f : Writer) → KeepsJson f → noJson m ≡ nowhere → (n : ℕ) → length (canonical m) ≤ n → n < 2 ^ 64 → Prints (canonical m) (unnamed n) (f (tapeOf m) (storeOf m) (unnamed n) .0) (f (tapeOf m) (storeOf m) (unnamed n) .1)
+  prints-json f k e n h l = written .json (k (tapeOf m) (storeOf m) (unnamed n) tape-lent store-lent (zeros n l)) .then well-formed e (room n h)
+
+small-null : Small null
+unfolding canonical depth depthLimit
+small-null = record { good = record { parts = tt; shallow = lit≤ tt }; short = lit≤ tt }
+
+small-true : Small (bool true)
+unfolding canonical depth depthLimit
+small-true = record { good = record { parts = tt; shallow = lit≤ tt }; short = lit≤ tt }
+
+-- ---- how each fails
+
+refuses-all : (f : Reader) → ((text tape store : List ℕ) → (why : Refusal) × (f text tape store .0 ≡ Answer.Refused why)) → KeepsRead f → ⊥
+refuses-all f r k =
+    let h = reads small-null f k .answer in
+    let e = r (canonical null) (tape₀ small-null) (store₀ small-null) .1 in
+    let z : _≡_ {A = ℕ} 0 1 = cc in
+    omega arith
+
+null-for-all : (f : Reader)
+    → ((text tape store : List ℕ) (m : Meaning) → Takes text tape store m → Holds null tape store (f text tape store .0) (f text tape store .1) (f text tape store .2)) → KeepsRead f → ⊥
+unfolding tapeOf recordsOf recordsBytes recordBytes
+null-for-all f r k =
+    let h = reads small-true f k .taped in
+    let g = r (canonical (bool true)) (tape₀ small-true) (store₀ small-true) (bool true) (takes small-true) .taped in
+    let z : _≡_ {A = ℕ} 98 110 = ap (λ (t : List ℕ). getD t 0 0) (sym h ∙ g) in
+    omega arith
+
+leaves-tape : (f : Reader) → ((text tape store : List ℕ) → f text tape store .1 ≡ tape) → KeepsRead f → ⊥
+unfolding tapeOf recordsOf recordsBytes recordBytes records le
+leaves-tape f r k =
+    let h = reads small-null f k .taped in
+    let z : _≡_ {A = ℕ} 0 110 = ap (λ (t : List ℕ). getD t 0 0) (sym (r _ _ _) ∙ h) in
+    omega arith
+
+touches-nothing : (f : Reader) → ((text tape store : List ℕ) → (f text tape store .1 ≡ tape) × (f text tape store .2 ≡ store)) → KeepsRead f → ⊥
+touches-nothing f r = leaves-tape f (λ text tape store. r text tape store .0)
+
+small-a : Small (string (letters "a"))
+unfolding canonical quoted escapes escaped depth depthLimit
+small-a = record { good = record { parts = ascii-octets (letters "a") (omega arith); shallow = lit≤ tt }; short = lit≤ tt }
+
+leaves-store : (f : Reader) → ((text tape store : List ℕ) → f text tape store .2 ≡ store) → KeepsRead f → ⊥
+unfolding storeOf le
+leaves-store f r k =
+    let h = reads small-a f k .stored in
+    let z : _≡_ {A = ℕ} 0 97 = ap (λ (t : List ℕ). getD t 0 0) (sym (r _ _ _) ∙ h) in
+    omega arith
+
+-- two outputs of four bytes, one `null` and one `true`
+two-texts : (t x y : List ℕ) → x ≡ t ++ drop (length t) (unnamed 4) → y ≡ t ++ drop (length t) (unnamed 4) → x ≡ canonical null ++ drop (length (canonical null)) (unnamed 4)
+    → y ≡ canonical (bool true) ++ drop (length (canonical (bool true))) (unnamed 4) → ⊥
+unfolding canonical
+two-texts t x y a b c d =
+    let z : _≡_ {A = ℕ} 110 116 = ap (λ (u : List ℕ). getD u 0 0) (sym c ∙ a ∙ sym b ∙ d) in
+    omega arith
+
+one-text-jaxn : (f : Writer) (t : List ℕ) → WritesOnly t f → KeepsJaxn f → ⊥
+unfolding canonical
+one-text-jaxn f t r k =
+    let p = prints-jaxn small-null f k 4 (lit≤ tt) (lit< tt) in
+    let q = prints-jaxn small-true f k 4 (lit≤ tt) (lit< tt) in
+    two-texts t _ _ (r _ _ _ _ (p .answer)) (r _ _ _ _ (q .answer)) (p .holds) (q .holds)
+
+one-text-json : (f : Writer) (t : List ℕ) → WritesOnly t f → KeepsJson f → ⊥
+unfolding canonical noJson firstWithout recordsOf
+one-text-json f t r k =
+    let p = prints-json small-null f k refl 4 (lit≤ tt) (lit< tt) in
+    let q = prints-json small-true f k refl 4 (lit≤ tt) (lit< tt) in
+    two-texts t _ _ (r _ _ _ _ (p .answer)) (r _ _ _ _ (q .answer)) (p .holds) (q .holds)
+
+-- ---- copies
+
+first : {text : List ℕ} {outcome : Outcome} {rest : List (List ℕ × Outcome)} → All ((text, outcome) ∷ rest) → Case text outcome
+first (h & r) = h
+
+later : {text : List ℕ} {outcome : Outcome} {rest : List (List ℕ × Outcome)} → All ((text, outcome) ∷ rest) → All rest
+later (h & r) = r
+
+-- `100000` is written `1e5`
+hundred-thousand : IsTaken (letters "100000") (number (Finite false 1 (pos 5))) (letters "1e5")
+hundred-thousand = first (later (later (later (later slips-hold))))
+
+copies : (f : List ℕ → Writer)
+    → ((text : List ℕ) (m : Meaning) (out : List ℕ) → Text true text m → length text ≤ length out → Prints text out (f text (tapeOf m) (storeOf m) out .0) (f text (tapeOf m) (storeOf m) out .1))
+    → ((text : List ℕ) → KeepsJaxn (f text)) → ⊥
+copies f r k =
+    let t = letters "100000" in
+    let x = hundred-thousand in
+    let l = ap length (x .prints) in
+    let s : Small (number (Finite false 1 (pos 5))) = record { good = text-good (x .means); short = omega arith } in
+    let p = prints-jaxn s (f t) (k t) 6 (omega arith) (lit< tt) .answer in
+    let q = r t _ (unnamed 6) (x .means) (omega (arith, le-length 6 0)) .answer in
+    let z : length (canonical (number (Finite false 1 (pos 5)))) ≡ 6 = cc in
+    omega arith
+
+-- ---- measure
+
+invents : (f : Measurer) {text : List ℕ} {m : Meaning} → Text true text m → (f text ≡ Answer.Counts (records m) (bytes m) → ⊥) → KeepsMeasure f → ⊥
+invents f {text} {m} x n k = n (measured (k text (text-lent x)) .then m x .answer)
+
+small-array : Small (array (more none null))
+unfolding canonical depth most depthLimit
+small-array = record { good = record { parts = (tt, tt); shallow = lit≤ tt }; short = lit≤ tt }
+
+counted : {m : Meaning} → Small m → (f : Measurer) → KeepsMeasure f → f (canonical m) ≡ Answer.Counts (records m) (bytes m)
+counted {m} s f k = let x = derived s in measured (k (canonical m) (text-lent x)) .then m x .answer
+
+one-count : (f : Measurer) (r s : ℕ) → ((text : List ℕ) → Done (f text) → f text ≡ Answer.Counts r s) → KeepsMeasure f → ⊥
+unfolding records
+one-count f r s g k =
+    let p = counted small-null f k in
+    let q = counted small-array f k in
+    let a = g (canonical null) (_, _, p) in
+    let b = g (canonical (array (more none null))) (_, _, q) in
+    let z : records null ≡ records (array (more none null)) = cc in
+    omega arith
+
+counts-all : (f : Measurer) → ((text : List ℕ) → Done (f text)) → KeepsMeasure f → ⊥
+counts-all f g k =
+    let x = first P-list in
+    let d = g [] in
+    subst (Says 3 0) (d .2) (x .measured (f []) (k [] (record { each = tt; few = lit< tt })))
+
+-- ---- look, utf8, date
+
+looked : {m : Meaning} (s : Small m) (f : Looker) → KeepsLook f → 0 < records m → f (tapeOf m) (storeOf m) 0 ≡ Looked.Record (getD (recordsOf m 0 0) 0 Record.Null)
+looked {m} s f k h = look-well-formed (well-formed s) h (k (tapeOf m) (storeOf m) 0 (tape-lent s) (store-lent s) (lit< tt))
+
+looks-null : (f : Looker) → ((tape store : List ℕ) (index : ℕ) → index < wholeRecords tape → f tape store index ≡ Looked.Record Record.Null) → KeepsLook f → ⊥
+unfolding records recordsOf
+looks-null f r k =
+    let p : f (tapeOf (bool true)) (storeOf (bool true)) 0 ≡ Looked.Record (Record.Bool true) = looked small-true f k (lit< tt) in
+    let q = r (tapeOf (bool true)) (storeOf (bool true)) 0 (omega (arith, tape-length (bool true))) in
+    let z : _≡_ {A = ℕ} 0 1 = cc in
+    omega arith
+
+looks-nowhere : (f : Looker) → ((tape store : List ℕ) (index : ℕ) → (why : Refusal) × (f tape store index ≡ Looked.Refused why)) → KeepsLook f → ⊥
+unfolding records
+looks-nowhere f r k =
+    let p = looked small-null f k (lit< tt) in
+    let q = r (tapeOf null) (storeOf null) 0 .1 in
+    let z : _≡_ {A = ℕ} 0 1 = cc in
+    omega arith
+
+all-utf8 : (f : List ℕ → Utf8Answer) → ((s : List ℕ) → f s ≡ Utf8Answer.Done) → KeepsUtf8 f → ⊥
+unfolding judged faultFrom lengthAt isWide leadingZeros
+all-utf8 f r k =
+    let s : List ℕ = 0xFF ∷ [] in
+    let e : Utf8Answer.IllFormed 0 ≡ f s = one-outcome-utf8 (judged-is s) (k s (record { each = (lit< tt, tt); few = lit< tt })) in
+    let q = r s in
+    let z : _≡_ {A = ℕ} 0 1 = cc in
+    omega arith
+
+no-utf8 : (f : List ℕ → Utf8Answer) → ((s : List ℕ) → (k : ℕ) × (f s ≡ Utf8Answer.IllFormed k)) → KeepsUtf8 f → ⊥
+no-utf8 f r k =
+    let e = one-outcome-utf8 (Judged.done Octets.none) (k [] (record { each = tt; few = lit< tt })) in
+    let q = r [] .1 in
+    let z : _≡_ {A = ℕ} 0 1 = cc in
+    omega arith
+
+february-30 : Date 2000 2 30 → ⊥
+unfolding isDate isLeap
+february-30 d =
+    let e : false ≡ true = date-is d in
+    let z : _≡_ {A = ℕ} 0 1 = cc in
+    omega arith
+
+long-months : (f : Calendar) → ((y m d : ℕ) → y ≤ 9999 → 1 ≤ m → m ≤ 12 → 1 ≤ d → d ≤ 31 → f y m d ≡ DateAnswer.Done) → KeepsDate f → ⊥
+long-months f r k =
+    let e = one-outcome-date (Dated.none february-30) (k 2000 2 30 (lit< tt) (lit< tt) (lit< tt)) in
+    let q = r 2000 2 30 (lit≤ tt) (lit≤ tt) (lit≤ tt) (lit≤ tt) (lit≤ tt) in
+    let z : _≡_ {A = ℕ} 0 1 = cc in
+    omega arith
+
+no-date : (f : Calendar) → ((y m d : ℕ) → f y m d ≡ DateAnswer.NoDate) → KeepsDate f → ⊥
+unfolding isDate isLeap
+no-date f r k =
+    let e = one-outcome-date (Dated.done (is-date {y = 2000} {m = 2} {d = 29} refl)) (k 2000 2 29 (lit< tt) (lit< tt) (lit< tt)) in
+    let q = r 2000 2 29 in
+    let z : _≡_ {A = ℕ} 0 1 = cc in
+    omega arith
+
+pub impostors : Impostors
+impostors =
+    record {
+      refuses-all = refuses-all;
+      null-for-all = null-for-all;
+      touches-nothing = touches-nothing;
+      leaves-tape = leaves-tape;
+      leaves-store = leaves-store;
+      one-text-jaxn = one-text-jaxn;
+      one-text-json = one-text-json;
+      copies = copies;
+      invents = invents;
+      one-count = one-count;
+      counts-all = counts-all;
+      looks-null = looks-null;
+      looks-nowhere = looks-nowhere;
+      all-utf8 = all-utf8;
+      no-utf8 = no-utf8;
+      long-months = long-months;
+      no-date = no-date;
+    }

@@ -1,0 +1,106 @@
+-- accepted, measured, bounded, unambiguous: what `measure` and `read` answer, by the grammar. Assumes nothing.
+use mathlib.Core.Path.{_≡_, refl, subst}
+use mathlib.Core.Logic.{_↔_}
+use mathlib.Core.Bool.{true}
+use mathlib.Core.List.{List, _++_}
+use Prim.Native.Nat.{ℕ, _*_, _≤_}
+use native.Mathlib.Omega.{arith}
+use lib.ListN.{length, drop}
+use Rattle.meaning.specs.Meaning.{Meaning}
+use Rattle.meaning.specs.Tape.{records, bytes, tapeOf, storeOf}
+use Rattle.meaning.proofs.Whole.{tape-length}
+use Rattle.grammar.specs.Values.{Text}
+use Rattle.grammar.proofs.Sizes.{text-fits}
+use Rattle.machine.proofs.Whole as machine
+use Rattle.reader.specs.declared.Answer.{Answer}
+use Rattle.reader.specs.Answers.{tapeBytes, Measures, Reads}
+use Rattle.reader.proofs.Claims as reader
+
+-- done, and not refused
+abbrev pub Done : Answer → Type 0
+Done a = (r : ℕ) × (s : ℕ) × (a ≡ Answer.Counts r s)
+
+-- ---- unambiguous: the grammar gives no text two meanings
+
+pub unambiguous : {text : List ℕ} {m n : Meaning} → Text true text m → Text true text n → m ≡ n
+unambiguous = machine.unambiguous
+
+-- ---- accepted
+
+-- the grammar gives the text the meaning m, within the limits, and there is room for its tape and its store
+pub record Takes (text tape store : List ℕ) (m : Meaning) : Type 0 where
+  pub means : Text true text m
+  pub tape-room : tapeBytes m ≤ length tape
+  pub store-room : bytes m ≤ length store
+
+-- the counts of m are answered; its tape and its store lie at the start of the two buffers, and the rest of each is as it was
+pub record Holds (m : Meaning) (tape store : List ℕ) (a : Answer) (tape' store' : List ℕ) : Type 0 where
+  pub answer : a ≡ Answer.Counts (records m) (bytes m)
+  pub taped : tape' ≡ tapeOf m ++ drop (length (tapeOf m)) tape
+  pub stored : store' ≡ storeOf m ++ drop (length (storeOf m)) store
+
+pub record Accepted (text tape store : List ℕ) (a : Answer) (tape' store' : List ℕ) : Type 0 where
+  pub exactly : Done a ↔ ((m : Meaning) × Takes text tape store m)
+  pub then : (m : Meaning) → Takes text tape store m → Holds m tape store a tape' store'
+
+pub accepted : {text tape store : List ℕ} {a : Answer} {tape' store' : List ℕ} → Reads text tape store a tape' store' → Accepted text tape store a tape' store'
+accepted {text} {tape} {store} {a} {tape'} {store'} p = record { exactly = (only, λ w. (records (w .0), bytes (w .0), held (w .0) (w .1) .answer)); then = held }
+  where
+    by-counts : {r s : ℕ} → a ≡ Answer.Counts r s → reader.Held text tape store r s tape' store'
+    by-counts {r} {s} e = reader.read-accepts text tape store r s tape' store' (subst (λ (x : Answer). Reads text tape store x tape' store') e p)
+
+    only : Done a → (m : Meaning) × Takes text tape store m
+    only d = let h = by-counts (d .2) in (h .meaning, record { means = h .text-means; tape-room = h .tape-room; store-room = h .store-room })
+
+    held : (m : Meaning) → Takes text tape store m → Holds m tape store a tape' store'
+    held m w =
+        let e = reader.accepts-read text tape store 0 0 tape' store' a m (w .means) (w .tape-room) (w .store-room) p in
+        let h = by-counts e in
+        let q = unambiguous (h .text-means) (w .means) in
+        record { answer = e; taped = rw q at (h .taped); stored = rw q at (h .stored) }
+
+-- ---- measured
+
+-- the counts of m are answered: they are the sizes of its tape, sixteen bytes a record, and of its store
+pub record Sizes (m : Meaning) (a : Answer) : Type 0 where
+  pub answer : a ≡ Answer.Counts (records m) (bytes m)
+  pub tape-size : length (tapeOf m) ≡ records m * 16
+  pub store-size : length (storeOf m) ≡ bytes m
+
+pub record Measured (text : List ℕ) (a : Answer) : Type 0 where
+  pub exactly : Done a ↔ ((m : Meaning) × Text true text m)
+  pub then : (m : Meaning) → Text true text m → Sizes m a
+
+pub measured : {text : List ℕ} {a : Answer} → Measures text a → Measured text a
+measured {text} {a} p = record { exactly = (only, λ w. (records (w .0), bytes (w .0), sized (w .0) (w .1) .answer)); then = sized }
+  where
+    only : Done a → (m : Meaning) × Text true text m
+    only d = let h = reader.measure-accepts text (d .0) (d .1) (subst (Measures text) (d .2) p) in (h .meaning, h .text-means)
+
+    sized : (m : Meaning) → Text true text m → Sizes m a
+    sized m x = record { answer = reader.one-outcome-measure text a (Answer.Counts (records m) (bytes m)) p (reader.accepts-measure x); tape-size = tape-length m; store-size = refl }
+
+-- ---- bounded: for every accepted text, records and store bytes are each at most its length
+
+abbrev pub Within : List ℕ → ℕ → ℕ → Type 0
+Within text r s = (r ≤ length text) × (s ≤ length text)
+
+pub record Bounded : Type 0 where
+  pub grammar : {text : List ℕ} {m : Meaning} → Text true text m → Within text (records m) (bytes m)
+  pub measure : (text : List ℕ) {r s : ℕ} → Measures text (Answer.Counts r s) → Within text r s
+  pub read : {text tape store : List ℕ} {r s : ℕ} {tape' store' : List ℕ} → Reads text tape store (Answer.Counts r s) tape' store' → Within text r s
+
+pub bounded : Bounded
+bounded = record { grammar = by-grammar; measure = by-measure; read = by-read }
+  where
+    by-grammar : {text : List ℕ} {m : Meaning} → Text true text m → Within text (records m) (bytes m)
+    by-grammar x = let f = text-fits x in (f .few, f .small)
+
+    by-measure : (text : List ℕ) {r s : ℕ} → Measures text (Answer.Counts r s) → Within text r s
+    by-measure text {r} {s} p = reader.bounded (reader.measure-accepts text r s p)
+
+    by-read : {text tape store : List ℕ} {r s : ℕ} {tape' store' : List ℕ} → Reads text tape store (Answer.Counts r s) tape' store' → Within text r s
+    by-read {text} {tape} {store} {r} {s} {tape'} {store'} p =
+        let h = reader.read-accepts text tape store r s tape' store' p in
+        let f = text-fits (h .text-means) in
+        (omega (arith, f .few, h .counted), omega (arith, f .small, h .held))

@@ -1,0 +1,219 @@
+// Each call on the arguments of a case.
+use crate::showing;
+use crate::spelling;
+use lanternrung::exports::Text;
+use lanternrung::exports::lanternrung_date;
+use lanternrung::exports::lanternrung_look;
+use lanternrung::exports::lanternrung_measure;
+use lanternrung::exports::lanternrung_read;
+use lanternrung::exports::lanternrung_utf8;
+use lanternrung::exports::lanternrung_write_jaxn;
+use lanternrung::exports::lanternrung_write_json;
+
+// What is lent for a tape or an output.
+const TAPE: usize = 8192;
+
+// What stands in a buffer before a call.
+const MARK: u8 = 170;
+
+// Whether all of it is as it was.
+fn kept(s: &[u8]) -> bool {
+    let mut i: usize = 0;
+    while i < s.len() {
+        if s[i] != MARK {
+            return false;
+        }
+        i += 1;
+    }
+    true
+}
+
+// All from this place on is as it was.
+fn kept_from(s: &[u8], at: u64) {
+    if at > s.len() as u64 {
+        showing::fault(b"within what was lent");
+        return;
+    }
+    let from = at as usize;
+    if !kept(&s[from..]) {
+        showing::fault(b"as it was");
+    }
+}
+
+pub fn utf8(rest: &[u8]) -> bool {
+    let mut bytes = io::buffer();
+    let n = spelling::decode(rest, false, &mut bytes);
+    showing::status(lanternrung_utf8(&bytes[..n]));
+    true
+}
+
+pub fn date(rest: &[u8]) -> bool {
+    let year = spelling::find(rest, 0, b' ');
+    let tail = spelling::after(rest, year);
+    let month = spelling::find(tail, 0, b' ');
+    let day = spelling::after(tail, month);
+    showing::status(lanternrung_date(
+        spelling::number(&rest[..year]),
+        spelling::number(&tail[..month]),
+        spelling::number(day),
+    ));
+    true
+}
+
+pub fn measure(rest: &[u8]) -> bool {
+    let mut text = io::buffer();
+    let n = spelling::decode(rest, false, &mut text);
+    showing::sizes(lanternrung_measure(&text[..n]));
+    true
+}
+
+// `read` with a tape and a store: what is not filled is as it was.
+fn read_into(text: &[u8], tape: &mut [u8], store: &mut [u8]) {
+    let s = lanternrung_read(text, tape, store);
+    showing::sizes(s);
+    kept_from(tape, spelling::filled(s.records, tape) as u64);
+    kept_from(store, s.bytes);
+}
+
+pub fn read(rest: &[u8]) -> bool {
+    let first = spelling::find(rest, 0, b' ');
+    let tail = spelling::after(rest, first);
+    let second = spelling::find(tail, 0, b' ');
+    let mut text = io::buffer();
+    let n = spelling::decode(spelling::after(tail, second), false, &mut text);
+    let mut tape = [MARK; TAPE];
+    let mut store = [MARK; TAPE];
+    let t = spelling::within(spelling::number(&rest[..first]), &tape);
+    let s = spelling::within(spelling::number(&tail[..second]), &store);
+    read_into(&text[..n], &mut tape[..t], &mut store[..s]);
+    true
+}
+
+// What a text is read into, in the dotted spelling.
+pub fn tape(rest: &[u8]) -> bool {
+    let mut text = io::buffer();
+    let n = spelling::decode(rest, false, &mut text);
+    let mut tape = [0u8; TAPE];
+    let mut store = io::buffer();
+    let s = lanternrung_read(&text[..n], &mut tape, &mut store);
+    if s.refused > 0 {
+        showing::refused(s.refused, s.place);
+        return true;
+    }
+    let used = spelling::filled(s.records, &tape);
+    let bytes = spelling::within(s.bytes, &store);
+    showing::both(&tape[..used], &store[..bytes]);
+    true
+}
+
+// Reading the text gives this tape and this store.
+fn gives(text: &[u8], tape: &[u8], store: &[u8]) -> bool {
+    let mut tape2 = [0u8; TAPE];
+    let mut store2 = io::buffer();
+    let s = lanternrung_read(text, &mut tape2, &mut store2);
+    let used = spelling::filled(s.records, &tape2);
+    let bytes = spelling::within(s.bytes, &store2);
+    check::same(&tape2[..used], tape) && check::same(&store2[..bytes], store)
+}
+
+// The canonical text of this tape and this store gives them again.
+fn comes_back(tape: &[u8], store: &[u8]) -> bool {
+    let mut out = [0u8; TAPE];
+    let w = lanternrung_write_jaxn(tape, store, &mut out);
+    let n = spelling::within(w.length, &out);
+    gives(&out[..n], tape, store)
+}
+
+// A text is taken, and what is written of it gives the same tape and store.
+pub fn goes_round(text: &[u8]) -> bool {
+    let mut tape = [0u8; TAPE];
+    let mut store = io::buffer();
+    let s = lanternrung_read(text, &mut tape, &mut store);
+    if s.refused > 0 {
+        return false;
+    }
+    let used = spelling::filled(s.records, &tape);
+    let bytes = spelling::within(s.bytes, &store);
+    comes_back(&tape[..used], &store[..bytes])
+}
+
+fn write(json: bool, tape: &[u8], store: &[u8], out: &mut [u8]) -> Text {
+    if json {
+        return lanternrung_write_json(tape, store, out);
+    }
+    lanternrung_write_jaxn(tape, store, out)
+}
+
+// The text or the refusal; what is not written is as it was.
+fn written(json: bool, tape: &[u8], store: &[u8], out: &mut [u8]) {
+    let w = write(json, tape, store, out);
+    if w.refused > 0 {
+        showing::refused(w.refused, w.place);
+    } else {
+        let n = spelling::within(w.length, out);
+        showing::say(&out[..n]);
+    }
+    kept_from(out, w.length);
+}
+
+fn rewritten(json: bool, rest: &[u8]) -> bool {
+    let mut text = io::buffer();
+    let n = spelling::decode(rest, false, &mut text);
+    let mut tape = [0u8; TAPE];
+    let mut store = io::buffer();
+    let s = lanternrung_read(&text[..n], &mut tape, &mut store);
+    if s.refused > 0 {
+        showing::refused(s.refused, s.place);
+        return true;
+    }
+    let used = spelling::filled(s.records, &tape);
+    let bytes = spelling::within(s.bytes, &store);
+    let mut out = [MARK; TAPE];
+    written(json, &tape[..used], &store[..bytes], &mut out);
+    if !goes_round(&text[..n]) {
+        showing::fault(b"read again");
+    }
+    true
+}
+
+pub fn jaxn(rest: &[u8]) -> bool {
+    rewritten(false, rest)
+}
+
+pub fn json(rest: &[u8]) -> bool {
+    rewritten(true, rest)
+}
+
+pub fn look(rest: &[u8]) -> bool {
+    let first = spelling::find(rest, 0, b' ');
+    let tail = spelling::after(rest, first);
+    let bar = spelling::find(tail, 0, b'|');
+    let mut tape = io::buffer();
+    let mut store = io::buffer();
+    let t = spelling::decode(&tail[..bar], true, &mut tape);
+    let s = spelling::decode(spelling::after(tail, bar), false, &mut store);
+    showing::fields(lanternrung_look(&tape[..t], &store[..s], spelling::number(&rest[..first])));
+    true
+}
+
+fn write_case(json: bool, rest: &[u8]) -> bool {
+    let first = spelling::find(rest, 0, b' ');
+    let tail = spelling::after(rest, first);
+    let bar = spelling::find(tail, 0, b'|');
+    let mut tape = io::buffer();
+    let mut store = io::buffer();
+    let mut out = [MARK; TAPE];
+    let t = spelling::decode(&tail[..bar], true, &mut tape);
+    let s = spelling::decode(spelling::after(tail, bar), false, &mut store);
+    let n = spelling::within(spelling::number(&rest[..first]), &out);
+    written(json, &tape[..t], &store[..s], &mut out[..n]);
+    true
+}
+
+pub fn write_jaxn(rest: &[u8]) -> bool {
+    write_case(false, rest)
+}
+
+pub fn write_json(rest: &[u8]) -> bool {
+    write_case(true, rest)
+}

@@ -1,0 +1,118 @@
+// What the record at an index does to the judge. Keys, strings, numbers and containers, which fill most tapes, are tested
+// by their four numbers, with no record in between.
+ghost use Prim.Native.Nat.{_+_, _≤_, _<_, _^_};
+ghost use mathlib.Core.Path.{_≡_};
+ghost use mir.Syntax.{w32};
+ghost use mir.Val.{toZ};
+ghost use lib.ListN.{length};
+ghost use Rattle.meaning.specs.Limits.{storeLimit};
+ghost use Rattle.meaning.specs.Good.{GoodFinite};
+ghost use Rattle.meaning.specs.Look.{wholeRecords, Utf8Inside, Ends};
+ghost use Rattle.tape.specs.Shapes.{Loaded};
+ghost use Rattle.tape.specs.Turns.{afterValue, passOf, passBytesOf, openOf, Tested, Steps};
+use crate::Looked;
+use crate::Turn;
+use crate::Words;
+use crate::fields;
+use crate::numbers;
+use crate::records;
+use crate::turns;
+
+// A string or a key.
+fn text(w: Words, store: &[u8], next: u8, at: usize) -> Turn
+    requires { ⌜ Loaded w × (length (now store) ≤ storeLimit) ⌝ }
+    ensures { λ t. ⌜ Tested ((w .low ≡ 0) × Utf8Inside (w .mid) (w .high) (now (store .entry))) (passBytesOf next (w .mid) (w .high) at) t ⌝ }
+{
+    if w.low != 0 {
+        return Turn::No;
+    }
+    let length = w.mid as usize;
+    let start = w.high as usize;
+    if fields::utf8_inside(length, start, store) {
+        return turns::pass_bytes(next, length, start, at);
+    }
+    Turn::No
+}
+
+// A finite number.
+fn number(w: Words, next: u8, at: usize) -> Turn
+    requires { ⌜ Loaded w ⌝ }
+    ensures { λ t. ⌜ Tested ((w .low ≤ 1) × GoodFinite (w .high) (toZ w32 (w .mid))) (passOf next at) t ⌝ }
+{
+    if w.low > 1 {
+        return Turn::No;
+    }
+    if fields::good_finite(w.high, numbers::signed32(w.mid as u32)) {
+        return turns::pass(next, at);
+    }
+    Turn::No
+}
+
+// An array or an object.
+fn container(w: Words, index: usize, whole: usize, next: u8, inner: u8, depth: usize) -> Turn
+    requires { ⌜ Loaded w ⌝ }
+    ensures { λ t. ⌜ Tested ((w .low ≡ 0) × (w .mid ≡ 0) × Ends (w .high) index whole) (openOf next (w .high) inner depth) t ⌝ }
+{
+    if w.low != 0 {
+        return Turn::No;
+    }
+    if w.mid != 0 {
+        return Turn::No;
+    }
+    let end = w.high as usize;
+    if fields::ends(end, index, whole) {
+        return turns::open(next, end, inner, depth);
+    }
+    Turn::No
+}
+
+// Any record.
+fn any(tape: &[u8], store: &[u8], index: usize, at: usize, depth: usize, state: u8) -> Turn
+    requires { ⌜ length (now store) ≤ storeLimit ⌝ }
+    ensures { λ t. ⌜ Steps (now (tape .entry)) (now (store .entry)) index at depth state t ⌝ }
+{
+    match crate::look(tape, store, index) {
+        Looked::Refused(_) => Turn::No,
+        Looked::Record(r) => turns::turn(r, at, depth, state),
+    }
+}
+
+pub fn step(tape: &[u8], store: &[u8], index: usize, at: usize, depth: usize, state: u8) -> Turn
+    requires { ⌜ (index < wholeRecords (now tape)) × (length (now store) ≤ storeLimit) ⌝ }
+    ensures { λ t. ⌜ Steps (now (tape .entry)) (now (store .entry)) index at depth state t ⌝ }
+{
+    let whole = tape.len() / 16;
+    let w = records::words_at(tape, index * 16);
+    let mark = w.mark;
+    if mark == records::KY {
+        return text(w, store, turns::after_key(state), at);
+    }
+    if mark == records::ST {
+        return text(w, store, turns::after_value(state), at);
+    }
+    if mark == records::NB {
+        return number(w, turns::after_value(state), at);
+    }
+    if mark == records::AR {
+        return container(
+            w,
+            index,
+            whole,
+            turns::after_value(state),
+            turns::IN_ARRAY,
+            depth,
+        );
+    }
+    if mark == records::OB {
+        return container(
+            w,
+            index,
+            whole,
+            turns::after_value(state),
+            turns::BEFORE_KEY,
+            depth,
+        );
+    }
+    let t = any(tape, store, index, at, depth, state);
+    t
+}
