@@ -1,6 +1,7 @@
 // Lanternrung beside what users would pick instead, in one process: measure, read, and read then write, on the same texts.
 //   bench ROUNDS FOLDER FILE..
-// FOLDER has the peers that stand in shared objects of their own, and takes the JSON text that Lanternrung writes.
+// FOLDER has the peers that stand in shared objects of their own, and takes the JSON text that Lanternrung writes. Every
+// contestant takes a FILE.json; of a FILE.jaxn only Lanternrung is timed, of a FILE.txt only the UTF-8 checks and copying.
 // Prints lines "file group name bytes median fastest" with tabs between, times in seconds; chart.py makes the table and the
 // chart. Interleaved: in each round every contestant runs once. Allocating and freeing a tree is part of a peer's time;
 // simdjson keeps its parser, and Lanternrung its buffers, from round to round. A peer whose header is missing is left out.
@@ -76,15 +77,18 @@ static Text load(const char *file) {
     return text;
 }
 
-// Lanternrung with buffers as long as the text allows at most: no text needs more records or store bytes than its length.
+// Lanternrung with lent buffers: no text needs more store bytes than its length. `json` says which of the two writers is meant.
 struct Ours {
     const uint8_t *text;
     size_t length;
     std::vector<uint8_t> tape, store, out;
     lr_sizes sizes{};
     lr_written written{};
+    decltype(&lanternrung_write_json) write;
 
-    explicit Ours(const Text &t) : text((const uint8_t *)t.data()), length(t.size()), store(t.size(), 1), out(2 * t.size(), 1) {
+    Ours(const Text &t, bool json)
+        : text((const uint8_t *)t.data()), length(t.size()), store(t.size(), 1), out(2 * t.size(), 1),
+          write(json ? lanternrung_write_json : lanternrung_write_jaxn) {
         tape.assign(16 * lanternrung_measure(text, length).records, 1);
     }
     size_t read() {
@@ -93,13 +97,12 @@ struct Ours {
     }
     size_t round() {
         if (!read()) return 0;
-        written = lanternrung_write_json(tape.data(), 16 * sizes.records, store.data(), sizes.bytes, out.data(), out.size());
+        written = write(tape.data(), 16 * sizes.records, store.data(), sizes.bytes, out.data(), out.size());
         return written.refused ? 0 : written.length;
     }
 };
 
 static void add_ours(Ours &ours) {
-    add("utf8", "Lanternrung utf8", [&] { return (size_t)!lanternrung_utf8(ours.text, ours.length).refused; });
     add("read", "Lanternrung measure", [&] { return (size_t)lanternrung_measure(ours.text, ours.length).records; });
     add("read", "Lanternrung read", [&] { return ours.read(); });
     add("round", "Lanternrung", [&] { return ours.round(); });
@@ -110,7 +113,6 @@ static void add_simdjson(const Text &in) {
     static simdjson::dom::parser parser;
     static simdjson::padded_string padded;
     padded = simdjson::padded_string(in);
-    add("utf8", "simdjson::validate_utf8", [&] { return (size_t)simdjson::validate_utf8(in.data(), in.size()); });
     add("read", "simdjson", [] { simdjson::dom::element e; return (size_t)!parser.parse(padded).get(e); });
     add("round", "simdjson", [] {
         simdjson::dom::element e;
@@ -119,25 +121,35 @@ static void add_simdjson(const Text &in) {
 #endif
 }
 
+#ifdef HAS_RAPIDJSON
+template <unsigned flags> static size_t rapid_read(const Text &in) {
+    rapidjson::Document d;
+    return !d.Parse<flags>(in.data(), in.size()).HasParseError();
+}
+
+template <unsigned flags> static size_t rapid_round(const Text &in) {
+    rapidjson::Document d;
+    if (d.Parse<flags>(in.data(), in.size()).HasParseError()) return 0;
+    rapidjson::StringBuffer b;
+    rapidjson::Writer<rapidjson::StringBuffer> w(b);
+    d.Accept(w);
+    return b.GetSize();
+}
+#endif
+
+// Numbers kept whole: their digits stay as text, so that none is lost; printed again they would be strings, so there is no
+// round of these. Exact doubles: correctly rounded, where the plain ones may be off in the last place.
 static void add_rapidjson(const Text &in) {
 #ifdef HAS_RAPIDJSON
     using namespace rapidjson;
-    add("read", "RapidJSON, UTF-8 checked", [&] {
-        Document d;
-        return (size_t)!d.Parse<kParseValidateEncodingFlag>(in.data(), in.size()).HasParseError();
-    });
-    add("read", "RapidJSON, UTF-8 checked, numbers kept whole", [&] {
-        Document d;
-        return (size_t)!d.Parse<kParseValidateEncodingFlag | kParseNumbersAsStringsFlag>(in.data(), in.size()).HasParseError();
-    });
-    add("round", "RapidJSON, UTF-8 checked", [&]() -> size_t {
-        Document d;
-        if (d.Parse<kParseValidateEncodingFlag>(in.data(), in.size()).HasParseError()) return 0;
-        StringBuffer b;
-        Writer<StringBuffer> w(b);
-        d.Accept(w);
-        return b.GetSize();
-    });
+    constexpr unsigned checked = kParseValidateEncodingFlag;
+    add("read", "RapidJSON, UTF-8 not checked", [&] { return rapid_read<kParseDefaultFlags>(in); });
+    add("read", "RapidJSON, UTF-8 checked", [&] { return rapid_read<checked>(in); });
+    add("read", "RapidJSON, UTF-8 checked, exact doubles", [&] { return rapid_read<checked | kParseFullPrecisionFlag>(in); });
+    add("read", "RapidJSON, UTF-8 checked, numbers kept whole", [&] { return rapid_read<checked | kParseNumbersAsStringsFlag>(in); });
+    add("round", "RapidJSON, UTF-8 not checked", [&] { return rapid_round<kParseDefaultFlags>(in); });
+    add("round", "RapidJSON, UTF-8 checked", [&] { return rapid_round<checked>(in); });
+    add("round", "RapidJSON, UTF-8 checked, exact doubles", [&] { return rapid_round<checked | kParseFullPrecisionFlag>(in); });
 #endif
 }
 
@@ -203,12 +215,16 @@ static void add_shared(const Text &in, const std::string &folder, const char *gr
     add(group, name, [&in, call] { return call(in.data(), in.size()); });
 }
 
-static void run(const char *file, const std::string &folder, int rounds) {
-    Text in = load(file), copy(in.size(), 1);
-    Ours ours(in);
-    contestants.clear();
+static void add_checks(const Text &in, Text &copy, const std::string &folder) {
     add("utf8", "memcpy", [&] { memcpy(&copy[0], in.data(), in.size()); return in.size(); });
-    add_ours(ours);
+    add("utf8", "Lanternrung utf8", [&] { return (size_t)!lanternrung_utf8((const uint8_t *)in.data(), in.size()).refused; });
+    add_shared(in, folder, "utf8", "Rust str::from_utf8", "peer_std.so", "peer_parse");
+#ifdef HAS_SIMDJSON
+    add("utf8", "simdjson::validate_utf8", [&] { return (size_t)simdjson::validate_utf8(in.data(), in.size()); });
+#endif
+}
+
+static void add_peers(const Text &in, const std::string &folder) {
     add_simdjson(in);
     add_rapidjson(in);
     add_boost(in);
@@ -220,21 +236,37 @@ static void run(const char *file, const std::string &folder, int rounds) {
     add_shared(in, folder, "read", "jansson", "peer_jansson.so", "peer_parse");
     add_shared(in, folder, "round", "jansson", "peer_jansson.so", "peer_round");
     add_cjson(in);
-    add_shared(in, folder, "utf8", "Rust str::from_utf8", "peer_std.so", "peer_parse");
+}
 
+static void time_all(const std::string &name, size_t length, int rounds) {
     for (int r = 0; r < rounds; r++)
         for (auto &c : contestants) {
             double start = now();
             size_t result = c.run();
             c.times.push_back(now() - start);
             sink = result;
-            if (!result) { fprintf(stderr, "%s refuses %s\n", c.name.c_str(), file); exit(1); }
+            if (!result) { fprintf(stderr, "%s refuses %s\n", c.name.c_str(), name.c_str()); exit(1); }
         }
-    std::string name = std::string(file).substr(std::string(file).rfind('/') + 1);
     for (auto &c : contestants) {
         std::sort(c.times.begin(), c.times.end());
-        printf("%s\t%s\t%s\t%zu\t%.9f\t%.9f\n", name.c_str(), c.group.c_str(), c.name.c_str(), in.size(), c.times[c.times.size() / 2], c.times[0]);
+        printf("%s\t%s\t%s\t%zu\t%.9f\t%.9f\n", name.c_str(), c.group.c_str(), c.name.c_str(), length, c.times[c.times.size() / 2], c.times[0]);
     }
+    fflush(stdout);
+}
+
+static bool ends(const std::string &name, const std::string &with) {
+    return name.size() >= with.size() && name.compare(name.size() - with.size(), with.size(), with) == 0;
+}
+
+static void run(const std::string &file, const std::string &folder, int rounds) {
+    Text in = load(file.c_str()), copy(in.size(), 1);
+    std::string name = file.substr(file.rfind('/') + 1);
+    Ours ours(in, ends(name, ".json"));
+    contestants.clear();
+    if (!ends(name, ".jaxn")) add_checks(in, copy, folder);
+    if (!ends(name, ".txt")) add_ours(ours);
+    if (ends(name, ".json")) add_peers(in, folder);
+    time_all(name, in.size(), rounds);
     if (FILE *o = fopen((folder + "/" + name + ".written").c_str(), "wb")) {
         fwrite(ours.out.data(), 1, ours.written.length, o);
         fclose(o);

@@ -1,27 +1,46 @@
 #!/usr/bin/env python3
-"""chart.py TIMES MD SVG: makes the table and the bar chart from what bench printed."""
+"""chart.py TIMES MD SVG: makes the tables and the bar chart from what bench printed.
+
+MD keeps its own words: what stands between the two marks is made anew, the rest stays. An MD that is not there is begun.
+"""
 import os
 import platform
+import re
+import subprocess
 import sys
 from xml.sax.saxutils import escape
 
-GROUPS = {"read": "Read", "round": "Read, then write JSON", "utf8": "UTF-8 check, and copying as the limit"}
-OURS, PEER, INK, GREY = "#c2410c", "#94a3b8", "#1f2937", "#64748b"
-BAR, GAP, LABEL, WIDTH = 15, 4, 310, 300
+BEGIN, END = "<!-- figures: written by harness/bench/run -->", "<!-- end of figures -->"
+GROUPS = {"read": "Read", "round": "Read, then write", "utf8": "UTF-8 checked alone, and copying as the limit"}
+OWN = {"read": "Lanternrung read", "round": "Lanternrung", "utf8": "Lanternrung utf8"}
+WHOLE = "RapidJSON, UTF-8 checked, numbers kept whole"
+RUST = "Rust str::from_utf8"
+OURS, PEER, INK, GREY, LINE = "#c2410c", "#94a3b8", "#1f2937", "#64748b", "#e2e8f0"
+BAR, GAP, LABEL, WIDTH, SPACE = 15, 5, 310, 185, 60
 
 
 def load(path):
-    """[(file, group, name, MB/s by the median, MB/s by the fastest)]"""
-    rows = []
+    """{(group, name): {file: MB/s by the median}}, in the order of the file."""
+    rows = {}
     with open(path) as f:
         for line in f:
-            file, group, name, size, median, fastest = line.rstrip("\n").split("\t")
-            rows.append((file, group, name, int(size) / 1e6 / float(median), int(size) / 1e6 / float(fastest)))
+            file, group, name, size, median, _ = line.rstrip("\n").split("\t")
+            rows.setdefault((group, name), {})[file] = int(size) / 1e6 / float(median)
     return rows
 
 
+def said(command, pattern):
+    """What a program says of its version; nothing where it is not there."""
+    try:
+        text = subprocess.run(command, capture_output=True, text=True).stdout
+    except OSError:
+        return ""
+    found = re.search(pattern, text)
+    return found.group(0) if found else ""
+
+
 def machine():
-    """The processor's name, as far as Linux tells it."""
+    """Processor and compilers, as far as Linux tells them."""
     try:
         with open("/proc/cpuinfo") as f:
             lines = [line.split(":", 1) for line in f if ":" in line]
@@ -30,77 +49,138 @@ def machine():
     names = {key.strip(): value.strip() for key, value in lines}
     parts = {"0xd0c": "Neoverse N1", "0xd40": "Neoverse V1", "0xd49": "Neoverse N2", "0xd4f": "Neoverse V2"}
     part = names.get("CPU part", "")
-    return f"{names.get('model name', parts.get(part, part))} ({platform.machine()}), {os.cpu_count()} processors".strip()
+    processor = names.get("model name", parts.get(part, part))
+    gcc = said([os.environ.get("CXX", "g++"), "--version"], r"\d+\.\d+\.\d+")
+    rust = said(["rustc", "--version"], r"rustc \d+\.\d+\.\d+")
+    return f"{platform.machine()} ({processor}), {os.cpu_count()} cores, g++ {gcc}, {rust}"
 
 
 def unique(items):
     return list(dict.fromkeys(items))
 
 
-def own(rows, file, group):
-    """Lanternrung's figure that the ratios of a group are taken from."""
-    name = {"read": "Lanternrung read", "round": "Lanternrung", "utf8": "Lanternrung utf8"}[group]
-    return next(r[3] for r in rows if r[:3] == (file, group, name))
+def names(rows, group):
+    """Lanternrung first, then the peers, the fastest first."""
+    first = [n for g, n in rows if g == group and n.startswith("Lanternrung")]
+    peers = [n for g, n in rows if g == group and n not in first]
+    files = files_of(rows, group)
+    return first + sorted(peers, key=lambda n: -sum(rows[group, n].get(f, 0) / rows[group, OWN[group]][f] for f in files))
 
 
-def table(rows):
-    files = unique(r[0] for r in rows)
-    out = ["# Speed beside peers", "",
-           f"One run on {machine()}; MB/s of input by the median of interleaved rounds, and in brackets how",
-           "many times as fast Lanternrung is (above 1: Lanternrung is faster). `harness/bench/run` makes this page and its chart.",
-           "", "![Bar chart of the table](bench.svg)"]
-    for group, title in GROUPS.items():
-        out += ["", f"## {title}", "", "| | " + " | ".join(files) + " |", "|---" * (len(files) + 1) + "|"]
-        for name in unique(r[2] for r in rows if r[1] == group):
-            cells = []
-            for file in files:
-                speed = next((r[3] for r in rows if r[:3] == (file, group, name)), None)
-                cells.append("" if speed is None else f"{speed:.0f} ({own(rows, file, group) / speed:.2f})")
-            out.append(f"| {name} | " + " | ".join(cells) + " |")
-    return "\n".join(out) + "\n"
+def files_of(rows, group):
+    """The files on which peers ran."""
+    return unique(f for (g, n), speeds in rows.items() if g == group and not n.startswith("Lanternrung") for f in speeds)
 
 
-def bars(rows, x, y, title):
-    """One panel: a title and a bar for each row, the fastest first."""
-    out = [f'<text x="{x}" y="{y + 12}" font-weight="600">{escape(title)}</text>']
-    top = max(r[3] for r in rows)
-    for i, (_, _, name, speed, _) in enumerate(sorted(rows, key=lambda r: -r[3])):
-        at = y + 22 + i * (BAR + GAP)
-        colour = OURS if name.startswith("Lanternrung") else PEER
-        length = max(1.0, WIDTH * speed / top)
-        out.append(f'<text x="{x + LABEL - 8}" y="{at + 12}" text-anchor="end">{escape(name)}</text>')
-        out.append(f'<rect x="{x + LABEL}" y="{at}" width="{length:.1f}" height="{BAR}" rx="2" fill="{colour}"/>')
-        out.append(f'<text x="{x + LABEL + length + 6:.1f}" y="{at + 12}" fill="{GREY}">{speed:.0f}</text>')
+def table(rows, group):
+    files = files_of(rows, group)
+    out = ["", f"## {GROUPS[group]}", "", "| MB/s (Lanternrung is so many times as fast) | " + " | ".join(files) + " |", "|---" * (len(files) + 1) + "|"]
+    for name in names(rows, group):
+        cells = []
+        for file in files:
+            speed, own = rows[group, name].get(file), rows[group, OWN[group]].get(file)
+            cells.append("" if speed is None else f"{speed:.0f}" if name == OWN[group] else f"{speed:.0f} ({own / speed:.2f})")
+        out.append(f"| {'**' + name + '**' if name == OWN[group] else name} | " + " | ".join(cells) + " |")
     return out
 
 
-def chart(rows):
-    files = unique(r[0] for r in rows)
-    panel = LABEL + WIDTH + 60
-    out, y = [], 62
-    for group in ("read", "round"):
-        most = 0
+def aims(rows):
+    """The three aims as ratios; 1 or more is met."""
+    read, round_ = rows["read", OWN["read"]], rows["round", OWN["round"]]
+    trees = [n for n in names(rows, "round") if not n.startswith("Lanternrung")]
+    out = ["", "## The aims, as ratios", "", "| Lanternrung's speed over | " + " | ".join(files_of(rows, "read")) + " |", "|---" * (len(files_of(rows, "read")) + 1) + "|"]
+    line = [f"{read[f] / rows['read', WHOLE][f]:.2f}" for f in files_of(rows, "read")]
+    out.append(f"| read, over {WHOLE} | " + " | ".join(line) + " |")
+    for title, peers in (("the fastest peer", trees), ("the fastest but simdjson", [n for n in trees if n != "simdjson"])):
+        line = []
+        for f in files_of(rows, "read"):
+            best = max(peers, key=lambda n: rows["round", n][f])
+            line.append(f"{round_[f] / rows['round', best][f]:.2f} ({best})")
+        out.append(f"| read, then write, over {title} | " + " | ".join(line) + " |")
+    ascii_ = {f: rows["utf8", RUST][f] / rows["utf8", OWN["utf8"]][f] for f in files_of(rows, "utf8")}
+    out += ["", "Time of `utf8` over that of Rust's own check (1.5 or less is aimed at on ASCII): "
+            + ", ".join(f"{ratio:.2f} on {f}" for f, ratio in ascii_.items()) + "."]
+    return out
+
+
+def own_only(rows):
+    """Files that only Lanternrung reads."""
+    out = []
+    for file in unique(f for speeds in rows.values() for f in speeds):
+        if file not in files_of(rows, "read") + files_of(rows, "utf8"):
+            parts = [f"{n.replace('Lanternrung ', '') if n != 'Lanternrung' else 'read, then write JAXN'} {s[file]:.0f} MB/s" for (_, n), s in rows.items() if file in s]
+            out += ["", f"`{file}` (the records with comments, unquoted keys, single quotes and trailing commas): " + ", ".join(parts) + "."]
+    return out
+
+
+def figures(rows):
+    out = [BEGIN, "", f"One run on {machine()}."]
+    out += aims(rows)
+    for group in GROUPS:
+        out += table(rows, group)
+    return "\n".join(out + own_only(rows) + ["", END])
+
+
+def page(path, rows):
+    try:
+        with open(path) as f:
+            before = f.read()
+    except OSError:
+        before = ""
+    if BEGIN not in before:
+        before = f"# Speed beside peers\n\n![Bar chart](benchmark.svg)\n\n{BEGIN}\n{END}\n"
+    head, tail = before.split(BEGIN)[0], before.split(END)[1]
+    return head + figures(rows) + tail
+
+
+def bars(rows, group, y):
+    """One panel: names at the left, a column of bars for each file."""
+    files = files_of(rows, group)
+    out = [f'<text x="20" y="{y + 14}" font-size="14" font-weight="600">{escape(GROUPS[group])}</text>']
+    y += 24
+    for i, file in enumerate(files):
+        x = 20 + LABEL + i * (WIDTH + SPACE)
+        out.append(f'<text x="{x}" y="{y + 12}" fill="{GREY}">{escape(file)}</text>')
+    y += 20
+    for name in names(rows, group):
+        ours = name.startswith("Lanternrung")
+        weight = ' font-weight="600"' if ours else ""
+        out.append(f'<text x="{20 + LABEL - 10}" y="{y + 12}" text-anchor="end"{weight}>{escape(name)}</text>')
         for i, file in enumerate(files):
-            part = [r for r in rows if r[:2] == (file, group)]
-            out += bars(part, 20 + i * panel, y, f"{GROUPS[group]}: {file}")
-            most = max(most, len(part))
-        y += 22 + most * (BAR + GAP) + 26
-    width = 20 + len(files) * panel
+            x = 20 + LABEL + i * (WIDTH + SPACE)
+            speed = rows[group, name].get(file)
+            if speed is not None:
+                top = max(s[file] for (g, _), s in rows.items() if g == group and file in s)
+                length = max(1.0, WIDTH * speed / top)
+                out.append(f'<rect x="{x}" y="{y}" width="{length:.1f}" height="{BAR}" rx="2" fill="{OURS if ours else PEER}"/>')
+                out.append(f'<text x="{x + length + 5:.1f}" y="{y + 12}" fill="{GREY}">{speed:.0f}</text>')
+        y += BAR + GAP
+    return out, y + 22
+
+
+def chart(rows):
+    width = 40 + LABEL + 4 * (WIDTH + SPACE)
+    out, y = [], 66
+    for group in GROUPS:
+        part, y = bars(rows, group, y)
+        out += part
     head = [f'<svg xmlns="http://www.w3.org/2000/svg" viewBox="0 0 {width} {y}" width="{width}" height="{y}" '
             f'font-family="system-ui, sans-serif" font-size="12" fill="{INK}">',
             f'<rect width="{width}" height="{y}" fill="white"/>',
-            '<text x="20" y="26" font-size="16" font-weight="600">Lanternrung beside peers, MB/s of input (longer is faster)</text>',
-            f'<text x="20" y="44" fill="{GREY}">{escape(machine())}; medians of interleaved runs in one process</text>']
+            '<text x="20" y="28" font-size="17" font-weight="600">Lanternrung beside peers, MB/s of input (longer is faster)</text>',
+            f'<text x="20" y="47" fill="{GREY}">{escape(machine())}; medians of interleaved rounds in one run</text>',
+            f'<line x1="20" y1="57" x2="{width - 20}" y2="57" stroke="{LINE}"/>']
     return "\n".join(head + out + ["</svg>"]) + "\n"
 
 
 def main():
     times, md, svg = sys.argv[1:]
     rows = load(times)
+    text, image = page(md, rows), chart(rows)
     with open(md, "w") as f:
-        f.write(table(rows))
+        f.write(text)
     with open(svg, "w") as f:
-        f.write(chart(rows))
+        f.write(image)
 
 
 main()

@@ -67,22 +67,10 @@ fn print_text(text: &[u8]) -> bool {
 
 // A refusal by document 01's number and place.
 fn refuse(why: Refusal) -> bool {
-    match why {
-        Refusal::TextTooLong => print_refusal(1, 16777216),
-        Refusal::NotUtf8(at) => print_refusal(2, at as u64),
-        Refusal::NotGrammar(at) => print_refusal(3, at as u64),
-        Refusal::BadEscape(at) => print_refusal(4, at as u64),
-        Refusal::BadTime(at) => print_refusal(5, at as u64),
-        Refusal::BadNumber(at) => print_refusal(6, at as u64),
-        Refusal::TooDeep(at) => print_refusal(7, at as u64),
-        Refusal::TapeTooShort(needed) => print_refusal(8, needed as u64),
-        Refusal::StoreTooShort(needed) => print_refusal(9, needed as u64),
-        Refusal::NotWellFormed(at) => print_refusal(10, at as u64),
-        Refusal::NoJsonForm(index) => print_refusal(11, index as u64),
-        Refusal::OutputTooShort(needed) => print_refusal(12, needed as u64),
-        Refusal::WrittenTooLong(size) => print_refusal(13, size as u64),
-        Refusal::NoSuchRecord(index) => print_refusal(14, index as u64),
-    }
+    print_refusal(
+        lanternrung::exports::number(why) as u64,
+        lanternrung::exports::place(why),
+    )
 }
 
 // The answer to a text of at most 65,536 bytes.

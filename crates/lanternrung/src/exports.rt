@@ -60,7 +60,7 @@ pub struct Fields {
 const LONGEST: u64 = 16777216;
 
 // A refusal's number.
-fn number(why: Refusal) -> u32
+pub fn number(why: Refusal) -> u32
     ensures { λ r. ⌜ r ≡ numberOf why ⌝ }
 {
     match why {
@@ -82,7 +82,7 @@ fn number(why: Refusal) -> u32
 }
 
 // A refusal's place.
-fn place(why: Refusal) -> u64
+pub fn place(why: Refusal) -> u64
     ensures { λ r. ⌜ r ≡ placeOf why ⌝ }
 {
     match why {

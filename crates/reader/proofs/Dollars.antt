@@ -14,25 +14,25 @@ use Rattle.meaning.specs.Letters.{ch}
 use Rattle.machine.specs.Scan.{Out, takes, stops, breaks, over, Ran, ended, broke, ran}
 use Rattle.machine.specs.Strings.{hexOf, noDigit, shortOf, noShort}
 use Rattle.machine.specs.Binaries.{St, start, dollar, text, esc, hex, hexLow, low, pairs, dot, done, begin, onDigit, onShort, onText, scan}
-use Rattle.reader.specs.Stores.{digitAt}
+use Rattle.items.specs.Places.{digitAt}
+use Rattle.items.proofs.PlacesLaws.{byte-in, byte-out}
 use Rattle.reader.specs.Joins.{Meant, PieceSays}
 use Rattle.reader.specs.Binaries.{Turns, PairSays, Escaped, OctetSays, Closing, StateSays, PairsSays, TextSays}
 use Rattle.reader.specs.declared.binaries.Pair.{Pair}
 use Rattle.reader.specs.declared.binaries.Octet.{Octet}
 use Rattle.reader.specs.declared.binaries.Piece.{Piece}
 use Rattle.reader.proofs.Scans.{run-take, run-stop, run-break, end-stop, end-break}
-use Rattle.reader.proofs.Stored.{sets-app}
+use Rattle.items.proofs.StoresLaws.{sets-app}
 
 -- ---- digits
 
 module _ (s : List ℕ) (p : ℕ) where
   pub digit-is : p < length s → digitAt s p ≡ hexOf (getD s p 0)
-  unfolding digitAt
-  digit-is h = simp (lt-ltb _ _ h)
+  digit-is h = ap hexOf (byte-in s p h)
 
   pub digit-none : length s ≤ p → digitAt s p ≡ noDigit
-  unfolding digitAt
-  digit-none h = simp (le-ltb _ _ h)
+  unfolding hexOf
+  digit-none h = rw (byte-out s p h)
 
   pub digit-in : digitAt s p < noDigit → p < length s
   digit-in h = by (decLt p (length s))

@@ -27,7 +27,7 @@ use Rattle.reader.specs.declared.binaries.Piece.{Piece}
 use Rattle.reader.proofs.Runs.{go, alike, then}
 use Rattle.reader.proofs.Classes.{ClassIs, class-is, closing, opening}
 use Rattle.reader.proofs.Scans.{lift-done, lift-refused}
-use Rattle.reader.proofs.Stored.{sets-app}
+use Rattle.items.proofs.StoresLaws.{sets-app}
 
 -- ---- what follows a part
 

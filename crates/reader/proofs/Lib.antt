@@ -4,8 +4,6 @@ pub mod Runs
 pub mod Classes
 -- Blanked: layout
 pub mod Blanked
--- Stored: bytes put into a store
-pub mod Stored
 -- Spelling: a word
 pub mod Spelling
 -- Scans: a scanner by itself, and lifted to the machine

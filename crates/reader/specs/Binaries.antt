@@ -7,7 +7,7 @@ use Rattle.meaning.specs.declared.Refusal.the-variants.{NotGrammar}
 use Rattle.machine.specs.Scan.{Ran, ended, broke, ran}
 use Rattle.machine.specs.Strings.{noDigit}
 use Rattle.machine.specs.Binaries.{St, low, pairs, text, esc, scan}
-use Rattle.reader.specs.Stores.{digitAt}
+use Rattle.items.specs.Places.{digitAt}
 use Rattle.reader.specs.Joins.{Meant}
 use Rattle.reader.specs.declared.binaries.Pair.{Pair}
 use Rattle.reader.specs.declared.binaries.Octet.{Octet}

@@ -4,8 +4,6 @@ pub mod Scanning
 pub mod Layouts
 -- Words: what the reader of a word promises
 pub mod Words
--- Stores: bytes into a lent store
-pub mod Stores
 -- Joins: what the readers of strings, binary and keys promise
 pub mod Joins
 -- Binaries: what the readers inside a binary part promise

@@ -1,12 +1,10 @@
 // Reads a text into a tape and a store: `measure` says what it needs, `read` fills.
-pub mod binaries;
-pub mod cursor;
-pub mod hexes;
-pub mod joins;
-pub mod layouts;
-pub mod names;
-pub mod stores;
-pub mod words;
+mod binaries;
+mod cursor;
+mod joins;
+mod layouts;
+mod names;
+mod words;
 
 ghost use Prim.Native.Nat.{_≤_};
 ghost use lib.ListN.{length};

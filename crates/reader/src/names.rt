@@ -8,7 +8,7 @@ ghost use Rattle.reader.specs.Scanning.{Bare};
 ghost use Rattle.reader.specs.Joins.{sortIs, NameEnds, KeySays};
 use crate::joins;
 use crate::joins::Bytes;
-use crate::stores;
+use items::stores;
 use meaning::Refusal;
 
 // A byte in an identifier.

@@ -4,7 +4,7 @@ use crate::showing;
 use crate::spelling;
 
 // The bytes from a place on, and the place after them.
-fn put(out: &mut [u8], at: usize, s: &[u8]) -> usize {
+fn put(out: &mut [u8; 4096], at: usize, s: &[u8]) -> usize {
     if at <= 1024 {
         if s.len() <= 64 {
             tape::put_bytes(out, at, s);
@@ -14,7 +14,7 @@ fn put(out: &mut [u8], at: usize, s: &[u8]) -> usize {
     at
 }
 
-fn piece(out: &mut [u8], at: usize, kind: u64) -> usize {
+fn piece(out: &mut [u8; 4096], at: usize, kind: u64) -> usize {
     match kind % 16 {
         0 => put(out, at, b"null"),
         1 => put(out, at, b"{a:true,'b' : [] , }"),
@@ -35,26 +35,33 @@ fn piece(out: &mut [u8], at: usize, kind: u64) -> usize {
     }
 }
 
-// A record of seven values, two of them in an array of their own and one a member.
+// Eight values by the digits of the seed in base 16, each with a comma and a line feed after it.
+fn values(out: &mut [u8; 4096], seed: u64) -> usize {
+    let mut at: usize = 1;
+    let mut rest = seed;
+    let mut left: u64 = 8;
+    while left > 0 {
+        at = piece(out, at, rest);
+        at = put(out, at, b",\n");
+        rest /= 16;
+        left -= 1;
+    }
+    at
+}
+
+fn goes_round(out: &[u8; 4096], end: usize) -> bool {
+    let all: &[u8] = out;
+    let size = spelling::within(end as u64, all);
+    calls::goes_round(&all[..size])
+}
+
+// An array of eight values comes back.
 fn generated(seed: u64) -> bool {
     let mut out = io::buffer();
-    let a = put(&mut out, 0, b"[");
-    let b = piece(&mut out, a, seed);
-    let c = put(&mut out, b, b" , ");
-    let d = piece(&mut out, c, seed / 16);
-    let e = put(&mut out, d, b",\n[");
-    let f = piece(&mut out, e, seed / 256);
-    let g = put(&mut out, f, b",");
-    let h = piece(&mut out, g, seed / 4096);
-    let i = put(&mut out, h, b",], {x:");
-    let j = piece(&mut out, i, seed / 65536);
-    let k = put(&mut out, j, b"},");
-    let l = piece(&mut out, k, seed / 1048576);
-    let m = put(&mut out, l, b",");
-    let n = piece(&mut out, m, seed / 16777216);
-    let end = put(&mut out, n, b"]");
-    let size = spelling::within(end as u64, &out);
-    calls::goes_round(&out[..size])
+    put(&mut out, 0, b"[");
+    let at = values(&mut out, seed);
+    let end = put(&mut out, at, b"]");
+    goes_round(&out, end)
 }
 
 fn mixed(seed: u64) -> u64 {

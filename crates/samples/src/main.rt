@@ -21,17 +21,18 @@ mod spelling;
 use libc::STDIN_FILENO;
 use libc::STDOUT_FILENO;
 
-// The call of this name on its arguments; false where there is none.
-fn call(name: &[u8], rest: &[u8]) -> bool {
-    if name.len() == 0 || check::same(name, b"#") {
-        return true;
-    }
+// The call of this name on its arguments, by what it is given; false where there is none.
+fn on_rules(name: &[u8], rest: &[u8]) -> bool {
     if check::same(name, b"utf8") {
         return calls::utf8(rest);
     }
     if check::same(name, b"date") {
         return calls::date(rest);
     }
+    false
+}
+
+fn on_text(name: &[u8], rest: &[u8]) -> bool {
     if check::same(name, b"measure") {
         return calls::measure(rest);
     }
@@ -47,6 +48,10 @@ fn call(name: &[u8], rest: &[u8]) -> bool {
     if check::same(name, b"json") {
         return calls::json(rest);
     }
+    false
+}
+
+fn on_tape(name: &[u8], rest: &[u8]) -> bool {
     if check::same(name, b"look") {
         return calls::look(rest);
     }
@@ -60,6 +65,13 @@ fn call(name: &[u8], rest: &[u8]) -> bool {
         return generated::sweep(rest);
     }
     false
+}
+
+fn call(name: &[u8], rest: &[u8]) -> bool {
+    if name.len() == 0 || check::same(name, b"#") {
+        return true;
+    }
+    on_rules(name, rest) || on_text(name, rest) || on_tape(name, rest)
 }
 
 fn line(s: &[u8]) {

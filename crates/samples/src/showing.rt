@@ -91,6 +91,21 @@ fn signed_field(name: &[u8], x: i32) {
     }
 }
 
+fn number_fields(f: Fields) {
+    signed_field(b" power ", f.power);
+    field(b" coefficient ", f.coefficient);
+    field(b" length ", f.length);
+    field(b" start ", f.start);
+}
+
+fn time_fields(f: Fields) {
+    field(b" year ", f.year as u64);
+    field(b" month ", f.month as u64);
+    field(b" day ", f.day as u64);
+    signed_field(b" offset ", f.offset);
+    field(b" time ", f.time);
+}
+
 pub fn fields(f: Fields) {
     if f.refused > 0 {
         refused(f.refused, f.place);
@@ -98,15 +113,8 @@ pub fn fields(f: Fields) {
         say(b"kind");
         field(b" ", f.kind as u64);
         field(b" flag ", f.flag as u64);
-        signed_field(b" power ", f.power);
-        field(b" coefficient ", f.coefficient);
-        field(b" length ", f.length);
-        field(b" start ", f.start);
-        field(b" year ", f.year as u64);
-        field(b" month ", f.month as u64);
-        field(b" day ", f.day as u64);
-        signed_field(b" offset ", f.offset);
-        field(b" time ", f.time);
+        number_fields(f);
+        time_fields(f);
         field(b" end ", f.end);
     }
 }

@@ -1,5 +1,5 @@
 -- The record at an index, tested by its four numbers, and its turn. Assumes nothing.
-use mathlib.Core.Path.{_≡_, refl, sym, ap, _∙_, subst}
+use mathlib.Core.Path.{_≡_, sym, ap, _∙_, subst}
 use mathlib.Core.List.{List}
 use Prim.Native.Nat.{ℕ, _*_, _≤_, _<_}
 use native.Mathlib.Omega.{arith}
@@ -7,12 +7,8 @@ use lib.Dec.{eqb}
 use lib.ListN.{getD}
 use mir.Syntax.{w32}
 use mir.Val.{toZ}
-use mir.ValLaws.{ofZ-toZ}
-use borrow.Author.Tests.{eq-eqb, ne-eqb}
-use native.Mathlib.Decide.{decLe}
 use Rattle.meaning.specs.declared.Number.the-variants.{Finite}
 use Rattle.meaning.specs.declared.Record.{Record}
-use Rattle.meaning.specs.Bytes.{flag}
 use Rattle.meaning.specs.Good.{GoodFinite}
 use Rattle.meaning.specs.Words.{mark, markOf, lowOf, midOf, highOf, Fit}
 use Rattle.meaning.specs.Look.{Utf8Inside, Ends, OwnFields, wholeRecords, RecordAt}
@@ -20,15 +16,8 @@ use Rattle.tape.specs.declared.Words.{Words}
 use Rattle.tape.specs.declared.Turn.{Turn}
 use Rattle.tape.specs.Shapes.{Worded, Loaded, onlyRecord, wordsAt}
 use Rattle.tape.specs.Turns.{afterValue, afterKey, passOf, passBytesOf, openOf, turnOf, Tested, passes, fails, Steps, stands, none}
-use Rattle.tape.proofs.Wording.{flag-small, only-key, only-text, only-finite, only-array, only-object, record-of-fits}
+use Rattle.tape.proofs.Wording.{flag-small, only-key, only-text, only-finite, only-array, only-object, key-words, text-words, finite-words, array-words, object-words, record-of-fits}
 use Rattle.tape.proofs.Looks.{loaded-as, record-numbers, record-only, record-there}
-
-flag-back : (n : ℕ) → n ≤ 1 → n ≡ flag (eqb n 1)
-flag-back n h =
-    elim (decLe 1 n) [
-      | yes g ↦ let e : n ≡ 1 = omega arith in e ∙ ap flag (sym (eq-eqb n 1 e))
-      | no g ↦ let e : n ≡ 0 = omega arith in e ∙ ap flag (sym (ne-eqb n 1 (λ q. omega arith)))
-    ]
 
 module _ (tape store : List ℕ) (index at depth state : ℕ) (bytes : (j : ℕ) → getD tape j 0 < 256) (within : index < wholeRecords tape) (w : Words)
     (e : w ≡ wordsAt tape (index * 16))
@@ -62,14 +51,14 @@ module _ (tape store : List ℕ) (index at depth state : ℕ) (bytes : (j : ℕ)
       pub key-steps : w .mark ≡ mark "k" "y" → next ≡ afterKey state → Tested Text (passBytesOf next (w .mid) (w .high) at) u → Steps tape store index at depth state u
       unfolding markOf lowOf midOf highOf turnOf
       key-steps m n d =
-          tested (Record.Key (w .mid) (w .high)) (only-key _ _ _ _ m) (λ p. (record { mark-is = m; low-is = p .0; mid-is = refl; high-is = refl }, p .1))
+          tested (Record.Key (w .mid) (w .high)) (only-key _ _ _ _ m) (λ p. (key-words w m (p .0), p .1))
           (λ g o. (g .low-is, o)) (ap (λ (x : ℕ). passBytesOf x (w .mid) (w .high) at) n) d
 
       pub text-steps : w .mark ≡ mark "s" "t" → next ≡ afterValue state → Tested Text (passBytesOf next (w .mid) (w .high) at) u
           → Steps tape store index at depth state u
       unfolding markOf lowOf midOf highOf turnOf
       text-steps m n d =
-          tested (Record.Str (w .mid) (w .high)) (only-text _ _ _ _ m) (λ p. (record { mark-is = m; low-is = p .0; mid-is = refl; high-is = refl }, p .1))
+          tested (Record.Str (w .mid) (w .high)) (only-text _ _ _ _ m) (λ p. (text-words w m (p .0), p .1))
           (λ g o. (g .low-is, o)) (ap (λ (x : ℕ). passBytesOf x (w .mid) (w .high) at) n) d
 
       pub number-steps : w .mark ≡ mark "n" "b" → next ≡ afterValue state
@@ -77,24 +66,21 @@ module _ (tape store : List ℕ) (index at depth state : ℕ) (bytes : (j : ℕ)
       unfolding markOf lowOf midOf highOf turnOf
       number-steps m n d =
           tested (Record.Number (Finite (eqb (w .low) 1) (w .high) (toZ w32 (w .mid)))) (only-finite _ _ _ _ m)
-          (λ p. (
-            record { mark-is = m; low-is = flag-back (w .low) (p .0); mid-is = sym (ofZ-toZ w32 (w .mid) (record { fits = loads .mid-small })); high-is = refl },
-            p .1,
-          ))
+          (λ p. (finite-words w m (p .0) (loads .mid-small), p .1))
           (λ g o. (omega (arith, g .low-is, flag-small (eqb (w .low) 1)), o)) (ap (λ (x : ℕ). passOf x at) n) d
 
       pub array-steps : w .mark ≡ mark "a" "r" → next ≡ afterValue state → Tested Container (openOf next (w .high) 2 depth) u
           → Steps tape store index at depth state u
       unfolding markOf lowOf midOf highOf turnOf
       array-steps m n d =
-          tested (Record.Array (w .high)) (only-array _ _ _ _ m) (λ p. (record { mark-is = m; low-is = p .0; mid-is = p .1; high-is = refl }, p .2))
+          tested (Record.Array (w .high)) (only-array _ _ _ _ m) (λ p. (array-words w m (p .0) (p .1), p .2))
           (λ g o. (g .low-is, g .mid-is, o)) (ap (λ (x : ℕ). openOf x (w .high) 2 depth) n) d
 
       pub object-steps : w .mark ≡ mark "o" "b" → next ≡ afterValue state → Tested Container (openOf next (w .high) 3 depth) u
           → Steps tape store index at depth state u
       unfolding markOf lowOf midOf highOf turnOf
       object-steps m n d =
-          tested (Record.Object (w .high)) (only-object _ _ _ _ m) (λ p. (record { mark-is = m; low-is = p .0; mid-is = p .1; high-is = refl }, p .2))
+          tested (Record.Object (w .high)) (only-object _ _ _ _ m) (λ p. (object-words w m (p .0) (p .1), p .2))
           (λ g o. (g .low-is, g .mid-is, o)) (ap (λ (x : ℕ). openOf x (w .high) 3 depth) n) d
 
 -- ---- a step that was taken

@@ -2,12 +2,14 @@
 use mathlib.Core.Path.{_≡_, refl, sym, ap, ap₂, _∙_, subst}
 use mathlib.Core.Bool.{Bool, true, false, cond}
 use Prim.Native.Nat.{ℕ, _+_, _*_, _/_, _%_, _^_, _≤_, _<_}
+use native.Mathlib.Decide.{decLe}
 use native.Mathlib.Omega.{arith}
 use lib.Dec.{eqb}
 use lib.IntN.{ℤ}
 use mir.Syntax.{w16, w32}
 use mir.Val.{ofZ, toZ}
-use mir.ValLaws.{toZ-ofZ, toZ-fits}
+use mir.ValLaws.{toZ-ofZ, ofZ-toZ, toZ-fits}
+use borrow.Author.Tests.{eq-eqb, ne-eqb}
 use Rattle.meaning.specs.declared.Number.{Number}
 use Rattle.meaning.specs.declared.Number.the-variants.{Finite, NotANumber, Infinite}
 use Rattle.meaning.specs.declared.Date.{Date}
@@ -19,7 +21,7 @@ use Rattle.meaning.specs.Words.{mark, markOf, lowOf, midOf, highOf, monthDay, f
 use Rattle.meaning.proofs.Records.{record-words}
 use Rattle.tape.specs.declared.Words.{Words}
 use Rattle.tape.specs.declared.Shape.{Shape}
-use Rattle.tape.specs.Shapes.{Worded, Loaded, Written, notFinite, dateOf, recordOf, Shaped, shaped, junk}
+use Rattle.tape.specs.Shapes.{Worded, Loaded, Written, notFinite, dateOf, recordOf, onlyRecord, Common, Shaped, shaped, junk}
 
 pub flag-small : (b : Bool) → flag b ≤ 1
 flag-small true = omega arith
@@ -128,6 +130,47 @@ module _ (a low mid high : ℕ) where
   unfolding recordOf
   only-object e = ap (λ (x : ℕ). recordOf x low mid high) e
 
+-- a number that is 0 or 1 is a sign's
+flag-back : (n : ℕ) → n ≤ 1 → n ≡ flag (eqb n 1)
+flag-back n h =
+    elim (decLe 1 n) [
+      | yes g ↦ let e : n ≡ 1 = omega arith in e ∙ ap flag (sym (eq-eqb n 1 e))
+      | no g ↦ let e : n ≡ 0 = omega arith in e ∙ ap flag (sym (ne-eqb n 1 (λ q. omega arith)))
+    ]
+
+-- and where its unnamed bytes are zero, it has these numbers
+module _ (w : Words) where
+  pub key-words : w .mark ≡ mark "k" "y" → w .low ≡ 0 → Worded (Record.Key (w .mid) (w .high)) w
+  unfolding markOf lowOf midOf highOf
+  key-words m l = record { mark-is = m; low-is = l; mid-is = refl; high-is = refl }
+
+  pub text-words : w .mark ≡ mark "s" "t" → w .low ≡ 0 → Worded (Record.Str (w .mid) (w .high)) w
+  unfolding markOf lowOf midOf highOf
+  text-words m l = record { mark-is = m; low-is = l; mid-is = refl; high-is = refl }
+
+  pub finite-words : w .mark ≡ mark "n" "b" → w .low ≤ 1 → w .mid < 2 ^ 32 → Worded (Record.Number (Finite (eqb (w .low) 1) (w .high) (toZ w32 (w .mid)))) w
+  unfolding markOf lowOf midOf highOf
+  finite-words m l f = record {
+    mark-is = m;
+    low-is = flag-back (w .low) l;
+    mid-is = sym (ofZ-toZ w32 (w .mid) (record { fits = f }));
+    high-is = refl;
+  }
+
+  pub array-words : w .mark ≡ mark "a" "r" → w .low ≡ 0 → w .mid ≡ 0 → Worded (Record.Array (w .high)) w
+  unfolding markOf lowOf midOf highOf
+  array-words m l d = record { mark-is = m; low-is = l; mid-is = d; high-is = refl }
+
+  pub object-words : w .mark ≡ mark "o" "b" → w .low ≡ 0 → w .mid ≡ 0 → Worded (Record.Object (w .high)) w
+  unfolding markOf lowOf midOf highOf
+  object-words m l d = record { mark-is = m; low-is = l; mid-is = d; high-is = refl }
+
+  pub not-common : Common w false
+  not-common = record { worded = λ e. let z : _≡_ {A = ℕ} 0 1 = cc in absurd (omega arith) }
+
+  pub is-common : {r : Record} {b : Bool} → onlyRecord w ≡ r → Worded r w → Common w b
+  is-common e g = record { worded = λ t. subst (λ (x : Record). Worded x w) (sym e) g }
+
 -- so where that one has other numbers, there is none
 module _ (w v : Words) (r : Record) (is : r ≡ recordOf (w .mark) (w .low) (w .mid) (w .high)) (g : Worded r v) where
   junk-by : ((s : Record) → Fit s → Worded s w → Worded s v → ⊥) → Shaped w Shape.Junk
@@ -181,3 +224,6 @@ pub same-words : (w v : Words) (r : Record) → Loaded w → r ≡ recordOf (w .
 same-words w v r l is g a b c d =
     shaped (subst Fit (sym is) (record-of-fits w l))
     (record { mark-is = sym a ∙ g .mark-is; low-is = sym b ∙ g .low-is; mid-is = sym c ∙ g .mid-is; high-is = sym d ∙ g .high-is })
+
+pub common-shape : (w : Words) (r : Record) {b : Bool} → Loaded w → Common w b → b ≡ true → r ≡ onlyRecord w → Shaped w (Shape.Record r)
+common-shape w r l c t e = shaped (subst Fit (sym e) (record-of-fits w l)) (subst (λ (x : Record). Worded x w) (sym e) (c .worded t))

@@ -1,6 +1,6 @@
 -- What the functions between sixteen bytes and a record promise their callers. Assumes nothing.
 use mathlib.Core.Path.{_≡_}
-use mathlib.Core.Bool.{true, false, cond}
+use mathlib.Core.Bool.{Bool, true, false, cond}
 use mathlib.Core.List.{List}
 use Prim.Native.Nat.{ℕ, _+_, _/_, _%_, _<_, _^_}
 use lib.Dec.{eqb}
@@ -62,6 +62,10 @@ recordOf a low mid high =
 
 abbrev pub onlyRecord : Words → Record
 onlyRecord w = recordOf (w .mark) (w .low) (w .mid) (w .high)
+
+-- true only where it has them
+pub record Common (w : Words) (b : Bool) : Type 0 where
+  pub worded : b ≡ true → Worded (onlyRecord w) w
 
 -- a record whose numbers are these, or no record has them
 pub data Shaped (w : Words) : Shape → Type 0 where

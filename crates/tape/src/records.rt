@@ -4,7 +4,7 @@ ghost use Prim.Native.Nat.{_+_, _≤_, _<_, _^_};
 ghost use lib.ListN.{length};
 ghost use Rattle.meaning.specs.declared.Record.{Record};
 ghost use Rattle.meaning.specs.Words.{monthDay, fourWords, FitDate};
-ghost use Rattle.tape.specs.Shapes.{Written, Loaded, notFinite, dateOf, onlyRecord, Shaped, wordsAt};
+ghost use Rattle.tape.specs.Shapes.{Written, Loaded, notFinite, dateOf, onlyRecord, Common, Shaped, wordsAt};
 use crate::Shape;
 use crate::Words;
 use crate::numbers;
@@ -265,7 +265,8 @@ fn record_of(w: Words) -> Record
     Record::Null
 }
 
-// The same. Keys, strings, numbers and containers, which fill most tapes, come first: this much is compiled into its callers.
+// The same. Keys, strings, numbers and containers, which fill most tapes, come first: so much is compiled into the
+// callers. The last answer has a local of its own, so that the others need no place in memory.
 fn common_record(w: Words) -> Record
     requires { ⌜ Loaded w ⌝ }
     ensures { λ r. ⌜ r ≡ onlyRecord w ⌝ }
@@ -309,7 +310,7 @@ fn common_record(w: Words) -> Record
 }
 
 // The record with these four numbers, or none: a record's own numbers are these, or no record has them.
-fn shape_of(w: Words) -> Shape
+fn any_shape(w: Words) -> Shape
     requires { ⌜ Loaded w ⌝ }
     ensures { λ s. ⌜ Shaped w s ⌝ }
 {
@@ -328,6 +329,51 @@ fn shape_of(w: Words) -> Shape
         return Shape::Junk;
     }
     Shape::Record(r)
+}
+
+// Whether these are the numbers of a key, a string, a number or a container: their unnamed bytes are zero.
+fn common(w: Words) -> bool
+    requires { ⌜ Loaded w ⌝ }
+    ensures { λ b. ⌜ Common w b ⌝ }
+{
+    let mark = w.mark;
+    if mark == NB {
+        if w.low > 1 {
+            return false;
+        }
+        return true;
+    }
+    if w.low != 0 {
+        return false;
+    }
+    if mark == KY {
+        return true;
+    }
+    if mark == ST {
+        return true;
+    }
+    if w.mid != 0 {
+        return false;
+    }
+    if mark == AR {
+        return true;
+    }
+    if mark == OB {
+        return true;
+    }
+    false
+}
+
+// The same as of any record, the common ones first.
+fn shape_of(w: Words) -> Shape
+    requires { ⌜ Loaded w ⌝ }
+    ensures { λ s. ⌜ Shaped w s ⌝ }
+{
+    if common(w) {
+        return Shape::Record(common_record(w));
+    }
+    let s = any_shape(w);
+    s
 }
 
 // The four numbers in the sixteen bytes from the place `at`.

@@ -1,6 +1,6 @@
 // What the record at an index does to the judge. Keys, strings, numbers and containers, which fill most tapes, are tested
 // by their four numbers, with no record in between.
-ghost use Prim.Native.Nat.{_+_, _≤_, _<_, _^_};
+ghost use Prim.Native.Nat.{_≤_, _<_};
 ghost use mathlib.Core.Path.{_≡_};
 ghost use mir.Syntax.{w32};
 ghost use mir.Val.{toZ};
@@ -9,7 +9,7 @@ ghost use Rattle.meaning.specs.Limits.{storeLimit};
 ghost use Rattle.meaning.specs.Good.{GoodFinite};
 ghost use Rattle.meaning.specs.Look.{wholeRecords, Utf8Inside, Ends};
 ghost use Rattle.tape.specs.Shapes.{Loaded};
-ghost use Rattle.tape.specs.Turns.{afterValue, passOf, passBytesOf, openOf, Tested, Steps};
+ghost use Rattle.tape.specs.Turns.{passOf, passBytesOf, openOf, Tested, Steps};
 use crate::Looked;
 use crate::Turn;
 use crate::Words;
@@ -77,6 +77,8 @@ fn any(tape: &[u8], store: &[u8], index: usize, at: usize, depth: usize, state: 
     }
 }
 
+// The judge's place in the store, its depth and its state are given. The last answer has a local of its own, so that the
+// others need no place in memory.
 pub fn step(tape: &[u8], store: &[u8], index: usize, at: usize, depth: usize, state: u8) -> Turn
     requires { ⌜ (index < wholeRecords (now tape)) × (length (now store) ≤ storeLimit) ⌝ }
     ensures { λ t. ⌜ Steps (now (tape .entry)) (now (store .entry)) index at depth state t ⌝ }

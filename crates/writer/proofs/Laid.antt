@@ -5,7 +5,7 @@ use Prim.Native.Nat.{ℕ, suc, _+_, _-_, _≤_, _<_}
 use native.Mathlib.Numerals.{add-one}
 use native.Mathlib.Omega.{arith}
 use lib.ListN.{length, take, drop, set, getD, length-append, length-take, length-drop, take-append-drop, drop-of-length-le}
-use lib.Seq.{set-at, take-at, drop-at, drop-drop, drop-cons, take-suc, take-all, set-split}
+use lib.Seq.{set-at, take-append-le, take-take, take-at, drop-at, drop-drop, drop-cons, take-suc, take-all, set-split}
 use Rattle.writer.specs.Laid.{laid, laidAt, Put, PutAt}
 
 pub put-as : {t u o out : List ℕ} {r : ℕ} → t ≡ u → Put t o out r → Put u o out r
@@ -61,6 +61,18 @@ laid-before b at t o h =
     ∙ ap (λ (x : List ℕ). set x at b) (append-assoc (take at o) (getD o at 0 ∷ []) w)
     ∙ set-at (take at o) (getD o at 0) w b at z
     ∙ ap (λ (x : ℕ). take at o ++ (b ∷ (t ++ drop x o))) k
+
+-- a piece before those that stand
+pub laid-under : (t u o : List ℕ) (at : ℕ) → at + length t ≤ length o → laidAt t at (laidAt u (at + length t) o) ≡ laidAt (t ++ u) at o
+laid-under t u o at h =
+    let i = at + length t in
+    let a = take i o in
+    let w = u ++ drop (i + length u) o in
+    let z : length a ≡ i = length-take i o ∙ omega arith in
+    let k : i + length u ≡ at + length (t ++ u) = omega (arith, length-append t u) in
+    ap₂ (λ (x y : List ℕ). x ++ (t ++ y)) (take-append-le at a w (omega arith) ∙ take-take at i o (omega arith)) (drop-at a w i z)
+    ∙ ap (λ (x : List ℕ). take at o ++ x) (sym (append-assoc t u (drop (i + length u) o)))
+    ∙ ap (λ (x : ℕ). take at o ++ ((t ++ u) ++ drop x o)) k
 
 -- ---- a part that is lent, from the place `at` on, as the borrow checker says it, and the whole where it has come back
 

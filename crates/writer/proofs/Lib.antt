@@ -2,6 +2,7 @@ pub mod Laid
 pub mod Filling
 pub mod Signs
 pub mod Pieces
+pub mod Plain
 pub mod Printed
 pub mod Shares
 pub mod Printing

@@ -5,6 +5,7 @@ ghost use Rattle.writer.specs.Written.{WritesText, WritesJaxn, WritesJso
 mod digits;
 mod numbers;
 mod records;
+mod runs;
 mod strings;
 mod times;
 mod walk;

@@ -8,6 +8,10 @@ ghost use Rattle.meaning.specs.Canonical.{hexDigit, hexPair, escaped, escapes, 
 ghost use Rattle.writer.specs.Laid.{Put, PutAt};
 ghost use Rattle.writer.specs.Pieces.{Lettered};
 use crate::digits;
+use crate::runs;
+
+// A shorter string goes byte by byte: looking for runs would cost more.
+const SHORT: usize = 16;
 
 fn hex_digit(d: u8) -> u8
     requires { ⌜ d < 16 ⌝ }
@@ -83,7 +87,8 @@ fn escaped_len(b: u8) -> usize
     1
 }
 
-fn escapes_at(out: &mut [u8], at: usize, s: &[u8]) -> usize
+// Byte by byte.
+fn short_at(out: &mut [u8], at: usize, s: &[u8]) -> usize
     requires { ⌜ at + length (escapes (now s)) ≤ length (now out) ⌝ }
     ensures { λ r. ⌜ PutAt (escapes (now (s .entry))) at (now (out .entry)) (now (out .exit)) r ⌝ }
 {
@@ -96,6 +101,36 @@ fn escapes_at(out: &mut [u8], at: usize, s: &[u8]) -> usize
     end
 }
 
+// Run by run.
+fn runs_at(out: &mut [u8], at: usize, s: &[u8]) -> usize
+    requires { ⌜ at + length (escapes (now s)) ≤ length (now out) ⌝ }
+    ensures { λ r. ⌜ PutAt (escapes (now (s .entry))) at (now (out .entry)) (now (out .exit)) r ⌝ }
+{
+    let mut end = at;
+    let mut i: usize = 0;
+    while i < s.len() {
+        let j = runs::plain_run(s, i);
+        if i < j {
+            end = digits::bytes_at(out, end, &s[i..j]);
+            i = j;
+        } else {
+            end = escaped_at(out, end, s[i]);
+            i += 1;
+        }
+    }
+    end
+}
+
+fn escapes_at(out: &mut [u8], at: usize, s: &[u8]) -> usize
+    requires { ⌜ at + length (escapes (now s)) ≤ length (now out) ⌝ }
+    ensures { λ r. ⌜ PutAt (escapes (now (s .entry))) at (now (out .entry)) (now (out .exit)) r ⌝ }
+{
+    if s.len() < SHORT {
+        return short_at(out, at, s);
+    }
+    runs_at(out, at, s)
+}
+
 // Into the lent part of the output, from its start: quotes around the escaped bytes.
 pub fn write_string(out: &mut [u8], s: &[u8]) -> usize
     requires { ⌜ length (quoted (now s)) ≤ length (now out) ⌝ }
@@ -106,7 +141,7 @@ pub fn write_string(out: &mut [u8], s: &[u8]) -> usize
     digits::byte_at(out, last, b'"')
 }
 
-pub fn string_len(s: &[u8]) -> usize
+fn short_len(s: &[u8]) -> usize
     requires { ⌜ length (now s) ≤ storeLimit ⌝ }
     ensures { λ r. ⌜ r ≡ length (quoted (now (s .entry))) ⌝ }
 {
@@ -117,6 +152,35 @@ pub fn string_len(s: &[u8]) -> usize
         i += 1;
     }
     total
+}
+
+fn runs_len(s: &[u8]) -> usize
+    requires { ⌜ length (now s) ≤ storeLimit ⌝ }
+    ensures { λ r. ⌜ r ≡ length (quoted (now (s .entry))) ⌝ }
+{
+    let mut total: usize = 2;
+    let mut i: usize = 0;
+    while i < s.len() {
+        let j = runs::plain_run(s, i);
+        if i < j {
+            total += j - i;
+            i = j;
+        } else {
+            total += escaped_len(s[i]);
+            i += 1;
+        }
+    }
+    total
+}
+
+pub fn string_len(s: &[u8]) -> usize
+    requires { ⌜ length (now s) ≤ storeLimit ⌝ }
+    ensures { λ r. ⌜ r ≡ length (quoted (now (s .entry))) ⌝ }
+{
+    if s.len() < SHORT {
+        return short_len(s);
+    }
+    runs_len(s)
 }
 
 // The output from `at` on is lent, and the part of the store that is the string.

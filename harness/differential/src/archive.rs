@@ -1,6 +1,18 @@
 //! The calls of `include/lanternrung.h`, as Rust functions.
 
 use second::{Looked, Refusal, Sizes, Written};
+use std::sync::atomic::{AtomicU64, Ordering::Relaxed};
+
+static CALLS: AtomicU64 = AtomicU64::new(0);
+
+/// How many calls have been made.
+pub fn calls() -> u64 {
+    CALLS.load(Relaxed)
+}
+
+fn count() {
+    CALLS.fetch_add(1, Relaxed);
+}
 
 #[repr(C)]
 #[derive(Clone, Copy, PartialEq, Eq, Debug, Default)]
@@ -88,24 +100,29 @@ extern "C" {
 // that the calls ask.
 
 pub fn utf8(bytes: &[u8]) -> LrStatus {
+    count();
     unsafe { lanternrung_utf8(bytes.as_ptr(), bytes.len()) }
 }
 
 pub fn date(year: u64, month: u64, day: u64) -> LrStatus {
+    count();
     unsafe { lanternrung_date(year, month, day) }
 }
 
 pub fn measure(text: &[u8]) -> LrSizes {
+    count();
     unsafe { lanternrung_measure(text.as_ptr(), text.len()) }
 }
 
 pub fn read(text: &[u8], tape: &mut [u8], store: &mut [u8]) -> LrSizes {
+    count();
     unsafe {
         lanternrung_read(text.as_ptr(), text.len(), tape.as_mut_ptr(), tape.len(), store.as_mut_ptr(), store.len())
     }
 }
 
 pub fn look(tape: &[u8], store: &[u8], index: u64) -> LrRecord {
+    count();
     unsafe { lanternrung_look(tape.as_ptr(), tape.len(), store.as_ptr(), store.len(), index) }
 }
 
@@ -118,6 +135,7 @@ pub fn write_json(tape: &[u8], store: &[u8], out: &mut [u8]) -> LrWritten {
 }
 
 fn write(writer: Writer, tape: &[u8], store: &[u8], out: &mut [u8]) -> LrWritten {
+    count();
     unsafe { writer(tape.as_ptr(), tape.len(), store.as_ptr(), store.len(), out.as_mut_ptr(), out.len()) }
 }
 

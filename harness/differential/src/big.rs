@@ -1,4 +1,5 @@
-//! Texts at the limit of 16,777,216 bytes and one byte over it, and how the time grows.
+//! Texts at the limit of 16,777,216 bytes and one byte over it, tapes at their limits, and how the time grows: a figure, not a
+//! test.
 
 use crate::archive;
 use crate::check::{self, Check, Effort};
@@ -32,15 +33,19 @@ fn kinds() -> Vec<Kind> {
         kind("one string", "\"", "a", b'a', "\""),
         kind("one string, not ASCII", "\"", "é€𝄞 ", b' ', "\""),
         kind("one string of escapes", "\"", "\\n\\u00e9\\ud834\\udd1e", b'a', "\""),
+        kind("one escape", "\"\\u{", "0", b'0', "41}\""),
         kind("control characters", "\"", "\\0", b'a', "\""),
         kind("a multiline string", "'''\n", "''a\n", b'a', "'''"),
         kind("parts joined", "''", "+''", b' ', "+''"),
         kind("digits", "1", "1234567890", b'0', ""),
         kind("zeros", "0.", "0", b'0', "e-5"),
+        kind("an exponent", "1e-", "0", b'0', "7"),
         kind("hex digits", "0x", "0", b'0', "1"),
         kind("fraction of a second", "12:00:00.", "1", b'1', ""),
         kind("bytes in hex", "$", "a0", b' ', ""),
+        kind("bytes joined", "$", "+$", b' ', "+$'\\x41'"),
         kind("nested arrays at the limit", "[", &nested, b' ', "]"),
+        kind("one key", "{", "k", b'k', ":1}"),
         kind("many short keys", "{", "a:1,", b' ', "}"),
         kind("many numbers", "[", "1,", b' ', "]"),
         kind("times", "[", "2021-03-04 05:06:07.5-01:30,", b' ', "]"),
@@ -52,24 +57,38 @@ fn kinds() -> Vec<Kind> {
 
 const FULL: usize = 16_777_216;
 
-pub fn all() {
-    println!(
-        "| text of 16 MiB | outcome | measure MB/s | read MB/s | time per byte, 16 MiB / 1 MiB |\n|---|---|---|---|---|"
-    );
+/// Answers how many texts and tapes agreed.
+pub fn all() -> u64 {
+    println!("| text of 16 MiB | outcome | measure MB/s | read MB/s | write MB/s | times per byte, 16 MiB / 1 MiB |");
+    println!("|---|---|---|---|---|---|");
+    let mut n = 0;
     for kind in kinds() {
         let text = kind.text(FULL);
-        stop_at(kind.name, check::text(&text, Effort::Some(0)));
-        let over = [&text[..], b" "].concat();
-        stop_at(kind.name, check::text(&over, Effort::Some(0)));
+        stop_at(kind.name, check::text(&text, Effort::One(0)));
+        stop_at(kind.name, check::text(&[&text[..], b" "].concat(), Effort::One(0)));
         speed(&kind, &text);
+        n += 2;
     }
-    for n in [FULL, FULL + 1] {
-        let store = vec![b'a'; n];
-        stop_at("one long string on a tape", check::tape(&record(b"st", n, 0), &store, Effort::Some(0)));
-        let tape = [record(b"ar", 0, n), record(b"nu", 0, 0).repeat(n - 1)].concat();
-        stop_at("many records on a tape", check::tape(&tape, b"", Effort::Some(0)));
+    for (name, tape, store) in tapes() {
+        stop_at(name, check::tape(&tape, &store, Effort::One(0)));
+        n += 1;
     }
-    println!("tapes of 16,777,216 records or store bytes and one more agree");
+    n
+}
+
+/// As many records or store bytes as are allowed and one more, and a text over the limit with and without a JSON form.
+fn tapes() -> impl Iterator<Item = (&'static str, Vec<u8>, Vec<u8>)> {
+    let limits = [FULL, FULL + 1].into_iter().flat_map(|n| {
+        let string: fn(usize) -> _ = |n| ("one long string", record(b"st", n, 0), vec![b'a'; n]);
+        let nulls: fn(usize) -> _ =
+            |n| ("many records", [record(b"ar", 0, n), record(b"nu", 0, 0).repeat(n - 1)].concat(), Vec::new());
+        [string, nulls].into_iter().map(move |make| make(n))
+    });
+    let long = [false, true].into_iter().map(|other| {
+        let last = record(if other { b"nx" } else { b"nu" }, 0, 0);
+        ("a long text", [record(b"ar", 0, 3), record(b"st", FULL / 6, 0), last].concat(), vec![1; FULL / 6])
+    });
+    limits.chain(long)
 }
 
 fn record(mark: &[u8; 2], four: usize, eight: usize) -> Vec<u8> {
@@ -83,25 +102,31 @@ fn stop_at(name: &str, check: Check) {
     }
 }
 
+/// Prints how fast a text of this kind is, and how much more time a byte takes in a long text than in a short one.
 fn speed(kind: &Kind, text: &[u8]) {
+    let long = times(text, 3);
+    let short = times(&kind.text(FULL / 16), 9);
     let sizes = archive::measure(text);
-    let (mut tape, mut store) = (vec![0; 16 * sizes.records as usize], vec![0; sizes.bytes as usize]);
-    let full = best(3, || archive::measure(black_box(text)));
-    let read = best(3, || archive::read(black_box(text), &mut tape, &mut store));
-    let short = kind.text(FULL / 16);
-    let sixteenth = best(9, || archive::measure(black_box(&short)));
     let outcome = match sizes.refused {
         0 => format!("{} records, {} bytes", sizes.records, sizes.bytes),
         n => format!("{n} at {}", sizes.place),
     };
-    let speed = |time: f64| text.len() as f64 / 1e6 / time;
-    println!(
-        "| {} | {outcome} | {:.0} | {:.0} | {:.2} |",
-        kind.name,
-        speed(full),
-        speed(read),
-        full / 16.0 / sixteenth
-    );
+    let shown = |f: &dyn Fn(usize) -> String| [0, 1, 2].map(|i| if long[i] == 0.0 { "-".into() } else { f(i) });
+    let speeds = shown(&|i| format!("{:.0}", text.len() as f64 / 1e6 / long[i])).join(" | ");
+    let growth = shown(&|i| format!("{:.2}", long[i] / 16.0 / short[i])).join(", ");
+    println!("| {} | {outcome} | {speeds} | {growth} |", kind.name);
+}
+
+/// Seconds for measure, read, and writing what was read; 0 where little or nothing is written.
+fn times(text: &[u8], turns: usize) -> [f64; 3] {
+    let sizes = archive::measure(text);
+    let (mut tape, mut store) = (vec![1; 16 * sizes.records as usize], vec![1; sizes.bytes as usize]);
+    let measure = best(turns, || archive::measure(black_box(text)));
+    let read = best(turns, || archive::read(black_box(text), &mut tape, &mut store));
+    let mut out = vec![1; FULL];
+    let written = archive::write_jaxn(&tape, &store, &mut out).length as usize > text.len() / 16;
+    let write = best(turns, || archive::write_jaxn(black_box(&tape), black_box(&store), &mut out));
+    [measure, read, if written { write } else { 0.0 }]
 }
 
 extern "C" {

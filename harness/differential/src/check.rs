@@ -21,10 +21,12 @@ pub type Check = Result<(), Mismatch>;
 /// How many buffer lengths to try.
 #[derive(Clone, Copy, PartialEq, Eq)]
 pub enum Effort {
-    /// What is needed, and one other length that `usize` picks.
-    Some(usize),
-    /// Every length in the lists below.
-    All,
+    /// What is needed, and one other length of `Edges` that the number picks.
+    One(usize),
+    /// None, and the lengths around what is needed where something may change: by a byte, by a record.
+    Edges,
+    /// Every length up to past what is needed; of a long buffer, those near both ends.
+    Every,
 }
 
 const MARGIN: usize = 32;
@@ -135,17 +137,29 @@ fn around(n: usize, steps: &[i64]) -> Vec<usize> {
     all
 }
 
+/// Every length from none to `past` more than `n`; of a long buffer, the first and last hundred.
+fn every(n: usize, past: usize) -> Vec<usize> {
+    (0..=n + past).filter(|l| *l < 100 || l + 100 > n).collect()
+}
+
+fn crossed(tapes: &[usize], stores: &[usize]) -> Vec<(usize, usize)> {
+    tapes.iter().flat_map(|&t| stores.iter().map(move |&s| (t, s))).collect()
+}
+
 fn read_lengths(should: &Reading, effort: Effort) -> Vec<(usize, usize)> {
     let (t, s) = (should.tape.len(), should.store.len());
     if should.value.is_none() {
         return vec![(0, 0), (48, 16)];
     }
-    let tapes = around(t, &[-17, -16, -15, -1, 0, 1, 15, 16, 33]);
-    let stores = around(s, &[-2, -1, 0, 1, 2, 20]);
-    let pairs: Vec<_> = tapes.iter().flat_map(|&t| stores.iter().map(move |&s| (t, s))).collect();
+    let (tapes, stores) = (around(t, &[-17, -16, -15, -1, 0, 1, 15, 16, 33]), around(s, &[-2, -1, 0, 1, 2, 20]));
+    let edges = crossed(&tapes, &stores);
     match effort {
-        Effort::All => pairs,
-        Effort::Some(pick) => vec![(t, s), pairs[pick % pairs.len()]],
+        Effort::One(pick) => vec![(t, s), edges[pick % edges.len()]],
+        Effort::Edges => edges,
+        Effort::Every => {
+            let more_tapes = crossed(&every(t, 33), &around(s, &[-1, 0, 1]));
+            [edges, more_tapes, crossed(&around(t, &[-1, 0, 16]), &every(s, 33))].concat()
+        }
     }
 }
 
@@ -176,10 +190,11 @@ fn meaning(value: &Value, tape: &[u8], store: &[u8], effort: Effort) -> Check {
 }
 
 fn out_lengths(needed: usize, effort: Effort) -> Vec<usize> {
-    let lengths = around(needed, &[-2, -1, 0, 1, 2, 40]);
+    let edges = around(needed, &[-2, -1, 0, 1, 2, 40]);
     match effort {
-        Effort::All => lengths,
-        Effort::Some(pick) => vec![needed, lengths[pick % lengths.len()]],
+        Effort::One(pick) => vec![needed, edges[pick % edges.len()]],
+        Effort::Edges => edges,
+        Effort::Every => every(needed, 40),
     }
 }
 
@@ -218,11 +233,20 @@ pub fn tape(tape: &[u8], store: &[u8], effort: Effort) -> Check {
 fn broken(tape: &[u8], store: &[u8]) -> Check {
     looks(tape, store)?;
     let refusal = |_: &mut [u8]| Err(Refusal { number: 10, place: 0 });
-    for out_length in [0, 8 * (tape.len() + store.len())] {
+    // Room for whatever a writer might take this tape for.
+    for out_length in [0, (8 * (tape.len() + store.len())).min(second::LIMIT)] {
         written("write_jaxn", archive::write_jaxn, refusal, tape, store, out_length)?;
         written("write_json", archive::write_json, refusal, tape, store, out_length)?;
     }
     Ok(())
+}
+
+/// Bytes that are no text, through utf8 alone.
+pub fn utf8(bytes: &[u8]) -> Check {
+    let should = LrStatus::from(second::utf8(bytes));
+    TEXT.with_borrow_mut(|guard| {
+        same(|| format!("utf8 {}", bytes.escape_ascii()), archive::utf8(guard.place(bytes)), should)
+    })
 }
 
 pub fn date(year: u64, month: u64, day: u64) -> Check {

@@ -84,9 +84,12 @@ pub fn runs(longest: usize, mut each: impl FnMut(&[u8])) {
         ("[1", "]"),
         ("{", ":1}"),
     ];
-    let pieces: [&[u8]; 26] = [
+    let pieces: [&[u8]; 29] = [
         b"",
         b"\\n",
+        b"\\v",
+        b"\\\"",
+        b"\\u001f",
         b"\\u0041",
         b"\\u{1F525}",
         b"\\x41",

@@ -54,6 +54,7 @@ struct Run {
     texts: u64,
     accepted: u64,
     tapes: u64,
+    bytes: u64,
 }
 
 impl Run {
@@ -75,6 +76,15 @@ impl Run {
         if let Err(m) = check::tape(tape, store, effort) {
             report_tape(tape, store, effort, m);
         }
+    }
+
+    fn utf8(&mut self, bytes: &[u8]) {
+        self.bytes += 1;
+        check::utf8(bytes).unwrap_or_else(|m| {
+            let short = shorten::bytes(bytes, 1, |b| check::utf8(b).is_err());
+            println!("MISMATCH");
+            close(check::utf8(&short), m)
+        });
     }
 }
 
@@ -101,11 +111,12 @@ fn close(short: Check, long: Mismatch) -> ! {
     std::process::exit(1)
 }
 
-/// The stated cases, with every buffer length.
-fn stated(run: &mut Run) {
-    use second::cases::{readings, rfc8259, rules, samples, specification};
-    for case in [rules(), specification(), rfc8259(), readings()].concat() {
-        run.text(&case.text, Effort::All);
+/// The stated cases, with every buffer length. The texts are answered, to be damaged later.
+fn stated(run: &mut Run) -> Vec<Vec<u8>> {
+    use second::cases::{further, readings, rfc8259, rules, samples, specification};
+    let listed = [rules(), specification(), rfc8259(), readings(), further()].concat();
+    for case in &listed {
+        run.text(&case.text, Effort::Every);
         let outcome = match second::parse(&case.text) {
             Ok(value) => [b"=", &second::canonical(&value)[..]].concat(),
             Err(r) => format!("{}@{}", r.number, r.place).into_bytes(),
@@ -113,17 +124,18 @@ fn stated(run: &mut Run) {
         assert!(outcome == case.outcome, "second is not as stated: {case:?}");
     }
     for case in samples() {
-        run.text(&case.text, Effort::All);
+        run.text(&case.text, Effort::Every);
         assert!(second::program(&case.text) == case.outcome, "second is not as stated: {case:?}");
     }
+    listed.into_iter().chain(samples()).map(|case| case.text).collect()
 }
 
 fn systematic(run: &mut Run) {
-    let quick = |run: &mut Run, t: &[u8]| run.text(t, Effort::Some(run.texts as usize));
+    let quick = |run: &mut Run, t: &[u8]| run.text(t, Effort::One(run.texts as usize));
     for item in systematic::ITEMS {
         for (before, after) in systematic::AROUND {
             let text = format!("{before}{item}{after}");
-            run.text(text.as_bytes(), Effort::All);
+            run.text(text.as_bytes(), Effort::Every);
             systematic::cuts(text.as_bytes(), |t| quick(run, t));
         }
         systematic::bytes(item.as_bytes(), |t| quick(run, t));
@@ -153,10 +165,10 @@ fn systematic(run: &mut Run) {
 
 /// Values around their limits.
 fn counted(run: &mut Run) {
-    counted::numbers(|t| run.text(t, Effort::Some(t.len())));
-    counted::times(|t| run.text(t, Effort::Some(t.len())));
-    counted::characters(|t| run.text(t, Effort::Some(t.len())));
-    counted::runs(40, |t| run.text(t, Effort::Some(run.texts as usize)));
+    counted::numbers(|t| run.text(t, Effort::One(t.len())));
+    counted::times(|t| run.text(t, Effort::One(t.len())));
+    counted::characters(|t| run.text(t, Effort::One(t.len())));
+    counted::runs(70, |t| run.text(t, Effort::One(run.texts as usize)));
 }
 
 /// Each item right after each other, in an array and bare, with and without a sign between.
@@ -170,7 +182,7 @@ fn pairs(run: &mut Run) {
                 format!("{{k:{a} {b}"),
                 format!("[{a} {b}]"),
             ] {
-                run.text(text.as_bytes(), Effort::Some(run.texts as usize));
+                run.text(text.as_bytes(), Effort::One(run.texts as usize));
             }
         }
     }
@@ -183,19 +195,19 @@ fn depths(run: &mut Run) {
             let times = if open == "[{a:" { n / 2 } else { n };
             for inside in ["", "1", "[", "{}", "[]", "x"] {
                 let text = format!("{}{inside}{}", open.repeat(times), close.repeat(times));
-                run.text(text.as_bytes(), Effort::All);
-                systematic::cuts(text.as_bytes(), |t| run.text(t, Effort::Some(t.len())));
+                run.text(text.as_bytes(), Effort::Edges);
+                systematic::cuts(text.as_bytes(), |t| run.text(t, Effort::One(t.len())));
             }
         }
     }
 }
 
 /// Random texts; where one is accepted, its tape is damaged some times.
-fn random(run: &mut Run, seed: u64, count: u64) {
+fn random(run: &mut Run, seed: u64, count: u64, stated: &[Vec<u8>]) {
     let mut r = Random::new(seed);
     for _ in 0..count {
-        let text = random::text(&mut r);
-        let effort = if r.one_in(16) { Effort::All } else { Effort::Some(r.below(1000)) };
+        let text = random::text(&mut r, stated);
+        let effort = if r.one_in(16) { Effort::Edges } else { Effort::One(r.below(1000)) };
         run.text(&text, effort);
         if let Ok(value) = second::parse(&text) {
             run.accepted += 1;
@@ -222,16 +234,38 @@ fn damaged(run: &mut Run, r: &mut Random, value: &second::Value) {
         for _ in 0..1 + r.below(3) {
             tapes::damage(r, &mut tape, &mut store);
         }
-        run.tape(&tape, &store, Effort::Some(r.below(1000)));
+        run.tape(&tape, &store, Effort::One(r.below(1000)));
     }
 }
 
-fn edges(run: &mut Run) {
+/// Tapes that are counted off: records at their limits, a sample damaged in each place, containers around the limit of 64.
+fn counted_tapes(run: &mut Run) {
     for (record, store) in tapes::edges() {
-        run.tape(&record, &store, Effort::All);
+        run.tape(&record, &store, Effort::Edges);
         let key = *b"ky\0\0\0\0\0\0\0\0\0\0\0\0\0\0";
         let object = [&b"ob\0\0\0\0\0\0\x03\0\0\0\0\0\0\0"[..], &key, &record].concat();
-        run.tape(&object, &store, Effort::Some(0));
+        run.tape(&object, &store, Effort::One(0));
+    }
+    let sample = second::parse(tapes::SAMPLE.as_bytes()).expect("the sample is a text");
+    let (tape, store) = second::tape(&sample);
+    run.tape(&tape, &store, Effort::Every);
+    tapes::every(&tape, &store, |t, s| run.tape(t, s, Effort::One(t.len())));
+    for n in 1..70 {
+        run.tape(&tapes::nested(n, false), b"", Effort::One(n));
+        run.tape(&tapes::nested(n, true), b"", Effort::One(n));
+    }
+}
+
+/// Bytes through utf8 alone: short ones all, behind plain runs of each length up to past a block, and long ones.
+fn utf8(run: &mut Run) {
+    let every: Vec<u8> = (0..=255).collect();
+    systematic::words(&every, 3, |b| run.utf8(b));
+    let ends = [0x00, 0x7F, 0x80, 0x8F, 0x90, 0x9F, 0xA0, 0xBF, 0xC0, 0xC2, 0xE0, 0xFF];
+    for (first, second) in (0xE0..=255u8).flat_map(|a| (0..=255u8).map(move |b| (a, b))) {
+        systematic::words(&ends, 2, |b| run.utf8(&[&[first, second], b].concat()));
+    }
+    for length in 0..70 {
+        systematic::words(&every, 2, |b| run.utf8(&[&b"melt".repeat(18)[..length], b].concat()));
     }
 }
 
@@ -255,32 +289,35 @@ fn dates() -> u64 {
 fn main() {
     let o = options();
     let start = Instant::now();
-    let mut run = Run { trace: o.trace, texts: 0, accepted: 0, tapes: 0 };
+    let mut run = Run { trace: o.trace, texts: 0, accepted: 0, tapes: 0, bytes: 0 };
     let say = |what: &str, run: &Run| {
         println!("{what}: {} texts, {} tapes so far, {:.1} s", run.texts, run.tapes, start.elapsed().as_secs_f64())
     };
-    stated(&mut run);
+    let texts = stated(&mut run);
     say("stated cases", &run);
     systematic(&mut run);
     say("systematic", &run);
     counted(&mut run);
     say("values around their limits", &run);
-    edges(&mut run);
-    say("records at their limits", &run);
-    random(&mut run, o.seed, o.count);
+    counted_tapes(&mut run);
+    say("tapes counted off", &run);
+    let short: Vec<Vec<u8>> = texts.iter().filter(|text| text.len() < 1000).cloned().collect();
+    random(&mut run, o.seed, o.count, &short);
     say("random", &run);
     println!("{} of {} random texts accepted (seed {})", run.accepted, o.count, o.seed);
-    println!("{} dates", dates());
+    utf8(&mut run);
+    println!("{} times utf8 alone, {} dates, {:.1} s", run.bytes, dates(), start.elapsed().as_secs_f64());
     if let Some(program) = &o.program {
-        println!("{} inputs of the program", program::all(program, o.seed));
+        println!("{} inputs of the program", program::all(program, o.seed, &texts));
     }
     if o.big {
-        big::all();
+        println!("{} big texts and tapes", big::all());
     }
     println!(
-        "differential: {} texts and {} damaged tapes agree, {:.0} s",
+        "differential: {} texts and {} tapes agree in {} calls, {:.0} s",
         run.texts,
         run.tapes,
+        archive::calls(),
         start.elapsed().as_secs_f64()
     );
 }

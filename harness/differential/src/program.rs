@@ -57,12 +57,10 @@ fn sizes() -> Vec<Vec<u8>> {
     all
 }
 
-pub fn all(program: &str, seed: u64) -> u64 {
-    use second::cases::{readings, rfc8259, rules, samples, specification};
-    let stated = [rules(), specification(), rfc8259(), readings(), samples()].concat();
+pub fn all(program: &str, seed: u64, stated: &[Vec<u8>]) -> u64 {
     let mut r = Random::new(seed);
-    let random = (0..500).map(|_| random::text(&mut r));
-    let inputs: Vec<Vec<u8>> = stated.into_iter().map(|c| c.text).chain(sizes()).chain(random).collect();
+    let random = (0..500).map(|_| random::text(&mut r, &stated[..100]));
+    let inputs: Vec<Vec<u8>> = stated.iter().cloned().chain(sizes()).chain(random).collect();
     inputs.iter().for_each(|input| check(program, input));
     inputs.len() as u64
 }

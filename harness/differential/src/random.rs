@@ -41,17 +41,17 @@ impl Random {
     }
 }
 
-/// A text: grown, or a soup of pieces; damaged more often than not.
-pub fn text(r: &mut Random) -> Vec<u8> {
+/// A text: grown along the grammar, a soup of pieces, or one of `stated`; damaged more often than not.
+pub fn text(r: &mut Random, stated: &[Vec<u8>]) -> Vec<u8> {
     let mut out = Vec::new();
-    if r.one_in(8) {
-        for _ in 0..1 + r.below(10) {
-            out.extend(r.pick(PIECES));
+    match r.below(10) {
+        0 => (0..1 + r.below(10)).for_each(|_| out.extend(r.pick(PIECES))),
+        1 => out = stated[r.below(stated.len())].clone(),
+        _ => {
+            layout(r, &mut out);
+            value(r, 0, &mut out);
+            layout(r, &mut out);
         }
-    } else {
-        layout(r, &mut out);
-        value(r, 0, &mut out);
-        layout(r, &mut out);
     }
     for _ in 0..[0, 0, 1, 1, 1, 2, 3][r.below(7)] {
         damage(r, &mut out);
@@ -140,7 +140,17 @@ fn damage(r: &mut Random, text: &mut Vec<u8>) {
     }
 }
 
+/// Now and then a run of one byte, long enough for readers that go by blocks of bytes.
+fn run(r: &mut Random, out: &mut Vec<u8>, bytes: &[u8]) {
+    if r.one_in(24) {
+        let b = bytes[r.below(bytes.len())];
+        let n = out.len() + r.below(100);
+        out.resize(n, b);
+    }
+}
+
 fn layout(r: &mut Random, out: &mut Vec<u8>) {
+    run(r, out, b" \n\t\r");
     while r.one_in(5) {
         let pieces: &[&[u8]] = &[
             b" ",
@@ -297,12 +307,14 @@ fn string_part(r: &mut Random, out: &mut Vec<u8>) {
             let pieces: [&str; 12] =
                 ["\n", "\r\n", "\r", "a", "\\", "\t", " ", "\u{20AC}", "\"a", "''b", "\u{1D11E}", "\\u0041"];
             out.extend(r.pick(&pieces).bytes());
+            run(r, out, b"a0 \n");
         }
         return out.extend(three.bytes());
     }
     out.extend(quote.bytes());
     for _ in 0..r.below(7) {
         character(r, out);
+        run(r, out, b"a0 /");
     }
     out.extend(quote.bytes());
 }

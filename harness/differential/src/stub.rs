@@ -14,6 +14,7 @@ fn fault() -> u32 {
 fn utf8(bytes: &[u8]) -> Result<(), Refusal> {
     match second::utf8(bytes) {
         Err(r) if fault() == 1 && r.place as usize + 1 < bytes.len() => Err(Refusal { place: r.place + 1, ..r }),
+        Err(r) if fault() == 21 && r.place > 64 => Ok(()),
         other => other,
     }
 }
@@ -27,6 +28,7 @@ fn measure(text: &[u8]) -> Result<Sizes, Refusal> {
     match (fault(), second::measure(text)) {
         (3, Ok(s)) if has(b"\\v") => Ok(Sizes { bytes: s.bytes + 1, ..s }),
         (4, Err(r)) if r.number == 6 && has(b"e9999") => Err(Refusal { place: 0, ..r }),
+        (22, Err(r)) if r.number == 7 && text.first() == Some(&b'{') => Err(Refusal { number: 3, ..r }),
         (5, Err(r)) if has(b"/*/") && r.number == 3 => Ok(Sizes { records: 1, bytes: 0 }),
         (_, other) => other,
     }
@@ -40,6 +42,7 @@ fn read(text: &[u8], tape: &mut [u8], store: &mut [u8]) -> Result<Sizes, Refusal
         (8, Ok(s)) if store.len() == s.bytes as usize => unsafe { *store.as_mut_ptr().add(store.len()) = 0 },
         (9, Ok(s)) if s.records == 3 && tape.len() % 16 == 15 => return Err(Refusal { number: 8, place: 48 }),
         (10, Ok(s)) if s.bytes > 3 && text.contains(&b'+') => store[2] ^= 1,
+        (23, Ok(s)) if s.bytes > 40 && text.get(36) == Some(&b'\\') => store[33] ^= 0x20,
         (11, Err(r)) if r.number == 4 => return Err(Refusal { number: 4, place: r.place + 1 }),
         _ => {}
     }
@@ -55,6 +58,9 @@ fn look(tape: &[u8], store: &[u8], index: u64) -> Result<second::Looked, Refusal
     let answer = second::look(tape, store, bent);
     match (fault(), answer) {
         (14, Ok(l)) if l.offset < 0 => Ok(second::Looked { offset: l.offset & 0xFFFF, ..l }),
+        (24, Err(r)) if r.number == 10 && tape[16 * index as usize..].starts_with(b"ar") && tape.len() == 32 => {
+            second::look(&rec(b"nu"), b"", 0)
+        }
         (15, Err(r)) if r.number == 10 && tape[16 * index as usize..].starts_with(b"nu") => {
             second::look(&rec(b"nu"), b"", 0)
         }

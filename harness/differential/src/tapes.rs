@@ -77,6 +77,55 @@ fn field(r: &mut Random, tape: &mut [u8]) {
     }
 }
 
+/// A record of every kind, and containers in each other.
+pub const SAMPLE: &str = "[null,true,-12.5,NaN,\"\u{e9}\\0\",$00ff,2000-02-29,23:59:59.5,0000-01-01T00:00:00,\
+9999-12-31T12:00:00-23:59,{k:[],\"\":{a:1}},[[\"x\",-Infinity]],{}]";
+
+/// A tape and store with each byte set to each value, cut at each byte, with a byte more, and with each record taken out,
+/// put in elsewhere, or in another's place.
+pub fn every(tape: &[u8], store: &[u8], mut each: impl FnMut(&[u8], &[u8])) {
+    bytewise(tape, |t| each(t, store));
+    bytewise(store, |s| each(tape, s));
+    for a in (0..tape.len()).step_by(16) {
+        let (record, rest) = (&tape[a..a + 16], [&tape[..a], &tape[a + 16..]].concat());
+        each(&rest, store);
+        for b in (0..=tape.len()).step_by(16) {
+            each(&[&tape[..b], record, &tape[b..]].concat(), store);
+            if b < tape.len() {
+                each(&[&rest[..b], record, &rest[b..]].concat(), store);
+                each(&[&tape[..b], record, &tape[b + 16..]].concat(), store);
+            }
+        }
+    }
+}
+
+fn bytewise(bytes: &[u8], mut each: impl FnMut(&[u8])) {
+    let mut changed = bytes.to_vec();
+    for at in 0..bytes.len() {
+        each(&bytes[..at]);
+        for b in 0..=255 {
+            changed[at] = b;
+            each(&changed);
+        }
+        changed[at] = bytes[at];
+    }
+    each(&[bytes, &[0]].concat());
+}
+
+/// `n` containers in each other; objects have a key each, and the innermost holds nothing.
+pub fn nested(n: usize, objects: bool) -> Vec<u8> {
+    let records = if objects { 2 * n - 1 } else { n };
+    let mut tape = Vec::new();
+    for i in 0..n {
+        tape.extend(if objects { *b"ob\0\0\0\0\0\0" } else { *b"ar\0\0\0\0\0\0" });
+        tape.extend((records as u64).to_le_bytes());
+        if objects && i + 1 < n {
+            tape.extend(*b"ky\0\0\0\0\0\0\0\0\0\0\0\0\0\0");
+        }
+    }
+    tape
+}
+
 /// Records at the limits of their fields, each as a whole tape. `store` is what they may lean on.
 pub fn edges() -> Vec<(Vec<u8>, Vec<u8>)> {
     let mut all = Vec::new();

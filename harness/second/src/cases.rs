@@ -1,5 +1,5 @@
-//! The cases in `cases/` that have a stated outcome: 01's samples, the examples of 002 and RFC 8259, the decided points, and
-//! the samples of the program.
+//! The cases in `cases/` that have a stated outcome: 01's samples, the examples of 002 and RFC 8259, the decided points, further
+//! texts, and the samples of the program.
 
 /// A text and its outcome: `N@P` is "refused N at P", `=x` is the canonical text x.
 #[derive(Clone, PartialEq, Eq, Debug)]
@@ -23,6 +23,10 @@ pub fn rfc8259() -> Vec<Case> {
 
 pub fn readings() -> Vec<Case> {
     listed(include_str!("../cases/readings.txt"))
+}
+
+pub fn further() -> Vec<Case> {
+    listed(include_str!("../cases/further.txt"))
 }
 
 /// Label, text and outcome with tabs between; other lines are prose.
@@ -58,7 +62,7 @@ fn hex(digits: &str) -> Vec<u8> {
 
 /// The samples of the program: lines `{"in": hex, "out": hex, "note": text}`; `out` is what it prints.
 pub fn samples() -> Vec<Case> {
-    include_str!("../cases/base_samples.jsonl").lines().map(sample).collect()
+    include_str!("../cases/samples.jsonl").lines().map(sample).collect()
 }
 
 fn sample(line: &str) -> Case {

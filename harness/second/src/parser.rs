@@ -84,8 +84,14 @@ impl Parser {
     fn end(&mut self) {
         self.settle();
         match self.open.pop().expect("the table lets no end stand outside") {
-            Open::Array(values) => self.single(Value::Array(values)),
-            Open::Object(members, _) => self.single(Value::Object(members)),
+            Open::Array(mut values) => {
+                values.shrink_to_fit();
+                self.single(Value::Array(values));
+            }
+            Open::Object(mut members, _) => {
+                members.shrink_to_fit();
+                self.single(Value::Object(members));
+            }
         }
     }
 

@@ -61,6 +61,11 @@ fn rfc8259() {
 }
 
 #[test]
+fn further() {
+    run(cases::further(), outcome, 85);
+}
+
+#[test]
 fn samples_of_the_program() {
     run(cases::samples(), program, 186);
 }

@@ -5,7 +5,7 @@ use Rattle.reader.proofs.binaries.after_pair.Statement.{statement}
 use Rattle.reader.proofs.binaries.after_pair.Tie as tie
 use Rattle.reader.proofs.binaries.after_pair.Reads as reads
 use Rattle.reader.proofs.binaries.after_pair.Lts as lts
-use Rattle.reader.proofs.hexes.digit.Reads as digit-reads
+use Rattle.items.proofs.hexes.digit.Reads as digit-reads
 
 returns : tie.Need-returns
 returns c = pair-over (c .before .before .args .text .now) (c .before .before .args .at) (c .if1 .taken)

@@ -2,7 +2,7 @@ use native.Mathlib.Omega.{arith}
 use mathlib.Core.List.{[]}
 use Rattle.meaning.specs.Letters.{ch}
 use Rattle.machine.specs.Binaries.{text as textB, low}
-use Rattle.reader.specs.Stores.{digitAt}
+use Rattle.items.specs.Places.{digitAt}
 use Rattle.reader.proofs.Dollars.{digit-is, part-over, part-none, part-end, part-rest, part-double, part-single, part-pairs, part-bare}
 use Prim.Native.Nat.{_+_, _<_, _≤_}
 use mathlib.Core.Path.{sym, _≡_, _∙_}
@@ -14,7 +14,7 @@ use Rattle.reader.proofs.binaries.judge.Reads as reads
 use Rattle.reader.proofs.binaries.judge.Lts as lts
 use Rattle.reader.proofs.binaries.pairs.Reads as pairs-reads
 use Rattle.reader.proofs.binaries.quoted.Reads as quoted-reads
-use Rattle.reader.proofs.hexes.hex.Reads as hex-reads
+use Rattle.items.proofs.hexes.hex.Reads as hex-reads
 
 returns : tie.Need-returns
 returns c = part-over (c .before .before .before .args .text .now) (c .before .before .before .args .at) (c .before .before .before .args .start) (c .before .before .before .args .store .now) (c .if1 .taken)
@@ -62,7 +62,7 @@ hex-requires : tie.Need-hex-requires
 hex-requires c κs = search needs
 
 pairs-requires : tie.Need-pairs-requires
-pairs-requires c κs = (c .before .before .before .before .before .before .if3 .left, omega arith, (let e : digitAt (c .before .before .before .before .before .before .before .before .before .before .before .before .args .text .now) (c .before .before .before .before .before .before .before .before .before .before .before .before .args .at + 1) ≡ _ = digit-is _ _ (c .before .before .before .before .before .before .if3 .left) in omega (arith, c .before .before .hex .ensures, c .before .if6 .taken)))
+pairs-requires c κs = (c .before .before .before .before .before .before .if3 .left, omega arith, (let e = digit-is (c .before .before .before .before .before .before .before .before .before .before .before .before .args .text .now) (c .before .before .before .before .before .before .before .before .before .before .before .before .args .at + 1) (c .before .before .before .before .before .before .if3 .left) in omega (arith, c .before .before .hex .ensures, c .before .if6 .taken)))
 
 same-length-3 : tie.Need-same-length-3
 same-length-3 c = search needs

@@ -6,15 +6,15 @@ use Prim.Native.Nat.{_-_, _+_, _*_, _<_, _≤_}
 use lib.ListN.{length}
 use Rattle.machine.specs.Strings.{noDigit}
 use Rattle.machine.specs.Binaries.{low}
-use Rattle.reader.specs.Stores.{digitAt}
+use Rattle.items.specs.Places.{digitAt}
 use Rattle.reader.proofs.Dollars.{Filling, filling, fill-more, fill-wrong, fill-last, pairing, next-place, pair-open, pair-more, pair-wrongs, pair-ends, digit-in}
 use Rattle.reader.proofs.binaries.pairs.Statement.{statement}
 use Rattle.reader.proofs.binaries.pairs.Tie as tie
 use Rattle.reader.proofs.binaries.pairs.Reads as reads
 use Rattle.reader.proofs.binaries.pairs.Lts as lts
 use Rattle.reader.proofs.binaries.after_pair.Reads as after-pair-reads
-use Rattle.reader.proofs.hexes.digit.Reads as digit-reads
-use Rattle.reader.proofs.stores.put_byte.Reads as put-byte-reads
+use Rattle.items.proofs.hexes.digit.Reads as digit-reads
+use Rattle.items.proofs.stores.put_byte.Reads as put-byte-reads
 
 abbrev Inv-loop : tie.InvT-loop
 Inv-loop text from store₀ start i₀ out₀ store i out = (Filling text (low [] (digitAt text from)) (from + 1) (pairing text) next-place from start store₀ store i out × (digitAt text i < noDigit)) × (length store ≡ length store₀)
@@ -29,13 +29,13 @@ digit-requires : tie.Need-digit-requires Inv-loop μ-loop
 digit-requires c κs = search needs
 
 add-digit : tie.Need-add-digit Inv-loop μ-loop
-add-digit c = let v = c .before .loop .inv .0 .0 in omega (arith, digit-in _ _ (c .before .loop .inv .0 .1))
+add-digit c = let v = c .before .loop .inv .0 .0 in omega (arith, digit-in (c .before .before .before .before .args .text .now) (c .before .loop .i) (c .before .loop .inv .0 .1))
 
 digit-requires-2 : tie.Need-digit-requires-2 Inv-loop μ-loop
 digit-requires-2 c κs = search needs
 
 add-t14 : tie.Need-add-t14 Inv-loop μ-loop
-add-t14 c = let v = c .before .before .before .loop .inv .0 .0 in omega (arith, digit-in _ _ (c .before .before .before .loop .inv .0 .1))
+add-t14 c = let v = c .before .before .before .loop .inv .0 .0 in omega (arith, digit-in (c .before .before .before .before .before .before .args .text .now) (c .before .before .before .loop .i) (c .before .before .before .loop .inv .0 .1))
 
 same-length : tie.Need-same-length Inv-loop μ-loop
 same-length c = c .before .before .before .loop .inv .1
@@ -56,10 +56,10 @@ add-out : tie.Need-add-out Inv-loop μ-loop
 add-out c = let v = c .before .before .before .before .before .before .before .loop .inv .0 .0 in omega (arith, v .placed, v .room, v .within, c .before .before .before .before .before .before .before .before .before .before .pre)
 
 add-after-pair : tie.Need-add-after-pair Inv-loop μ-loop
-add-after-pair c = let d : digitAt (c .before .before .before .before .before .before .before .before .before .before .args .text .now) (c .before .before .before .before .before .before .before .loop .i + 1) < noDigit = rw (c .before .before .before .before .before .digit2 .ensures) at (c .before .before .before .before .if1 .left) in omega (arith, digit-in _ _ d)
+add-after-pair c = let d : digitAt (c .before .before .before .before .before .before .before .before .before .before .args .text .now) (c .before .before .before .before .before .before .before .loop .i + 1) < noDigit = rw (c .before .before .before .before .before .digit2 .ensures) at (c .before .before .before .before .if1 .left) in omega (arith, digit-in (c .before .before .before .before .before .before .before .before .before .before .args .text .now) (c .before .before .before .before .before .before .before .loop .i + 1) d)
 
 after-pair-requires : tie.Need-after-pair-requires Inv-loop μ-loop
-after-pair-requires c κs = let d : digitAt (c .before .before .before .before .before .before .before .before .before .before .args .text .now) (c .before .before .before .before .before .before .before .loop .i + 1) < noDigit = rw (c .before .before .before .before .before .digit2 .ensures) at (c .before .before .before .before .if1 .left) in omega (arith, digit-in _ _ d)
+after-pair-requires c κs = let d : digitAt (c .before .before .before .before .before .before .before .before .before .before .args .text .now) (c .before .before .before .before .before .before .before .loop .i + 1) < noDigit = rw (c .before .before .before .before .before .digit2 .ensures) at (c .before .before .before .before .if1 .left) in omega (arith, digit-in (c .before .before .before .before .before .before .before .before .before .before .args .text .now) (c .before .before .before .before .before .before .before .loop .i + 1) d)
 
 enum-known-p : tie.Need-enum-known-p Inv-loop μ-loop
 enum-known-p c = search needs
@@ -80,7 +80,7 @@ same-length-3 : tie.Need-same-length-3 Inv-loop μ-loop
 same-length-3 c = search needs
 
 returns-3 : tie.Need-returns-3 Inv-loop μ-loop
-returns-3 c = let w = rw (c .before .p2 .given .1) at (c .before .before .before .after-pair .ensures) in let d : digitAt (c .before .before .before .before .before .before .before .before .before .before .before .before .before .before .args .text .now) (c .before .before .before .before .before .before .before .before .before .before .before .loop .i + 1) < noDigit = rw (c .before .before .before .before .before .before .before .before .before .digit2 .ensures) at (c .before .before .before .before .before .before .before .before .if1 .left) in let v = c .before .before .before .before .before .before .before .before .before .before .before .loop .inv .0 .0 in rw (c .before .before .before .before .before .before .put-byte .ensures, c .before .before .before .before .before .before .before .before .before .before .digit .ensures, c .before .before .before .before .before .before .before .before .before .digit2 .ensures) (fill-last v (16 * digitAt (c .before .before .before .before .before .before .before .before .before .before .before .before .before .before .args .text .now) (c .before .before .before .before .before .before .before .before .before .before .before .loop .i) + digitAt (c .before .before .before .before .before .before .before .before .before .before .before .before .before .before .args .text .now) (c .before .before .before .before .before .before .before .before .before .before .before .loop .i + 1)) (c .before .p2 .given .0 .0) (c .before .before .before .before .before .before .before .before .before .before .before .loop .out + 1 - c .before .before .before .before .before .before .before .before .before .before .before .before .before .before .args .start) (pair-ends (c .before .before .before .before .before .before .before .before .before .before .before .before .before .before .args .text .now) (c .before .before .before .before .before .before .before .before .before .before .before .loop .i) (v .u) d (c .before .p2 .given .0 .0) w) (omega (arith, w .1)) (omega (arith, w .1, digit-in _ _ d)) (omega (arith, v .placed)))
+returns-3 c = let w = rw (c .before .p2 .given .1) at (c .before .before .before .after-pair .ensures) in let d : digitAt (c .before .before .before .before .before .before .before .before .before .before .before .before .before .before .args .text .now) (c .before .before .before .before .before .before .before .before .before .before .before .loop .i + 1) < noDigit = rw (c .before .before .before .before .before .before .before .before .before .digit2 .ensures) at (c .before .before .before .before .before .before .before .before .if1 .left) in let v = c .before .before .before .before .before .before .before .before .before .before .before .loop .inv .0 .0 in rw (c .before .before .before .before .before .before .put-byte .ensures, c .before .before .before .before .before .before .before .before .before .before .digit .ensures, c .before .before .before .before .before .before .before .before .before .digit2 .ensures) (fill-last v (16 * digitAt (c .before .before .before .before .before .before .before .before .before .before .before .before .before .before .args .text .now) (c .before .before .before .before .before .before .before .before .before .before .before .loop .i) + digitAt (c .before .before .before .before .before .before .before .before .before .before .before .before .before .before .args .text .now) (c .before .before .before .before .before .before .before .before .before .before .before .loop .i + 1)) (c .before .p2 .given .0 .0) (c .before .before .before .before .before .before .before .before .before .before .before .loop .out + 1 - c .before .before .before .before .before .before .before .before .before .before .before .before .before .before .args .start) (pair-ends (c .before .before .before .before .before .before .before .before .before .before .before .before .before .before .args .text .now) (c .before .before .before .before .before .before .before .before .before .before .before .loop .i) (v .u) d (c .before .p2 .given .0 .0) w) (omega (arith, w .1)) (omega (arith, w .1, digit-in (c .before .before .before .before .before .before .before .before .before .before .before .before .before .before .args .text .now) (c .before .before .before .before .before .before .before .before .before .before .before .loop .i + 1) d)) (omega (arith, v .placed)))
 
 enum-known-p-3 : tie.Need-enum-known-p-3 Inv-loop μ-loop
 enum-known-p-3 c = search needs

@@ -11,7 +11,7 @@ use Rattle.reader.proofs.binaries.quoted.Tie as tie
 use Rattle.reader.proofs.binaries.quoted.Reads as reads
 use Rattle.reader.proofs.binaries.quoted.Lts as lts
 use Rattle.reader.proofs.binaries.escaped.Reads as escaped-reads
-use Rattle.reader.proofs.stores.put_byte.Reads as put-byte-reads
+use Rattle.items.proofs.stores.put_byte.Reads as put-byte-reads
 
 abbrev Inv-loop : tie.InvT-loop
 Inv-loop text from q store₀ start i₀ out₀ store i out = Filling text (textB q []) from (texting q) (λ j. j) from start store₀ store i out × (length store ≡ length store₀)

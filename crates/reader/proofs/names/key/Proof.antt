@@ -9,7 +9,7 @@ use Rattle.reader.proofs.names.key.Lts as lts
 use Rattle.reader.proofs.joins.string.Reads as string-reads
 use Rattle.reader.proofs.names.name_end.Reads as name-end-reads
 use Rattle.reader.proofs.names.sort_of.Reads as sort-of-reads
-use Rattle.reader.proofs.stores.copy.Reads as copy-reads
+use Rattle.items.proofs.stores.copy.Reads as copy-reads
 
 returns : tie.Need-returns
 returns c = key-over (c .before .before .before .args .text .now) (c .before .before .before .args .at) (c .before .before .before .args .start) (c .before .before .before .args .store .now) (c .if1 .taken)

@@ -1,39 +1,34 @@
--- `digits::decimal_len`: a tenth of the number at each turn. Assumes nothing.
-use Prim.Native.Nat.{_+_, _≤_}
-use mathlib.Core.Path.{_≡_}
+-- `digits::decimal_len`: by the length in bits. Assumes nothing.
 use native.Mathlib.Omega.{arith}
-use lib.ListN.{length}
-use Rattle.meaning.specs.Canonical.{decimal}
-use Rattle.meaning.proofs.Digits.{decimal-length}
-use Rattle.writer.proofs.Filling.{count-more, count-small}
+use lib.Count.{leading-le}
+use mir.Facts.{fits-le, fits-lit}
+use Rattle.writer.proofs.Filling.{size-by-bits}
+use borrow.Author.Needs.{needs}
 use Rattle.writer.proofs.digits.decimal_len.Statement.{statement}
 use Rattle.writer.proofs.digits.decimal_len.Tie as tie
 
-abbrev Inv-loop : tie.InvT-loop
-Inv-loop n count₀ rest₀ count rest = (count + length (decimal rest) ≡ length (decimal n) + 1) × (length (decimal n) ≤ 20)
+cast-bits : tie.Need-cast-bits
+cast-bits c = fits-le (leading-le 64 _) (fits-lit tt)
 
-abbrev μ-loop : tie.MeasureT-loop
-μ-loop n count₀ rest₀ count rest = rest
+sub-bits : tie.Need-sub-bits
+sub-bits c = omega (arith, leading-le 64 (c .args .n))
 
-loop-holds : tie.Need-loop-holds Inv-loop μ-loop
-loop-holds c = (omega arith, decimal-length 19 (c .args .n) (omega arith))
+mul-t : tie.Need-mul-t
+mul-t c = search needs
 
-add-count : tie.Need-add-count Inv-loop μ-loop
-add-count c = omega (arith, c .before .loop .inv)
+power-requires : tie.Need-power-requires
+power-requires c κs = search needs
 
-loop-less : tie.Need-loop-less Inv-loop μ-loop
-loop-less c = omega arith
+reaches-requires : tie.Need-reaches-requires
+reaches-requires c κs = search needs
 
-loop-again : tie.Need-loop-again Inv-loop μ-loop
-loop-again c =
-    let loop = c .before .loop in
-    (omega (arith, loop .inv, count-more (loop .rest) (c .loop-test .taken)), loop .inv .1)
+add-result : tie.Need-add-result
+add-result c = search needs
 
-returns : tie.Need-returns Inv-loop μ-loop
-returns c =
-    let loop = c .before .loop in
-    (omega (arith, loop .inv, count-small (loop .rest) (omega arith)), omega (arith, loop .inv, count-small (loop .rest) (omega arith)))
+returns : tie.Need-returns
+returns c = size-by-bits (c .before .before .args .n) _ _ (omega (arith, c .before .before .fits)) (c .before .power .ensures) (c .reaches .ensures)
 
 pub decimal-len-spec : {M : Type 1} → statement M
 decimal-len-spec =
-    tie.close (tie.spec Inv-loop μ-loop loop-holds add-count loop-less loop-again returns)
+    tie.close
+    (tie.spec cast-bits sub-bits mul-t power-requires reaches-requires add-result returns)

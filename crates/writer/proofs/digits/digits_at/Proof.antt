@@ -1,62 +1,40 @@
--- `digits::digits_at`: filled from the last digit on. Assumes nothing.
-use Prim.Native.Nat.{_-_}
+-- `digits::digits_at`: the part that was lent, come back. Assumes nothing.
 use native.Mathlib.Omega.{arith}
-use Rattle.writer.proofs.Filling.{Filling, fill-begin, fill, filled, fill-length}
+use Rattle.meaning.proofs.Digits.{fixed-length}
+use Rattle.writer.proofs.Laid.{put-tail}
+use borrow.Author.Needs.{needs}
 use Rattle.writer.proofs.digits.digits_at.Statement.{statement}
 use Rattle.writer.proofs.digits.digits_at.Tie as tie
 
-abbrev Inv-loop : tie.InvT-loop
-Inv-loop out₀ at w n end i₀ rest₀ out i rest = Filling w n at out₀ out i rest
+sub-write-digits : tie.Need-sub-write-digits
+sub-write-digits c = search needs
 
-abbrev μ-loop : tie.MeasureT-loop
-μ-loop out₀ at w n end i₀ rest₀ out i rest = i - at
+part-write-digits-start : tie.Need-part-write-digits-start
+part-write-digits-start c = search needs
 
-add-end : tie.Need-add-end Inv-loop μ-loop
-add-end c = omega (arith, c .good)
+part-write-digits-end : tie.Need-part-write-digits-end
+part-write-digits-end c = search needs
 
-loop-holds : tie.Need-loop-holds Inv-loop μ-loop
-loop-holds c = fill-begin _ _ _ _
+write-digits-requires : tie.Need-write-digits-requires
+write-digits-requires c κs = search needs
 
-sub-i : tie.Need-sub-i Inv-loop μ-loop
-sub-i c = omega arith
+add-result : tie.Need-add-result
+add-result c = omega (arith, c .before .before .before .before .before .pre, c .before .before .before .before .before .good, fixed-length (c .before .before .before .before .before .args .w) (c .before .before .before .before .before .args .n), c .before .before .write-digits .ensures .size)
 
-cast-d : tie.Need-cast-d Inv-loop μ-loop
-cast-d c = omega arith
+same-length : tie.Need-same-length
+same-length c = search needs
 
-add-out : tie.Need-add-out Inv-loop μ-loop
-add-out c = omega arith
-
-slice-write-out : tie.Need-slice-write-out Inv-loop μ-loop
-slice-write-out c =
-    let loop = c .before .loop in
-    let pre = c .before .before .pre in
-    omega (arith, fill-length _ _ _ _ (loop .inv) pre, pre, loop .inv .here, loop .inv .some)
-
-loop-less : tie.Need-loop-less Inv-loop μ-loop
-loop-less c = omega arith
-
-loop-again : tie.Need-loop-again Inv-loop μ-loop
-loop-again c = fill _ _ _ _ (c .before .loop .inv) (c .loop-test .taken) (c .before .before .pre)
-
-same-length : tie.Need-same-length Inv-loop μ-loop
-same-length c = fill-length _ _ _ _ (c .before .loop .inv) (c .before .before .pre)
-
-returns : tie.Need-returns Inv-loop μ-loop
-returns c = filled _ _ _ _ (c .before .loop .inv) (c .loop-test .left)
+returns : tie.Need-returns
+returns c = put-tail (c .before .before .write-digits .ensures)
 
 pub digits-at-spec : {M : Type 1} → statement M
 digits-at-spec =
     tie.close
     (tie.spec
-    Inv-loop
-    μ-loop
-    add-end
-    loop-holds
-    sub-i
-    cast-d
-    add-out
-    slice-write-out
-    loop-less
-    loop-again
+    sub-write-digits
+    part-write-digits-start
+    part-write-digits-end
+    write-digits-requires
+    add-result
     same-length
     returns)

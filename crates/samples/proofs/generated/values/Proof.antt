@@ -1,0 +1,49 @@
+-- `values` is safe and ends. Assumes nothing.
+use borrow.Author.Needs.{needs}
+use Rattle.samples.proofs.generated.values.Statement.{statement}
+use Rattle.samples.proofs.generated.values.Tie as tie
+
+abbrev Inv-loop : tie.InvT-loop
+Inv-loop out₀ seed at₀ rest₀ left₀ t6 out at rest left = Unit {0}
+
+abbrev μ-loop : tie.MeasureT-loop
+μ-loop out₀ seed at₀ rest₀ left₀ t6 out at rest left = left
+
+loop-holds : tie.Need-loop-holds Inv-loop μ-loop
+loop-holds c = search needs
+
+piece-requires : tie.Need-piece-requires Inv-loop μ-loop
+piece-requires c κs = search needs
+
+slice-aggregate-put : tie.Need-slice-aggregate-put Inv-loop μ-loop
+slice-aggregate-put c = search needs
+
+put-requires : tie.Need-put-requires Inv-loop μ-loop
+put-requires c κs = search needs
+
+sub-left : tie.Need-sub-left Inv-loop μ-loop
+sub-left c = search needs
+
+loop-less : tie.Need-loop-less Inv-loop μ-loop
+loop-less c = search needs
+
+loop-again : tie.Need-loop-again Inv-loop μ-loop
+loop-again c = search needs
+
+returns : tie.Need-returns Inv-loop μ-loop
+returns c = search needs
+
+pub values-spec : {M : Type 1} → statement M
+values-spec =
+    tie.close
+    (tie.spec
+    Inv-loop
+    μ-loop
+    loop-holds
+    piece-requires
+    slice-aggregate-put
+    put-requires
+    sub-left
+    loop-less
+    loop-again
+    returns)

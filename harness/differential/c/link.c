@@ -1,0 +1,79 @@
+/* Links the archive from C by its header and makes each call. Prints each answer that is not as it should be; silent if none. */
+#include <stdio.h>
+#include <string.h>
+
+#include "lanternrung.h"
+
+static int wrong = 0;
+
+static void same(const char *what, uint64_t got, uint64_t should) {
+    if (got == should) return;
+    printf("%s: %llu, should be %llu\n", what, (unsigned long long)got, (unsigned long long)should);
+    wrong = 1;
+}
+
+static const char text[] = "{ run: 0x1F, # melt\n  eta: NaN, at: 2021-03-04 05:06:07.50-01:30, t: [.5, -1250.5,], }";
+static const char canonical[] = "{\"run\":31,\"eta\":NaN,\"at\":2021-03-04T05:06:07.5-01:30,\"t\":[5e-1,-12505e-1]}";
+
+static uint8_t tape[11 * 16], store[9], out[sizeof canonical];
+
+static const uint8_t *bytes(const char *s) { return (const uint8_t *)s; }
+
+static lr_record look(uint64_t index) { return lanternrung_look(tape, sizeof tape, store, sizeof store, index); }
+
+static void reading(void) {
+    lr_sizes m = lanternrung_measure(bytes(text), strlen(text));
+    same("measure: refused", m.refused, 0);
+    same("measure: place", m.place, 0);
+    same("measure: records", m.records, 11);
+    same("measure: bytes", m.bytes, 9);
+    lr_sizes r = lanternrung_read(bytes(text), strlen(text), tape, sizeof tape - 1, store, sizeof store);
+    same("read into a short tape: refused", r.refused, 8);
+    same("read into a short tape: place", r.place, sizeof tape);
+    r = lanternrung_read(bytes(text), strlen(text), tape, sizeof tape, store, sizeof store);
+    same("read: refused", r.refused, 0);
+    same("read: records", r.records, 11);
+    same("read: bytes", r.bytes, 9);
+    same("the store", (uint64_t)memcmp(store, "runetaatt", 9), 0);
+}
+
+static void looking(void) {
+    lr_record key = look(3), number = look(10), time = look(6), array = look(8), other = look(4);
+    same("a key: kind", key.kind, LR_KY);
+    same("a key: start", key.start, 3);
+    same("a key: length", key.length, 3);
+    same("a number: kind", number.kind, LR_NB);
+    same("a number: flag", number.flag, 1);
+    same("a number: coefficient", number.coefficient, 12505);
+    same("a number: power", (uint64_t)(number.power + 1), 0);
+    same("a time: kind", time.kind, LR_OD);
+    same("a time: year", time.year, 2021);
+    same("a time: month", time.month, 3);
+    same("a time: day", time.day, 4);
+    same("a time: offset", (uint64_t)(time.offset + 90), 0);
+    same("a time: time", time.time, 18367500000000);
+    same("an array: kind", array.kind, LR_AR);
+    same("an array: end", array.end, 11);
+    same("NaN: kind", other.kind, LR_NX);
+    same("past the end: refused", look(11).refused, 14);
+    same("past the end: place", look(11).place, 11);
+}
+
+static void writing(void) {
+    lr_written w = lanternrung_write_jaxn(tape, sizeof tape, store, sizeof store, out, sizeof out);
+    same("write_jaxn: refused", w.refused, 0);
+    same("write_jaxn: length", w.length, strlen(canonical));
+    same("what was written", (uint64_t)memcmp(out, canonical, sizeof canonical), 0);
+    w = lanternrung_write_json(tape, sizeof tape, store, sizeof store, out, sizeof out);
+    same("write_json: refused", w.refused, 11);
+    same("write_json: place", w.place, 4);
+}
+
+int main(void) {
+    reading();
+    looking();
+    writing();
+    same("utf8: place", lanternrung_utf8(bytes("ab\xed\xa0\x80"), 5).place, 2);
+    same("date: refused", lanternrung_date(2000, 2, 30).refused, 5);
+    return wrong;
+}
