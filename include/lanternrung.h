@@ -3,7 +3,7 @@
  *
  * Every call ends, on any bytes. It answers done (`refused` 0, `place` 0) or one refusal of the table below with its place; in a refusal all
  * other fields are 0, and every buffer that was lent holds what it held before. No call keeps a pointer. Lent buffers must not overlap.
- * A length of 0 reads and writes nothing; its pointer need only not be null.
+ * With a length of 0 the pointer is not looked through, and may be null.
  *
  *   refused  given when                                            place
  *    1       text over 16,777,216 bytes                            16777216

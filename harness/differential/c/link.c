@@ -69,10 +69,25 @@ static void writing(void) {
     same("write_json: place", w.place, 4);
 }
 
+/* With a length of 0 a pointer is not looked through. */
+static void nothing(void) {
+    static uint8_t one[16];
+    same("utf8 of nothing: refused", lanternrung_utf8(NULL, 0).refused, 0);
+    same("measure of nothing: refused", lanternrung_measure(NULL, 0).refused, 3);
+    same("read of nothing: refused", lanternrung_read(NULL, 0, NULL, 0, NULL, 0).refused, 3);
+    same("read into nothing: refused", lanternrung_read(bytes("1"), 1, NULL, 0, NULL, 0).refused, 8);
+    same("read of a string of nothing: refused", lanternrung_read(bytes("''"), 2, one, sizeof one, NULL, 0).refused, 0);
+    same("look at a string of nothing: kind", lanternrung_look(one, sizeof one, NULL, 0, 0).kind, LR_ST);
+    same("look at nothing: refused", lanternrung_look(NULL, 0, NULL, 0, 0).refused, 14);
+    same("write_jaxn into nothing: refused", lanternrung_write_jaxn(one, sizeof one, NULL, 0, NULL, 0).refused, 12);
+    same("write_json of nothing: refused", lanternrung_write_json(NULL, 0, NULL, 0, NULL, 0).refused, 10);
+}
+
 int main(void) {
     reading();
     looking();
     writing();
+    nothing();
     same("utf8: place", lanternrung_utf8(bytes("ab\xed\xa0\x80"), 5).place, 2);
     same("date: refused", lanternrung_date(2000, 2, 30).refused, 5);
     return wrong;
