@@ -59,7 +59,7 @@ fn sizes() -> Vec<Vec<u8>> {
 
 pub fn all(program: &str, seed: u64, stated: &[Vec<u8>]) -> u64 {
     let mut r = Random::new(seed);
-    let random = (0..500).map(|_| random::text(&mut r, &stated[..100]));
+    let random = (0..200).map(|_| random::text(&mut r, &stated[..100]));
     let inputs: Vec<Vec<u8>> = stated.iter().cloned().chain(sizes()).chain(random).collect();
     inputs.iter().for_each(|input| check(program, input));
     inputs.len() as u64
