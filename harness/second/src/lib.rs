@@ -1,4 +1,4 @@
-//! A second JAXN reader and writer, written from the rules alone ("01" is the paper of rules, "002" the JAXN
+//! A second JAXN reader and writer, written from the rules ("01" is the paper of rules, "002" the JAXN
 //! specification), to be compared with the proved one.
 //!
 //! Its structure is another one on purpose. The items of the grammar are regular expressions, spelled as 002 prints them
