@@ -40,14 +40,14 @@ fn kept_from(s: &[u8], at: u64) {
     }
 }
 
-pub fn utf8(rest: &[u8]) -> bool {
+pub(crate) fn utf8(rest: &[u8]) -> bool {
     let mut bytes = io::buffer();
     let n = spelling::decode(rest, false, &mut bytes);
     showing::status(lanternrung_utf8(&bytes[..n]));
     true
 }
 
-pub fn date(rest: &[u8]) -> bool {
+pub(crate) fn date(rest: &[u8]) -> bool {
     let year = spelling::find(rest, 0, b' ');
     let tail = spelling::after(rest, year);
     let month = spelling::find(tail, 0, b' ');
@@ -60,7 +60,7 @@ pub fn date(rest: &[u8]) -> bool {
     true
 }
 
-pub fn measure(rest: &[u8]) -> bool {
+pub(crate) fn measure(rest: &[u8]) -> bool {
     let mut text = io::buffer();
     let n = spelling::decode(rest, false, &mut text);
     showing::sizes(lanternrung_measure(&text[..n]));
@@ -75,7 +75,7 @@ fn read_into(text: &[u8], tape: &mut [u8], store: &mut [u8]) {
     kept_from(store, s.bytes);
 }
 
-pub fn read(rest: &[u8]) -> bool {
+pub(crate) fn read(rest: &[u8]) -> bool {
     let first = spelling::find(rest, 0, b' ');
     let tail = spelling::after(rest, first);
     let second = spelling::find(tail, 0, b' ');
@@ -90,7 +90,7 @@ pub fn read(rest: &[u8]) -> bool {
 }
 
 // What a text is read into, in the dotted spelling.
-pub fn tape(rest: &[u8]) -> bool {
+pub(crate) fn tape(rest: &[u8]) -> bool {
     let mut text = io::buffer();
     let n = spelling::decode(rest, false, &mut text);
     let mut tape = [0u8; TAPE];
@@ -125,7 +125,7 @@ fn comes_back(tape: &[u8], store: &[u8]) -> bool {
 }
 
 // A text is taken, and what is written of it gives the same tape and store.
-pub fn goes_round(text: &[u8]) -> bool {
+pub(crate) fn goes_round(text: &[u8]) -> bool {
     let mut tape = [0u8; TAPE];
     let mut store = io::buffer();
     let s = lanternrung_read(text, &mut tape, &mut store);
@@ -176,15 +176,15 @@ fn rewritten(json: bool, rest: &[u8]) -> bool {
     true
 }
 
-pub fn jaxn(rest: &[u8]) -> bool {
+pub(crate) fn jaxn(rest: &[u8]) -> bool {
     rewritten(false, rest)
 }
 
-pub fn json(rest: &[u8]) -> bool {
+pub(crate) fn json(rest: &[u8]) -> bool {
     rewritten(true, rest)
 }
 
-pub fn look(rest: &[u8]) -> bool {
+pub(crate) fn look(rest: &[u8]) -> bool {
     let first = spelling::find(rest, 0, b' ');
     let tail = spelling::after(rest, first);
     let bar = spelling::find(tail, 0, b'|');
@@ -210,10 +210,10 @@ fn write_case(json: bool, rest: &[u8]) -> bool {
     true
 }
 
-pub fn write_jaxn(rest: &[u8]) -> bool {
+pub(crate) fn write_jaxn(rest: &[u8]) -> bool {
     write_case(false, rest)
 }
 
-pub fn write_json(rest: &[u8]) -> bool {
+pub(crate) fn write_json(rest: &[u8]) -> bool {
     write_case(true, rest)
 }

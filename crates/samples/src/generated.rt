@@ -84,7 +84,7 @@ fn come_back(count: u64) -> u64 {
     i
 }
 
-pub fn sweep(rest: &[u8]) -> bool {
+pub(crate) fn sweep(rest: &[u8]) -> bool {
     showing::count(come_back(spelling::number(rest)), b" read again");
     true
 }

@@ -13,29 +13,29 @@ fn decimal(n: u64) {
 }
 
 // An answer follows.
-pub fn arrow() {
+pub(crate) fn arrow() {
     word(b" -> ");
 }
 
-pub fn say(s: &[u8]) {
+pub(crate) fn say(s: &[u8]) {
     arrow();
     word(s);
 }
 
 // Something is not as promised.
-pub fn fault(s: &[u8]) {
+pub(crate) fn fault(s: &[u8]) {
     word(b" NOT ");
     word(s);
 }
 
-pub fn refused(number: u32, place: u64) {
+pub(crate) fn refused(number: u32, place: u64) {
     say(b"refused ");
     decimal(number as u64);
     word(b" at ");
     decimal(place);
 }
 
-pub fn status(s: Status) {
+pub(crate) fn status(s: Status) {
     if s.refused > 0 {
         refused(s.refused, s.place);
     } else {
@@ -43,7 +43,7 @@ pub fn status(s: Status) {
     }
 }
 
-pub fn sizes(s: Sizes) {
+pub(crate) fn sizes(s: Sizes) {
     if s.refused > 0 {
         refused(s.refused, s.place);
     } else {
@@ -55,7 +55,7 @@ pub fn sizes(s: Sizes) {
     }
 }
 
-pub fn count(n: u64, of: &[u8]) {
+pub(crate) fn count(n: u64, of: &[u8]) {
     arrow();
     decimal(n);
     word(of);
@@ -106,7 +106,7 @@ fn time_fields(f: Fields) {
     field(b" time ", f.time);
 }
 
-pub fn fields(f: Fields) {
+pub(crate) fn fields(f: Fields) {
     if f.refused > 0 {
         refused(f.refused, f.place);
     } else {
@@ -140,7 +140,7 @@ fn spelled(s: &[u8], dots: bool) {
 }
 
 // A tape and a store, as a case spells them.
-pub fn both(tape: &[u8], store: &[u8]) {
+pub(crate) fn both(tape: &[u8], store: &[u8]) {
     arrow();
     spelled(tape, true);
     word(b"|");

@@ -11,7 +11,7 @@ pub struct Spelled {
 }
 
 // Where the byte stands from a place on, or the length.
-pub fn find(s: &[u8], from: usize, b: u8) -> usize
+pub(crate) fn find(s: &[u8], from: usize, b: u8) -> usize
     requires { ⌜ from ≤ length (now s) ⌝ }
     ensures { λ r. ⌜ from ≤ r ⌝ }
     ensures { λ r. ⌜ Counts r (now (s .entry)) ⌝ }
@@ -27,7 +27,7 @@ pub fn find(s: &[u8], from: usize, b: u8) -> usize
 }
 
 // What stands after the byte at this place.
-pub fn after(s: &[u8], at: usize) -> &[u8]
+pub(crate) fn after(s: &[u8], at: usize) -> &[u8]
     requires { ⌜ at ≤ length (now s) ⌝ }
 {
     if at < s.len() {
@@ -72,7 +72,7 @@ fn take(s: &[u8], at: usize, dots: bool) -> Spelled
 }
 
 // The bytes that are spelled, and how many.
-pub fn decode(s: &[u8], dots: bool, out: &mut [u8]) -> usize
+pub(crate) fn decode(s: &[u8], dots: bool, out: &mut [u8]) -> usize
     ensures { λ n. ⌜ Counts n (now (out .exit)) ⌝ }
 {
     let mut at: usize = 0;
@@ -96,7 +96,7 @@ fn wide(b: u8) -> u64
 }
 
 // A decimal number; what would be too large is cut short.
-pub fn number(s: &[u8]) -> u64 {
+pub(crate) fn number(s: &[u8]) -> u64 {
     let mut n: u64 = 0;
     let mut i: usize = 0;
     while i < s.len() {
@@ -110,7 +110,7 @@ pub fn number(s: &[u8]) -> u64 {
 }
 
 // So many bytes of a buffer, or all.
-pub fn within(n: u64, buffer: &[u8]) -> usize
+pub(crate) fn within(n: u64, buffer: &[u8]) -> usize
     ensures { λ r. ⌜ Counts r (now (buffer .entry)) ⌝ }
 {
     let size = n as usize;
@@ -121,7 +121,7 @@ pub fn within(n: u64, buffer: &[u8]) -> usize
 }
 
 // So many records of a tape, in bytes, or all.
-pub fn filled(records: u64, tape: &[u8]) -> usize
+pub(crate) fn filled(records: u64, tape: &[u8]) -> usize
     ensures { λ r. ⌜ Counts r (now (tape .entry)) ⌝ }
 {
     let n = records as usize;
