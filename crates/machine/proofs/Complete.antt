@@ -36,7 +36,7 @@ use Rattle.machine.proofs.Names.{name-goes, name-begins, word-goes}
 
 -- ---- what follows an item
 
-abbrev NoDigitFirst : List ℕ → Type 0
+abbrev pub NoDigitFirst : List ℕ → Type 0
 NoDigitFirst [] = Unit {0}
 NoDigitFirst (c ∷ r) = NoDigit c
 
@@ -97,7 +97,7 @@ pub data Lays : ℕ → Type 0 where
   slash : Lays (ch "/")
 
 module _ {F : ℕ → Type 0} (lays : (b : ℕ) → Lays b → F b) (no-digit : (b : ℕ) → F b → NoDigit b) where
-  no-digit-first : {r : List ℕ} → Follows F r → NoDigitFirst r
+  pub no-digit-first : {r : List ℕ} → Follows F r → NoDigitFirst r
   no-digit-first (Follows.nothing x) = tt
   no-digit-first (Follows.byte x y) = no-digit _ x
 
@@ -137,24 +137,24 @@ ends-no-digit b Ends.bracket = higher b (omega arith)
 ends-no-digit b Ends.brace = higher b (omega arith)
 ends-no-digit b Ends.end = higher b (omega arith)
 
-part-no-digit : (b : ℕ) → PartEnds b → NoDigit b
+pub part-no-digit : (b : ℕ) → PartEnds b → NoDigit b
 part-no-digit b (PartEnds.ends x) = ends-no-digit b x
 part-no-digit b PartEnds.plus = lower b (omega arith)
 part-no-digit b PartEnds.colon = higher b (omega arith)
 
-after-layout : {w : List ℕ} → Ws w → (r : List ℕ) → Follows Ends r → Follows Ends (w ++ r)
+pub after-layout : {w : List ℕ} → Ws w → (r : List ℕ) → Follows Ends r → Follows Ends (w ++ r)
 after-layout w r h = layout-follows lay-ends ends-no-digit w r h
 
-part-after-layout : {w : List ℕ} → Ws w → (r : List ℕ) → Follows PartEnds r → Follows PartEnds (w ++ r)
+pub part-after-layout : {w : List ℕ} → Ws w → (r : List ℕ) → Follows PartEnds r → Follows PartEnds (w ++ r)
 part-after-layout w r h = layout-follows lay-part-ends part-no-digit w r h
 
 -- one byte, no space, then anything
-one-more : {F : ℕ → Type 0} {b : ℕ} (r : List ℕ) → F b → (b ≡ ch " " → ⊥) → Follows F (b ∷ r)
+pub one-more : {F : ℕ → Type 0} {b : ℕ} (r : List ℕ) → F b → (b ≡ ch " " → ⊥) → Follows F (b ∷ r)
 one-more r x n = Follows.byte x (λ e. absurd (n e))
 
 -- ---- the start of an item
 
-begun : (p d : ℕ) (k : List Frame) (s : Base) (b : ℕ) (t : List ℕ) (i : Machine.Item) → Machine.onBase p d k b s ≡ Machine.start p d k b i → read p (at (base s) d k) (b ∷ t) ≡ read p (at (item i) d k) (b ∷ t)
+pub begun : (p d : ℕ) (k : List Frame) (s : Base) (b : ℕ) (t : List ℕ) (i : Machine.Item) → Machine.onBase p d k b s ≡ Machine.start p d k b i → read p (at (base s) d k) (b ∷ t) ≡ read p (at (item i) d k) (b ∷ t)
 unfolding read
 begun p d k s b t i e = ap (λ (c : Conf). read (suc p) c t) e
 
@@ -181,24 +181,24 @@ pub data StartsString : Use → Base → List ℕ → Type 0 where
   first-value : StartsString as-value want []
   first-key : StartsString as-key wantKey []
 
-starts-string : {z : Use} {s : Base} {v : List ℕ} → StartsString z s v → (p d : ℕ) (k : List Frame) (b : ℕ) → classOf b ≡ Machine.quoteC → Machine.onBase p d k b s ≡ Machine.start p d k b (Machine.string-part z v Strings.begin)
+pub starts-string : {z : Use} {s : Base} {v : List ℕ} → StartsString z s v → (p d : ℕ) (k : List Frame) (b : ℕ) → classOf b ≡ Machine.quoteC → Machine.onBase p d k b s ≡ Machine.start p d k b (Machine.string-part z v Strings.begin)
 starts-string StartsString.further p d k b e = rw e
 starts-string StartsString.first-value p d k b e = rw e
 starts-string StartsString.first-key p d k b e = rw e
 
-data Quoted : List ℕ → Type 0 where
+pub data Quoted : List ℕ → Type 0 where
   quote : {b : ℕ} {a : List ℕ} → classOf b ≡ Machine.quoteC → Quoted (b ∷ a)
 
-quote-class : (q : Quote) → classOf (mark q) ≡ Machine.quoteC
+pub quote-class : (q : Quote) → classOf (mark q) ≡ Machine.quoteC
 quote-class double = refl
 quote-class single = refl
 
-part-begins : {a u : List ℕ} → String-part true a u → Quoted a
+pub part-begins : {k : Bool} {a u : List ℕ} → String-part k a u → Quoted a
 part-begins (String-part.one-line (Quoted-text.quoted q x)) = Quoted.quote (quote-class q)
 part-begins (String-part.multiline q x y) = Quoted.quote (quote-class q)
 part-begins (String-part.trimmed q x y) = Quoted.quote (quote-class q)
 
-string-part-run : (z : Use) {a u : List ℕ} → String-part true a u → (s : Base) (v : List ℕ) → StartsString z s v → (p d : ℕ) (k : List Frame) (r : List ℕ) → Follows PartEnds r → read p (at (base s) d k) (a ++ r) ≡ read (adv p a) (at (base (got (Got.string z (v ++ u)))) d k) r
+pub string-part-run : (z : Use) {a u : List ℕ} → String-part true a u → (s : Base) (v : List ℕ) → StartsString z s v → (p d : ℕ) (k : List Frame) (r : List ℕ) → Follows PartEnds r → read p (at (base s) d k) (a ++ r) ≡ read (adv p a) (at (base (got (Got.string z (v ++ u)))) d k) r
 string-part-run z {a} {u} x s v y p d k r h = go a (part-begins x) (part-goes x p)
   where
     go : (c : List ℕ) → Quoted c → Goes Strings.scan PartEnds p Strings.begin c u → read p (at (base s) d k) (c ++ r) ≡ read (adv p c) (at (base (got (Got.string z (v ++ u)))) d k) r
@@ -227,7 +227,7 @@ binary-part-run {a} {u} x s v y p d k r h =
     ∙ ap (λ (c : List ℕ). read p (at (item (Machine.binary-part v Binaries.begin)) d k) (c ++ r)) (sym (w .1))
     ∙ item-run Binaries.scan (Machine.binary-part v) (λ q. Got.binary (v ++ q)) (λ p s b. refl) (binary-goes x p) d k r h
 
-binary-run : {a u : List ℕ} → Binary a u → (p d : ℕ) (k : List Frame) (r : List ℕ) → Follows PartEnds r → read p (at (base want) d k) (a ++ r) ≡ read (adv p a) (at (base (got (Got.binary u))) d k) r
+pub binary-run : {a u : List ℕ} → Binary a u → (p d : ℕ) (k : List Frame) (r : List ℕ) → Follows PartEnds r → read p (at (base want) d k) (a ++ r) ≡ read (adv p a) (at (base (got (Got.binary u))) d k) r
 binary-run x p d k r h = concat-run B-value StartsBinary Got.binary wantBinary (λ p d k v. refl) (λ v. StartsBinary.further) (λ a u. binary-part-run {a = a} {u = u}) x want [] StartsBinary.first-value p d k r h
 
 -- ---- values
@@ -253,10 +253,10 @@ valued (Meaning.time t) = refl
 valued (Meaning.array x) = refl
 valued (Meaning.object x) = refl
 
-abbrev ValueRun : ℕ → List ℕ → Meaning → Type 0
+abbrev pub ValueRun : ℕ → List ℕ → Meaning → Type 0
 ValueRun d a m = (p : ℕ) (k : List Frame) (r : List ℕ) → Follows Ends r → read p (at (base want) d k) (a ++ r) ≡ read (adv p a) (at (base (got (gotOf m))) d k) r
 
-abbrev StartsNumeric : ℕ → Type 0
+abbrev pub StartsNumeric : ℕ → Type 0
 StartsNumeric b = (p d : ℕ) (k : List Frame) → Machine.onBase p d k b want ≡ Machine.start p d k b (Machine.numeric Numeric.begin)
 
 digit-class : (b : ℕ) → In (ch "0") (ch "9") b → classOf b ≡ Machine.otherC
@@ -281,10 +281,10 @@ digit-class b x = go (classOf b) (class-is b)
     go (Machine.closeC Machine.square) y = absurd (omega arith)
     go (Machine.closeC Machine.curly) y = absurd (omega arith)
 
-digit-starts : (b : ℕ) → In (ch "0") (ch "9") b → StartsNumeric b
+pub digit-starts : (b : ℕ) → In (ch "0") (ch "9") b → StartsNumeric b
 digit-starts b x p d k = rw (digit-class b x)
 
-lead-starts : {b : ℕ} → N.Lead b → StartsNumeric b
+pub lead-starts : {b : ℕ} → N.Lead b → StartsNumeric b
 lead-starts (N.Lead.digit {b = b} y) = digit-starts b y
 lead-starts N.Lead.plus = λ p d k. refl
 lead-starts N.Lead.minus = λ p d k. refl
@@ -292,7 +292,7 @@ lead-starts N.Lead.point = λ p d k. refl
 lead-starts N.Lead.n-letter = λ p d k. refl
 lead-starts N.Lead.i-letter = λ p d k. refl
 
-numeric-run : {a : List ℕ} {m : Meaning} → NumericItem a m → (p d : ℕ) (k : List Frame) (r : List ℕ) → Follows Ends r → read p (at (base want) d k) (a ++ r) ≡ read (adv p a) (at (base (got (Got.value m))) d k) r
+numeric-run : {a : List ℕ} {m : Meaning} → NumericItem true a m → (p d : ℕ) (k : List Frame) (r : List ℕ) → Follows Ends r → read p (at (base want) d k) (a ++ r) ≡ read (adv p a) (at (base (got (Got.value m))) d k) r
 numeric-run {a} {m} x p d k r h = go a (numeric-begins x) (numeric-goes x p)
   where
     from : (b : ℕ) (t : List ℕ) → StartsNumeric b → Goes Numeric.scan Ends p Numeric.begin (b ∷ t) m → read p (at (base want) d k) ((b ∷ t) ++ r) ≡ read (adv p (b ∷ t)) (at (base (got (Got.value m))) d k) r
@@ -303,7 +303,7 @@ numeric-run {a} {m} x p d k r h = go a (numeric-begins x) (numeric-goes x p)
     go : (c : List ℕ) → N.Begins c → Goes Numeric.scan Ends p Numeric.begin c m → read p (at (base want) d k) (c ++ r) ≡ read (adv p c) (at (base (got (Got.value m))) d k) r
     go c (N.Begins.begins {b = b} {a = t} y) w = from b t (lead-starts y) w
 
-word-run : (b : ℕ) (t : List ℕ) (m : Meaning) → ((p d : ℕ) (k : List Frame) → Machine.onBase p d k b want ≡ Machine.start p d k b (Machine.word (b ∷ t) m)) → (p d : ℕ) (k : List Frame) (r : List ℕ) → Follows Ends r → read p (at (base want) d k) ((b ∷ t) ++ r) ≡ read (adv p (b ∷ t)) (at (base (got (Got.value m))) d k) r
+pub word-run : (b : ℕ) (t : List ℕ) (m : Meaning) → ((p d : ℕ) (k : List Frame) → Machine.onBase p d k b want ≡ Machine.start p d k b (Machine.word (b ∷ t) m)) → (p d : ℕ) (k : List Frame) (r : List ℕ) → Follows Ends r → read p (at (base want) d k) ((b ∷ t) ++ r) ≡ read (adv p (b ∷ t)) (at (base (got (Got.value m))) d k) r
 word-run b t m e p d k r h =
     begun p d k want b (t ++ r) _ (e p d k)
     ∙ item-run Names.wordScan (λ x. Machine.word x m) (λ x. Got.value m) (λ p s b. refl) (word-goes (b ∷ t) p) d k r h
@@ -340,7 +340,7 @@ begins-name b (inr (inl y)) p d k = letter-starts b (λ e. omega arith) (λ f. o
 begins-name b (inr (inr (inl y))) p d k = let e : b ≡ ch "$" = omega arith in rw e
 begins-name b (inr (inr (inr (inl y)))) p d k = let e : b ≡ ch "_" = omega arith in rw e
 
-name-class : {c : List ℕ} → Identifier c → (p d : ℕ) (k : List Frame) (r : List ℕ) → read p (at (base wantKey) d k) (c ++ r) ≡ read p (at (item (Machine.identifier Names.begin)) d k) (c ++ r)
+pub name-class : {c : List ℕ} → Identifier c → (p d : ℕ) (k : List Frame) (r : List ℕ) → read p (at (base wantKey) d k) (c ++ r) ≡ read p (at (item (Machine.identifier Names.begin)) d k) (c ++ r)
 name-class {c} x p d k r =
     let w = name-begins x in
     ap (λ (a : List ℕ). read p (at (base wantKey) d k) (a ++ r)) (w .2)
@@ -354,7 +354,7 @@ pub data Adds : Frame → Meaning → Inside → Type 0 where
   element : {x : Meanings} {m : Meaning} → Adds (inside (elements x)) m (elements (Meanings.more x m))
   member : {x : Members} {u : List ℕ} {m : Meaning} → Adds (pair x u) m (members (Members.member x u m))
 
-close-now : {x : Inside} {b : ℕ} → Closes x b → (p d : ℕ) (k : List Frame) → step p (at (base (wanted x)) d (inside x ∷ k)) b ≡ at (base (got (Got.value (shut x)))) (suc d) k
+pub close-now : {x : Inside} {b : ℕ} → Closes x b → (p d : ℕ) (k : List Frame) → step p (at (base (wanted x)) d (inside x ∷ k)) b ≡ at (base (got (Got.value (shut x)))) (suc d) k
 close-now Closes.bracket p d k = refl
 close-now Closes.brace p d k = refl
 
@@ -362,11 +362,11 @@ close-after : {f : Frame} {m : Meaning} {y : Inside} {b : ℕ} → Adds f m y �
 close-after {m = m} Adds.element Closes.bracket p d k = rw (valued m)
 close-after {m = m} Adds.member Closes.brace p d k = rw (valued m)
 
-comma-after : {f : Frame} {m : Meaning} {y : Inside} → Adds f m y → (p d : ℕ) (k : List Frame) → step p (at (base (got (gotOf m))) d (f ∷ k)) (ch ",") ≡ at (base (wanted y)) d (inside y ∷ k)
+pub comma-after : {f : Frame} {m : Meaning} {y : Inside} → Adds f m y → (p d : ℕ) (k : List Frame) → step p (at (base (got (gotOf m))) d (f ∷ k)) (ch ",") ≡ at (base (wanted y)) d (inside y ∷ k)
 comma-after {m = m} Adds.element p d k = rw (valued m)
 comma-after {m = m} Adds.member p d k = rw (valued m)
 
-closes-end : {x : Inside} {b : ℕ} → Closes x b → Ends b × (b ≡ ch " " → ⊥)
+pub closes-end : {x : Inside} {b : ℕ} → Closes x b → Ends b × (b ≡ ch " " → ⊥)
 closes-end Closes.bracket = (Ends.bracket, λ e. omega arith)
 closes-end Closes.brace = (Ends.brace, λ e. omega arith)
 
@@ -414,7 +414,7 @@ element-run : (d : ℕ) (x : Meanings) (a : List ℕ) (m : Meaning) → ValueRun
 element-run d x a m v = record { frame = inside (elements x); last = m; adds = Adds.element; runs = λ p k r h. v p (inside (elements x) ∷ k) r h }
 
 -- a key, and the colon after it
-key-run : {c u : List ℕ} → Key true c u → {v : List ℕ} → Ws v → (x : Members) (p d : ℕ) (k : List Frame) (r : List ℕ) → read p (at (base wantKey) d (inside (members x) ∷ k)) (c ++ (v ++ (ch ":" ∷ r))) ≡ read (suc (adv (adv p c) v)) (at (base want) d (pair x u ∷ k)) r
+pub key-run : {c u : List ℕ} → Key true c u → {v : List ℕ} → Ws v → (x : Members) (p d : ℕ) (k : List Frame) (r : List ℕ) → read p (at (base wantKey) d (inside (members x) ∷ k)) (c ++ (v ++ (ch ":" ∷ r))) ≡ read (suc (adv (adv p c) v)) (at (base want) d (pair x u ∷ k)) r
 key-run {c} {u} (Key.string y) {v} w x p d k r =
     string-run as-key y wantKey StartsString.first-key p d (inside (members x) ∷ k) (v ++ (ch ":" ∷ r)) (part-after-layout w _ (one-more r PartEnds.colon (λ e. omega arith)))
     ∙ layout-run w (got (Got.string as-key u)) (adv p c) d (inside (members x) ∷ k) (ch ":" ∷ r)
@@ -462,7 +462,7 @@ value-run x = elim x as (λ d a m _. ValueRun d a m) (λ d x a y _. RestRun d x 
 
 -- ---- the whole text
 
-last-follows : {a : List ℕ} → Last a → Follows Ends a
+pub last-follows : {a : List ℕ} → Last a → Follows Ends a
 last-follows {a} (Last.ended w) = rw (← append-nil a) (after-layout w [] (Follows.nothing Ends.end))
 last-follows (Last.unended {a = a} {c = c} w (C-line.c-line C-begin-line.hash x)) = after-layout w c (one-more _ Ends.hash (λ e. omega arith))
 last-follows (Last.unended {a = a} {c = c} w (C-line.c-line C-begin-line.slashes x)) = after-layout w c (one-more _ Ends.slash (λ e. omega arith))

@@ -1,6 +1,7 @@
 -- The scanner of a number or a time value agrees with the grammar: what the rules derive it takes, what it takes the rules derive. Assumes nothing.
 use Prim.Native.Nat.{ℕ}
 use mathlib.Core.Path.{_≡_}
+use mathlib.Core.Bool.{Bool, true}
 use mathlib.Core.List.{List}
 use Rattle.meaning.specs.Meaning.{Meaning}
 use Rattle.machine.specs.Numeric.{begin, scan}
@@ -25,20 +26,20 @@ pub mod Places
 -- two runs end with one meaning
 pub mod Once
 pub use Items.{NumericItem, Taken}
-pub use Accept.{NumericRest, numeric-is}
-pub use Bytes.{Lead, Begins, Plain, numeric-begins, numeric-plain, taken-begins, taken-plain}
+pub use Accept.{NumericRest, numeric-is, Loose, Broke, numeric-broke}
+pub use Bytes.{Lead, Begins, Plain, number-begins, time-begins, numeric-begins, numeric-plain, taken-begins, taken-plain}
 unfoldable pub use Places.{firstOf}
-pub use Places.{first-begin, numeric-first, numeric-place}
+pub use Places.{Blame, first-begin, numeric-first, numeric-place}
 
 -- complete: every number and every time value is taken, and ends with its meaning before every byte that may follow it
-pub numeric-goes : {a : List ℕ} {m : Meaning} → NumericItem a m → (p : ℕ) → Goes scan Ends p begin a m
+pub numeric-goes : {a : List ℕ} {m : Meaning} → NumericItem true a m → (p : ℕ) → Goes scan Ends p begin a m
 numeric-goes (NumericItem.number n) p = Complete.number-goes n p
 numeric-goes (NumericItem.time-value t) p = CompleteTime.time-goes t p
 
 -- sound: what is taken and ended is a number or a time value of that meaning, or a date and a space
-pub numeric-taken : {a : List ℕ} {m : Meaning} → NumericRest begin a m → Taken a m
+pub numeric-taken : {k : Bool} {a : List ℕ} {m : Meaning} → NumericRest k begin a m → Taken k a m
 numeric-taken t = t
 
 -- the rules give an item one meaning
-pub numeric-once : {a : List ℕ} {m n : Meaning} → NumericItem a m → NumericItem a n → m ≡ n
+pub numeric-once : {a : List ℕ} {m n : Meaning} → NumericItem true a m → NumericItem true a n → m ≡ n
 numeric-once i j = Once.goes-once scan Ends.comma (numeric-goes i 0) (numeric-goes j 0)

@@ -18,7 +18,7 @@ use Rattle.meaning.specs.Limits.{depthLimit, textLimit}
 use Rattle.meaning.specs.Meaning.{Meaning}
 use Rattle.meaning.specs.Paper.{placeOf}
 use Rattle.meaning.specs.declared.Refusal.{Refusal}
-use Rattle.meaning.specs.declared.Refusal.the-variants.{NotGrammar, BadEscape, TooDeep, NotUtf8, TextTooLong}
+use Rattle.meaning.specs.declared.Refusal.the-variants.{TextTooLong, NotUtf8, NotGrammar, BadEscape, BadTime, BadNumber, TooDeep, TapeTooShort, StoreTooShort, NotWellFormed, NoJsonForm, OutputTooShort, WrittenTooLong, NoSuchRecord}
 use Rattle.grammar.specs.Values.{Inside, elements, members}
 use Rattle.machine.specs.Scan.{Out, takes, stops, breaks, over}
 use Rattle.machine.specs.Strings as S
@@ -29,22 +29,39 @@ use Rattle.machine.specs.Machine
 use Rattle.machine.specs.Machine.{Got, Base, want, wantKey, wantString, wantBinary, got, base, line, item, Frame, inside, pair, Conf, at, fail, step, read, finish, reading, Verdict, Ok, No, classOf, Class, noteOf, Note, lift, scan}
 use Rattle.machine.specs.Verdict.{decoded, verdict}
 use Rattle.machine.proofs.Runs.{adv}
-use Rattle.machine.proofs.Numeric.{firstOf, first-begin, numeric-first, numeric-place}
+use Rattle.machine.proofs.Numeric.{Blame, firstOf, first-begin, numeric-first, numeric-place}
 
 -- What an outcome at the place p keeps: the places in a state that goes on, or the refusal's, are no later.
 module _ {X M : Type 0} (Kept : ℕ → X → Type 0) where
   abbrev Near : ℕ → Out X M → Type 0
   Near p (takes s) = Kept (suc p) s
   Near p (stops v) = Unit {0}
-  Near p (breaks r) = placeOf r ≤ p
+  Near p (breaks r) = Blame p r
 
 either : {A : Type 0} (P : A → Type 0) (t : Bool) {x y : A} → P x → P y → P (cond t x y)
 either P true a b = a
 either P false a b = b
 
-place-3 : (p : ℕ) → placeOf (NotGrammar p) ≤ p
+place-3 : (p : ℕ) → Blame p (NotGrammar p)
+place-3 p = refl
+
+-- so its place is no later than the byte
+fault-within : (p : ℕ) (r : Refusal) → Blame p r → placeOf r ≤ p
 unfolding placeOf
-place-3 p = omega arith
+fault-within p TextTooLong h = absurd h
+fault-within p (NotUtf8 q) h = absurd h
+fault-within p (NotGrammar q) h = omega arith
+fault-within p (BadEscape q) h = h
+fault-within p (BadTime q) h = h
+fault-within p (BadNumber q) h = h
+fault-within p (TooDeep q) h = h
+fault-within p (TapeTooShort n) h = absurd h
+fault-within p (StoreTooShort n) h = absurd h
+fault-within p (NotWellFormed q) h = absurd h
+fault-within p (NoJsonForm i) h = absurd h
+fault-within p (OutputTooShort n) h = absurd h
+fault-within p (WrittenTooLong n) h = absurd h
+fault-within p (NoSuchRecord i) h = absurd h
 
 -- ---- string parts
 
@@ -144,7 +161,6 @@ unfolding S.onLines
 lines-near p q n acc b = either (PartNear p) (eqb b q) (either (PartKept (suc p)) (eqb n 2) (tt, tt) tt) (either (PartNear p) (S.lineByte b) tt (place-3 p))
 
 close-near : (p : ℕ) (acc : List ℕ) (b : S.Bad) → BadKept p b → PartNear p (S.close acc b)
-unfolding placeOf
 close-near p acc S.fine h = tt
 close-near p acc (S.spoilt q) h = h
 
@@ -212,14 +228,14 @@ word-near p (c ∷ w) b = either (FreeNear p) (eqb b c) tt (place-3 p)
 
 -- ---- the pushdown
 
-abbrev ItemKept : ℕ → Machine.Item → Type 0
+abbrev pub ItemKept : ℕ → Machine.Item → Type 0
 ItemKept p (Machine.word w m) = Unit {0}
 ItemKept p (Machine.numeric s) = firstOf s ≤ p
 ItemKept p (Machine.string-part z u s) = PartKept p s
 ItemKept p (Machine.binary-part u s) = Unit {0}
 ItemKept p (Machine.identifier s) = Unit {0}
 
-abbrev ConfKept : ℕ → Conf → Type 0
+abbrev pub ConfKept : ℕ → Conf → Type 0
 ConfKept p (fail r) = placeOf r ≤ p
 ConfKept p (at (base s) d k) = Unit {0}
 ConfKept p (at (Machine.slash s) d k) = Unit {0}
@@ -227,6 +243,16 @@ ConfKept p (at (line s) d k) = Unit {0}
 ConfKept p (at (Machine.block s) d k) = Unit {0}
 ConfKept p (at (Machine.star s) d k) = Unit {0}
 ConfKept p (at (item i) d k) = ItemKept p i
+
+-- what a byte at p leads to: a state with its places no later, or a refusal
+abbrev pub Stepped : ℕ → Conf → Type 0
+Stepped p (fail r) = Blame p r
+Stepped p (at (base s) d k) = Unit {0}
+Stepped p (at (Machine.slash s) d k) = Unit {0}
+Stepped p (at (line s) d k) = Unit {0}
+Stepped p (at (Machine.block s) d k) = Unit {0}
+Stepped p (at (Machine.star s) d k) = Unit {0}
+Stepped p (at (item i) d k) = ItemKept (suc p) i
 
 module _ {X M : Type 0} (Kept : ℕ → X → Type 0) (f : X → Machine.Item) (g : M → Got) (same : (p : ℕ) (s : X) → Kept p s → ItemKept p (f s)) where
   lift-near : (p : ℕ) (o : Out X M) → Near Kept p o → Near ItemKept p (lift f g o)
@@ -249,59 +275,57 @@ item-near p (Machine.string-part z u s) b h = lift-near PartKept (Machine.string
 item-near p (Machine.binary-part u s) b h = lift-near (λ q s. Unit {0}) (Machine.binary-part u) (λ x. Got.binary (u ++ x)) (λ p s h. tt) p (B.scan p s b) (binary-near p s b)
 item-near p (Machine.identifier s) b h = lift-near (λ q s. Unit {0}) Machine.identifier Got.key (λ p s h. tt) p (N.scan p s b) (name-near p s b)
 
-odd-kept : (p : ℕ) → ConfKept (suc p) (Machine.odd p)
-unfolding placeOf
-odd-kept p = omega arith
+odd-kept : (p : ℕ) → Stepped p (Machine.odd p)
+odd-kept p = refl
 
-deep-kept : (p d : ℕ) (k : List Frame) (y : Inside) → ConfKept (suc p) (Machine.opened p d k y)
-unfolding placeOf
+deep-kept : (p d : ℕ) (k : List Frame) (y : Inside) → Stepped p (Machine.opened p d k y)
 deep-kept p zero k y = omega arith
 deep-kept p (suc d) k y = tt
 
-closed-kept : (p d : ℕ) (k : List Frame) (c : Machine.Bracket) (y : Inside) → ConfKept (suc p) (Machine.closed p d k c y)
+closed-kept : (p d : ℕ) (k : List Frame) (c : Machine.Bracket) (y : Inside) → Stepped p (Machine.closed p d k c y)
 closed-kept p d k Machine.square (elements x) = tt
 closed-kept p d k Machine.square (members x) = odd-kept p
 closed-kept p d k Machine.curly (elements x) = odd-kept p
 closed-kept p d k Machine.curly (members x) = tt
 
-wanted-kept : (p d : ℕ) (c : Machine.Bracket) (k : List Frame) → ConfKept (suc p) (Machine.closeWanted p d c k)
+wanted-kept : (p d : ℕ) (c : Machine.Bracket) (k : List Frame) → Stepped p (Machine.closeWanted p d c k)
 wanted-kept p d c [] = odd-kept p
 wanted-kept p d c (inside y ∷ k) = closed-kept p d k c y
 wanted-kept p d c (pair x u ∷ k) = odd-kept p
 
-close-kept : (p d : ℕ) (c : Machine.Bracket) (k : List Frame) (m : Meaning) → ConfKept (suc p) (Machine.closeAfter p d c k m)
+close-kept : (p d : ℕ) (c : Machine.Bracket) (k : List Frame) (m : Meaning) → Stepped p (Machine.closeAfter p d c k m)
 close-kept p d c [] m = odd-kept p
 close-kept p d c (inside (elements x) ∷ k) m = closed-kept p d k c _
 close-kept p d c (inside (members x) ∷ k) m = odd-kept p
 close-kept p d c (pair x u ∷ k) m = closed-kept p d k c _
 
-comma-kept : (p d : ℕ) (k : List Frame) (m : Meaning) → ConfKept (suc p) (Machine.commaAfter p d k m)
+comma-kept : (p d : ℕ) (k : List Frame) (m : Meaning) → Stepped p (Machine.commaAfter p d k m)
 comma-kept p d [] m = odd-kept p
 comma-kept p d (inside (elements x) ∷ k) m = tt
 comma-kept p d (inside (members x) ∷ k) m = odd-kept p
 comma-kept p d (pair x u ∷ k) m = tt
 
-colon-kept : (p d : ℕ) (k : List Frame) (u : List ℕ) → ConfKept (suc p) (Machine.colonAfter p d k u)
+colon-kept : (p d : ℕ) (k : List Frame) (u : List ℕ) → Stepped p (Machine.colonAfter p d k u)
 colon-kept p d [] u = odd-kept p
 colon-kept p d (inside (elements x) ∷ k) u = odd-kept p
 colon-kept p d (inside (members x) ∷ k) u = tt
 colon-kept p d (pair x w ∷ k) u = odd-kept p
 
-value-kept : (p : ℕ) (f : Meaning → Conf) (m : Option Meaning) → ((x : Meaning) → ConfKept (suc p) (f x)) → ConfKept (suc p) (Machine.needValue p f m)
+value-kept : (p : ℕ) (f : Meaning → Conf) (m : Option Meaning) → ((x : Meaning) → Stepped p (f x)) → Stepped p (Machine.needValue p f m)
 value-kept p f none h = odd-kept p
 value-kept p f (some m) h = h m
 
-key-kept : (p : ℕ) (f : List ℕ → Conf) (m : Option (List ℕ)) → ((x : List ℕ) → ConfKept (suc p) (f x)) → ConfKept (suc p) (Machine.needKey p f m)
+key-kept : (p : ℕ) (f : List ℕ → Conf) (m : Option (List ℕ)) → ((x : List ℕ) → Stepped p (f x)) → Stepped p (Machine.needKey p f m)
 key-kept p f none h = odd-kept p
 key-kept p f (some m) h = h m
 
-plus-kept : (p d : ℕ) (k : List Frame) (g : Got) → ConfKept (suc p) (Machine.plusAfter p d k g)
+plus-kept : (p d : ℕ) (k : List Frame) (g : Got) → Stepped p (Machine.plusAfter p d k g)
 plus-kept p d k (Got.value m) = odd-kept p
 plus-kept p d k (Got.key u) = odd-kept p
 plus-kept p d k (Got.string z u) = tt
 plus-kept p d k (Got.binary u) = tt
 
-got-kept : (p d : ℕ) (k : List Frame) (g : Got) (c : Class) → ConfKept (suc p) (Machine.onGot p d k g c)
+got-kept : (p d : ℕ) (k : List Frame) (g : Got) (c : Class) → Stepped p (Machine.onGot p d k g c)
 got-kept p d k g Machine.blankC = tt
 got-kept p d k g Machine.hashC = tt
 got-kept p d k g Machine.slashC = tt
@@ -318,15 +342,15 @@ got-kept p d k g Machine.otherC = odd-kept p
 got-kept p d k g (Machine.openC c) = odd-kept p
 got-kept p d k g (Machine.closeC c) = value-kept p _ (Machine.asValue g) (close-kept p d c k)
 
-out-kept : (p d : ℕ) (k : List Frame) (b : ℕ) (o : Out Machine.Item Got) → Near ItemKept p o → ConfKept (suc p) (Machine.onOut p d k b o)
+out-kept : (p d : ℕ) (k : List Frame) (b : ℕ) (o : Out Machine.Item Got) → Near ItemKept p o → Stepped p (Machine.onOut p d k b o)
 out-kept p d k b (takes i) h = h
 out-kept p d k b (stops g) h = got-kept p d k g (classOf b)
-out-kept p d k b (breaks r) h = omega arith
+out-kept p d k b (breaks r) h = h
 
-start-kept : (p d : ℕ) (k : List Frame) (b : ℕ) (i : Machine.Item) → ItemKept p i → ConfKept (suc p) (Machine.start p d k b i)
+start-kept : (p d : ℕ) (k : List Frame) (b : ℕ) (i : Machine.Item) → ItemKept p i → Stepped p (Machine.start p d k b i)
 start-kept p d k b i h = out-kept p d k b (scan p i b) (item-near p i b h)
 
-want-kept : (p d : ℕ) (k : List Frame) (b : ℕ) (c : Class) → ConfKept (suc p) (Machine.onWant p d k b c)
+want-kept : (p d : ℕ) (k : List Frame) (b : ℕ) (c : Class) → Stepped p (Machine.onWant p d k b c)
 want-kept p d k b Machine.blankC = tt
 want-kept p d k b Machine.hashC = tt
 want-kept p d k b Machine.slashC = tt
@@ -343,7 +367,7 @@ want-kept p d k b Machine.otherC = start-kept p d k b (Machine.numeric D.begin) 
 want-kept p d k b (Machine.openC c) = deep-kept p d k (Machine.bareOf c)
 want-kept p d k b (Machine.closeC c) = wanted-kept p d c k
 
-key-wanted-kept : (p d : ℕ) (k : List Frame) (b : ℕ) (c : Class) → ConfKept (suc p) (Machine.onKey p d k b c)
+key-wanted-kept : (p d : ℕ) (k : List Frame) (b : ℕ) (c : Class) → Stepped p (Machine.onKey p d k b c)
 key-wanted-kept p d k b Machine.blankC = tt
 key-wanted-kept p d k b Machine.hashC = tt
 key-wanted-kept p d k b Machine.slashC = tt
@@ -360,7 +384,7 @@ key-wanted-kept p d k b Machine.otherC = odd-kept p
 key-wanted-kept p d k b (Machine.openC c) = odd-kept p
 key-wanted-kept p d k b (Machine.closeC c) = wanted-kept p d c k
 
-part-wanted-kept : (p d : ℕ) (k : List Frame) (b : ℕ) (s : Base) (x y : Conf) → ConfKept (suc p) x → ConfKept (suc p) y → (c : Class) → ConfKept (suc p) (Machine.onPart p d k b s x y c)
+part-wanted-kept : (p d : ℕ) (k : List Frame) (b : ℕ) (s : Base) (x y : Conf) → Stepped p x → Stepped p y → (c : Class) → Stepped p (Machine.onPart p d k b s x y c)
 part-wanted-kept p d k b s x y f g Machine.blankC = tt
 part-wanted-kept p d k b s x y f g Machine.hashC = tt
 part-wanted-kept p d k b s x y f g Machine.slashC = tt
@@ -377,79 +401,110 @@ part-wanted-kept p d k b s x y f g Machine.otherC = odd-kept p
 part-wanted-kept p d k b s x y f g (Machine.openC c) = odd-kept p
 part-wanted-kept p d k b s x y f g (Machine.closeC c) = odd-kept p
 
-base-kept : (p d : ℕ) (k : List Frame) (b : ℕ) (s : Base) → ConfKept (suc p) (Machine.onBase p d k b s)
+base-kept : (p d : ℕ) (k : List Frame) (b : ℕ) (s : Base) → Stepped p (Machine.onBase p d k b s)
 base-kept p d k b want = want-kept p d k b (classOf b)
 base-kept p d k b wantKey = key-wanted-kept p d k b (classOf b)
 base-kept p d k b (wantString z u) = part-wanted-kept p d k b (wantString z u) _ _ (start-kept p d k b (Machine.string-part z u S.begin) tt) (odd-kept p) (classOf b)
 base-kept p d k b (wantBinary u) = part-wanted-kept p d k b (wantBinary u) _ _ (odd-kept p) (start-kept p d k b (Machine.binary-part u B.begin) tt) (classOf b)
 base-kept p d k b (got g) = got-kept p d k g (classOf b)
 
-slash-kept : (p d : ℕ) (k : List Frame) (s : Base) (n : Note) → ConfKept (suc p) (Machine.onSlash p d k s n)
+slash-kept : (p d : ℕ) (k : List Frame) (s : Base) (n : Note) → Stepped p (Machine.onSlash p d k s n)
 slash-kept p d k s Machine.slashN = tt
 slash-kept p d k s Machine.starN = tt
 slash-kept p d k s Machine.lineEnd = odd-kept p
 slash-kept p d k s Machine.plainN = odd-kept p
 slash-kept p d k s Machine.controlN = odd-kept p
 
-line-kept : (p d : ℕ) (k : List Frame) (s : Base) (n : Note) → ConfKept (suc p) (Machine.onLine p d k s n)
+line-kept : (p d : ℕ) (k : List Frame) (s : Base) (n : Note) → Stepped p (Machine.onLine p d k s n)
 line-kept p d k s Machine.slashN = tt
 line-kept p d k s Machine.starN = tt
 line-kept p d k s Machine.lineEnd = tt
 line-kept p d k s Machine.plainN = tt
 line-kept p d k s Machine.controlN = odd-kept p
 
-block-kept : (p d : ℕ) (k : List Frame) (s : Base) (n : Note) → ConfKept (suc p) (Machine.onBlock p d k s n)
+block-kept : (p d : ℕ) (k : List Frame) (s : Base) (n : Note) → Stepped p (Machine.onBlock p d k s n)
 block-kept p d k s Machine.slashN = tt
 block-kept p d k s Machine.starN = tt
 block-kept p d k s Machine.lineEnd = tt
 block-kept p d k s Machine.plainN = tt
 block-kept p d k s Machine.controlN = odd-kept p
 
-star-kept : (p d : ℕ) (k : List Frame) (s : Base) (n : Note) → ConfKept (suc p) (Machine.onStar p d k s n)
+star-kept : (p d : ℕ) (k : List Frame) (s : Base) (n : Note) → Stepped p (Machine.onStar p d k s n)
 star-kept p d k s Machine.slashN = tt
 star-kept p d k s Machine.starN = tt
 star-kept p d k s Machine.lineEnd = tt
 star-kept p d k s Machine.plainN = tt
 star-kept p d k s Machine.controlN = odd-kept p
 
+-- no refusal yet
+abbrev pub Live : Conf → Type 0
+Live (fail r) = ⊥
+Live (at m d k) = Unit {0}
+
+pub steps-on : (p : ℕ) (c : Conf) (b : ℕ) → Live c → ConfKept p c → Stepped p (step p c b)
+steps-on p (fail r) b l h = absurd l
+steps-on p (at (base s) d k) b l h = base-kept p d k b s
+steps-on p (at (Machine.slash s) d k) b l h = slash-kept p d k s (noteOf b)
+steps-on p (at (line s) d k) b l h = line-kept p d k s (noteOf b)
+steps-on p (at (Machine.block s) d k) b l h = block-kept p d k s (noteOf b)
+steps-on p (at (Machine.star s) d k) b l h = star-kept p d k s (noteOf b)
+steps-on p (at (item i) d k) b l h = out-kept p d k b (scan p i b) (item-near p i b h)
+
+pub stepped-kept : (p : ℕ) (c : Conf) → Stepped p c → ConfKept (suc p) c
+stepped-kept p (fail r) h = omega (arith, fault-within p r h)
+stepped-kept p (at (base s) d k) h = tt
+stepped-kept p (at (Machine.slash s) d k) h = tt
+stepped-kept p (at (line s) d k) h = tt
+stepped-kept p (at (Machine.block s) d k) h = tt
+stepped-kept p (at (Machine.star s) d k) h = tt
+stepped-kept p (at (item i) d k) h = h
+
 step-kept : (p : ℕ) (c : Conf) (b : ℕ) → ConfKept p c → ConfKept (suc p) (step p c b)
 step-kept p (fail r) b h = omega arith
-step-kept p (at (base s) d k) b h = base-kept p d k b s
-step-kept p (at (Machine.slash s) d k) b h = slash-kept p d k s (noteOf b)
-step-kept p (at (line s) d k) b h = line-kept p d k s (noteOf b)
-step-kept p (at (Machine.block s) d k) b h = block-kept p d k s (noteOf b)
-step-kept p (at (Machine.star s) d k) b h = star-kept p d k s (noteOf b)
-step-kept p (at (item i) d k) b h = out-kept p d k b (scan p i b) (item-near p i b h)
+step-kept p (at m d k) b h = stepped-kept p (step p (at m d k) b) (steps-on p (at m d k) b tt h)
 
 abbrev pub VerdictKept : ℕ → Verdict → Type 0
 VerdictKept p (Ok m) = Unit {0}
 VerdictKept p (No r) = placeOf r ≤ p
 
-complete-kept : (p : ℕ) (k : List Frame) (m : Option Meaning) → VerdictKept p (Machine.complete p k m)
-complete-kept p k none = place-3 p
-complete-kept p [] (some m) = tt
-complete-kept p (f ∷ k) (some m) = place-3 p
+-- what the text's end at p leads to
+abbrev pub VerdictBlamed : ℕ → Verdict → Type 0
+VerdictBlamed p (Ok m) = Unit {0}
+VerdictBlamed p (No r) = Blame p r
 
-end-kept : (p : ℕ) (k : List Frame) (s : Base) → VerdictKept p (Machine.endBase p k s)
-end-kept p k want = place-3 p
-end-kept p k wantKey = place-3 p
-end-kept p k (wantString z u) = place-3 p
-end-kept p k (wantBinary u) = place-3 p
-end-kept p k (got g) = complete-kept p k (Machine.asValue g)
+complete-blamed : (p : ℕ) (k : List Frame) (m : Option Meaning) → VerdictBlamed p (Machine.complete p k m)
+complete-blamed p k none = place-3 p
+complete-blamed p [] (some m) = tt
+complete-blamed p (f ∷ k) (some m) = place-3 p
 
-end-out-kept : (p : ℕ) (k : List Frame) (o : Out Machine.Item Got) → Near ItemKept p o → VerdictKept p (Machine.endOut p k o)
-end-out-kept p k (takes i) h = place-3 p
-end-out-kept p k (stops g) h = end-kept p k (got g)
-end-out-kept p k (breaks r) h = h
+end-blamed : (p : ℕ) (k : List Frame) (s : Base) → VerdictBlamed p (Machine.endBase p k s)
+end-blamed p k want = place-3 p
+end-blamed p k wantKey = place-3 p
+end-blamed p k (wantString z u) = place-3 p
+end-blamed p k (wantBinary u) = place-3 p
+end-blamed p k (got g) = complete-blamed p k (Machine.asValue g)
+
+end-out-blamed : (p : ℕ) (k : List Frame) (o : Out Machine.Item Got) → Near ItemKept p o → VerdictBlamed p (Machine.endOut p k o)
+end-out-blamed p k (takes i) h = place-3 p
+end-out-blamed p k (stops g) h = end-blamed p k (got g)
+end-out-blamed p k (breaks r) h = h
+
+pub ends-on : (p : ℕ) (c : Conf) → Live c → ConfKept p c → VerdictBlamed p (finish p c)
+ends-on p (fail r) l h = absurd l
+ends-on p (at (base s) d k) l h = end-blamed p k s
+ends-on p (at (line s) d k) l h = end-blamed p k s
+ends-on p (at (Machine.slash s) d k) l h = place-3 p
+ends-on p (at (Machine.block s) d k) l h = place-3 p
+ends-on p (at (Machine.star s) d k) l h = place-3 p
+ends-on p (at (item i) d k) l h = end-out-blamed p k (scan p i over) (item-near p i over h)
+
+blamed-kept : (p : ℕ) (v : Verdict) → VerdictBlamed p v → VerdictKept p v
+blamed-kept p (Ok m) h = tt
+blamed-kept p (No r) h = fault-within p r h
 
 finish-kept : (p : ℕ) (c : Conf) → ConfKept p c → VerdictKept p (finish p c)
 finish-kept p (fail r) h = h
-finish-kept p (at (base s) d k) h = end-kept p k s
-finish-kept p (at (line s) d k) h = end-kept p k s
-finish-kept p (at (Machine.slash s) d k) h = place-3 p
-finish-kept p (at (Machine.block s) d k) h = place-3 p
-finish-kept p (at (Machine.star s) d k) h = place-3 p
-finish-kept p (at (item i) d k) h = end-out-kept p k (scan p i over) (item-near p i over h)
+finish-kept p (at m d k) h = blamed-kept p (finish p (at m d k)) (ends-on p (at m d k) tt h)
 
 read-kept : (t : List ℕ) (p : ℕ) (c : Conf) → ConfKept p c → VerdictKept (p + length t) (read p c t)
 unfolding read

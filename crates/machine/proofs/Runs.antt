@@ -1,6 +1,6 @@
 -- Runs of a scanner: complete forwards (`Goes`), sound backwards (`OutIs`, `accepted`). Assumes nothing.
 use Prim.Native.Nat.{ℕ, suc, _<_}
-use mathlib.Core.Path.{_≡_, refl, subst}
+use mathlib.Core.Path.{_≡_, refl, sym, subst}
 use mathlib.Core.Logic.{_⊎_, inl, inr}
 use mathlib.Core.List.{List, [], _∷_, _++_}
 use Rattle.meaning.specs.Letters.{ch}
@@ -50,6 +50,38 @@ module _ {S M : Type 0} (scan : ℕ → S → ℕ → Out S M) where
   pub halts : {F : ℕ → Type 0} {p : ℕ} {s : S} {v : M} → ((b : ℕ) → F b → scan p s b ≡ stops v) → Goes F p s [] v
   halts k = Goes.ends (λ b e. Halt.here (k b e))
 
+  -- The same of the outcome: the scanner takes all of the bytes, and what it then does at every byte with F has Q.
+  pub data HaltTo (Q : Out S M → Type 0) (p : ℕ) (s : S) : ℕ → Type 0 where
+    here : {b : ℕ} → Q (scan p s b) → HaltTo Q p s b
+    spaced : {s' : S} → scan p s (ch " ") ≡ takes s' → ((q c : ℕ) → NoDigit c → Q (scan q s' c)) → HaltTo Q p s (ch " ")
+
+  pub data GoesTo (Q : Out S M → Type 0) (F : ℕ → Type 0) : ℕ → S → List ℕ → Type 0 where
+    ends : {p : ℕ} {s : S} → ((b : ℕ) → F b → HaltTo Q p s b) → GoesTo Q F p s []
+    goes : {p c : ℕ} {s s' : S} {a : List ℕ} → GoesTo Q F (suc p) s' a → scan p s c ≡ takes s' → GoesTo Q F p s (c ∷ a)
+
+  pub took-to : {Q : Out S M → Type 0} {F : ℕ → Type 0} {p c : ℕ} {s s' : S} {a : List ℕ} → GoesTo Q F (suc p) s' a → scan p s c ≡ takes s' → GoesTo Q F p s (c ∷ a)
+  took-to k e = GoesTo.goes k e
+
+  pub halts-to : {Q : Out S M → Type 0} {F : ℕ → Type 0} {p : ℕ} {s : S} → ((b : ℕ) → F b → Q (scan p s b)) → GoesTo Q F p s []
+  halts-to k = GoesTo.ends (λ b e. HaltTo.here (k b e))
+
+  halt-value : {p b : ℕ} {s : S} {v : M} → HaltTo (λ o. o ≡ stops v) p s b → Halt p s v b
+  halt-value (HaltTo.here e) = Halt.here e
+  halt-value (HaltTo.spaced e k) = Halt.spaced e k
+
+  -- with a value for an outcome
+  pub goes-value : {F : ℕ → Type 0} {p : ℕ} {s : S} {a : List ℕ} {v : M} → GoesTo (λ o. o ≡ stops v) F p s a → Goes F p s a v
+  goes-value (GoesTo.ends k) = Goes.ends (λ b e. halt-value (k b e))
+  goes-value (GoesTo.goes k e) = Goes.goes (goes-value k) e
+
+  value-halt : {Q : Out S M → Type 0} {p b : ℕ} {s : S} {v : M} → Q (stops v) → Halt p s v b → HaltTo Q p s b
+  value-halt {Q} h (Halt.here e) = HaltTo.here (subst Q (sym e) h)
+  value-halt {Q} h (Halt.spaced e k) = HaltTo.spaced e (λ q c n. subst Q (sym (k q c n)) h)
+
+  pub value-goes : {Q : Out S M → Type 0} {F : ℕ → Type 0} {p : ℕ} {s : S} {a : List ℕ} {v : M} → Q (stops v) → Goes F p s a v → GoesTo Q F p s a
+  value-goes h (Goes.ends k) = GoesTo.ends (λ b e. value-halt h (k b e))
+  value-goes h (Goes.goes k e) = GoesTo.goes (value-goes h k) e
+
   -- `Steps p s a s'`: from s the bytes a lead to s'
   pub data Steps : ℕ → S → List ℕ → S → Type 0 where
     stay : {p : ℕ} {s : S} → Steps p s [] s
@@ -65,6 +97,10 @@ module _ {S M : Type 0} (scan : ℕ → S → ℕ → Out S M) where
   pub steps-go : {F : ℕ → Type 0} {p : ℕ} {s s' : S} {a b : List ℕ} {v : M} → Steps p s a s' → Goes F (adv p a) s' b v → Goes F p s (a ++ b) v
   steps-go Steps.stay y = y
   steps-go (Steps.eat x e) y = Goes.goes (steps-go x y) e
+
+  pub steps-to : {Q : Out S M → Type 0} {F : ℕ → Type 0} {p : ℕ} {s s' : S} {a b : List ℕ} → Steps p s a s' → GoesTo Q F (adv p a) s' b → GoesTo Q F p s (a ++ b)
+  steps-to Steps.stay y = y
+  steps-to (Steps.eat x e) y = GoesTo.goes (steps-to x y) e
 
 -- What an outcome says, of a relation `Rest s a v`: from s, the bytes a end the item with the value v.
 module _ {S M : Type 0} (Rest : S → List ℕ → M → Type 0) where

@@ -131,7 +131,7 @@ ToCome k d (got g) x t = GotCome k d g x t
 
 -- ---- layout before each
 
-lay-join : {a b : List ℕ} → Ws a → Ws b → Ws (a ++ b)
+pub lay-join : {a b : List ℕ} → Ws a → Ws b → Ws (a ++ b)
 lay-join Ws.none y = y
 lay-join (Ws.blank b x) y = Ws.blank b (lay-join x y)
 lay-join (Ws.line {c = c} l e x) y = rw append-assoc (Ws.line l e (lay-join x y))
@@ -141,9 +141,9 @@ after-pre : {g a : List ℕ} {d : ℕ} {x y : Inside} → Ws g → After true d 
 after-pre {g} l (After.end {d = d} {b = b} {x = x} {w = w} m c) = subst (λ (a : List ℕ). After true d x a x) (append-assoc g w (b ∷ [])) (After.end (lay-join l m) c)
 after-pre {g} l (After.comma {d = d} {x = x} {y = y} {w = w} {a = a} m r) = subst (λ (c : List ℕ). After true d x c y) (append-assoc g w (ch "," ∷ a)) (After.comma (lay-join l m) r)
 
-rest-pre : {g a : List ℕ} {d : ℕ} {x y : Inside} → Ws g → Rest true d x a y → Rest true d x (g ++ a) y
-rest-pre {g} l (Rest.close {d = d} {b = b} {x = x} {w = w} m c) = subst (λ (a : List ℕ). Rest true d x a x) (append-assoc g w (b ∷ [])) (Rest.close (lay-join l m) c)
-rest-pre {g} l (Rest.item {d = d} {x = x} {z = z} {w = w} {a = a} {b = b} m i t) = subst (λ (c : List ℕ). Rest true d x c z) (append-assoc g w (a ++ b)) (Rest.item (lay-join l m) i t)
+pub rest-pre : {f : Bool} {g a : List ℕ} {d : ℕ} {x y : Inside} → Ws g → Rest f d x a y → Rest f d x (g ++ a) y
+rest-pre {f} {g} l (Rest.close {d = d} {b = b} {x = x} {w = w} m c) = subst (λ (a : List ℕ). Rest f d x a x) (append-assoc g w (b ∷ [])) (Rest.close (lay-join l m) c)
+rest-pre {f} {g} l (Rest.item {d = d} {x = x} {z = z} {w = w} {a = a} {b = b} m i t) = subst (λ (c : List ℕ). Rest f d x c z) (append-assoc g w (a ++ b)) (Rest.item (lay-join l m) i t)
 
 last-pre : {g a : List ℕ} → Ws g → Last a → Last (g ++ a)
 last-pre g (Last.ended w) = Last.ended (lay-join g w)
@@ -246,7 +246,7 @@ SlashCome k d s x t = ((r : List ℕ) × (t ≡ ch "/" ∷ r) × LineCome k d s 
 -- an item's bytes and what it gives
 abbrev ItemRest : Machine.Item → List ℕ → Got → Type 0
 ItemRest (Machine.word w m) a g = (v : Unit {0}) × WordRest w a v × (g ≡ Got.value m)
-ItemRest (Machine.numeric s) a g = (m : Meaning) × NumericRest s a m × (g ≡ Got.value m)
+ItemRest (Machine.numeric s) a g = (m : Meaning) × NumericRest true s a m × (g ≡ Got.value m)
 ItemRest (Machine.string-part z u s) a g = (v : List ℕ) × PartRest s a v × (g ≡ Got.string z (u ++ v))
 ItemRest (Machine.binary-part u s) a g = (v : List ℕ) × BinaryRest s a v × (g ≡ Got.binary (u ++ v))
 ItemRest (Machine.identifier s) a g = (v : List ℕ) × NameRest s a v × (g ≡ Got.key v)
@@ -274,7 +274,7 @@ Comes (at (item i) d k) x t = ItemCome k d i x t
 laid : {g : List ℕ} → Ws g → (k : List Frame) (d : ℕ) (s : Base) (x : Meaning) (t : List ℕ) → BaseCome k d s x t → BaseCome k d s x (g ++ t)
 laid l k d s x t h o = pre l k d s x t (h (after (Utf8.ws l) t o))
 
-blank-of : (b : ℕ) → ClassIs b Machine.blankC → Blank b
+pub blank-of : (b : ℕ) → ClassIs b Machine.blankC → Blank b
 blank-of b y = go (ℕ-discrete b (ch "\t")) (ℕ-discrete b (ch "\n")) (ℕ-discrete b (ch "\r"))
   where
     go : Dec (b ≡ ch "\t") → Dec (b ≡ ch "\n") → Dec (b ≡ ch "\r") → Blank b
@@ -286,11 +286,11 @@ blank-of b y = go (ℕ-discrete b (ch "\t")) (ℕ-discrete b (ch "\n")) (ℕ-dis
 blank-laid : (b : ℕ) → ClassIs b Machine.blankC → (k : List Frame) (d : ℕ) (s : Base) (x : Meaning) (t : List ℕ) → BaseCome k d s x t → BaseCome k d s x (b ∷ t)
 blank-laid b y k d s x t h = laid (Ws.blank (blank-of b y) Ws.none) k d s x t h
 
-end-low : {b : ℕ} → Line-end b → b < 0x80
+pub end-low : {b : ℕ} → Line-end b → b < 0x80
 end-low Line-end.line-feed = omega arith
 end-low Line-end.carriage-return = omega arith
 
-begin-octets : {b : List ℕ} → C-begin-line b → (t : List ℕ) → Octets (b ++ t) → Octets t
+pub begin-octets : {b : List ℕ} → C-begin-line b → (t : List ℕ) → Octets (b ++ t) → Octets t
 begin-octets C-begin-line.hash t o = Bytewise.behind (ch "#") t (omega arith) o
 begin-octets C-begin-line.slashes t o = Bytewise.behind (ch "/") t (omega arith) (Bytewise.behind (ch "/") (ch "/" ∷ t) (omega arith) o)
 
@@ -324,11 +324,11 @@ back-line {b} y k d s x t (inl h) o =
     (pre (Ws.line l (h .ends) Ws.none) k d s x (h .rest) (h .goes v))
 back-line {b} y k d s x t (inr h) o = ended-come k d s x (b ++ t) (h .1) (Last.unended Ws.none (C-line.c-line y (Bytewise.line-chars (h .0) (begin-octets y t o))))
 
-stars-octets : {z : List ℕ} → Stars z → Octets z
+pub stars-octets : {z : List ℕ} → Stars z → Octets z
 stars-octets Stars.one = Utf8.literal (letters "*") tt
 stars-octets (Stars.more z) = Utf8.ascii (omega arith) (stars-octets z)
 
-stars-first : {z : List ℕ} → Stars z → (y : List ℕ) × (z ≡ ch "*" ∷ y)
+pub stars-first : {z : List ℕ} → Stars z → (y : List ℕ) × (z ≡ ch "*" ∷ y)
 stars-first Stars.one = ([], refl)
 stars-first (Stars.more {s = s} z) = (s, refl)
 
@@ -345,7 +345,7 @@ back-block k d s x t h o =
 
 -- ---- bytes of comments
 
-line-byte : (b : ℕ) → (b < 0x20 → b ≡ ch "\t") → Bytewise.Byte c-char (b ∷ [])
+pub line-byte : (b : ℕ) → (b < 0x20 → b ≡ ch "\t") → Bytewise.Byte c-char (b ∷ [])
 line-byte b h = Bytewise.Byte.byte (go (decLt b 0x80) (decLt b 0x20))
   where
     go : Dec (b < 0x80) → Dec (b < 0x20) → Bytewise.Raw c-char b
@@ -353,7 +353,7 @@ line-byte b h = Bytewise.Byte.byte (go (decLt b 0x80) (decLt b 0x20))
     go (yes l) (yes e) = let z = h e in inl (l, inl (omega arith))
     go (yes l) (no e) = inl (l, inr (inl (omega arith)))
 
-no-star-byte : (b : ℕ) → (b < 0x20 → (b ≡ ch "\t" → ⊥) → (b ≡ ch "\n" → ⊥) → b ≡ ch "\r") → (b ≡ ch "*" → ⊥) → Bytewise.Byte c-no-star (b ∷ [])
+pub no-star-byte : (b : ℕ) → (b < 0x20 → (b ≡ ch "\t" → ⊥) → (b ≡ ch "\n" → ⊥) → b ≡ ch "\r") → (b ≡ ch "*" → ⊥) → Bytewise.Byte c-no-star (b ∷ [])
 no-star-byte b h f = Bytewise.Byte.byte (go (decLt b 0x80) (decLt b 0x20) (ℕ-discrete b (ch "\t")) (ℕ-discrete b (ch "\n")) (decLt b (ch "*")))
   where
     go : Dec (b < 0x80) → Dec (b < 0x20) → Dec (b ≡ ch "\t") → Dec (b ≡ ch "\n") → Dec (b < ch "*") → Bytewise.Raw c-no-star b
@@ -364,7 +364,7 @@ no-star-byte b h f = Bytewise.Byte.byte (go (decLt b 0x80) (decLt b 0x20) (ℕ-d
     go (yes l) (no a) q r (yes w) = inl (l, inr (inr (inr (inl (omega arith)))))
     go (yes l) (no a) q r (no w) = inl (l, inr (inr (inr (inr (inl (omega arith))))))
 
-no-slash-byte : (b : ℕ) → (b < 0x20 → (b ≡ ch "\t" → ⊥) → (b ≡ ch "\n" → ⊥) → b ≡ ch "\r") → (b ≡ ch "*" → ⊥) → (b ≡ ch "/" → ⊥) → Bytewise.Byte c-no-star-or-slash (b ∷ [])
+pub no-slash-byte : (b : ℕ) → (b < 0x20 → (b ≡ ch "\t" → ⊥) → (b ≡ ch "\n" → ⊥) → b ≡ ch "\r") → (b ≡ ch "*" → ⊥) → (b ≡ ch "/" → ⊥) → Bytewise.Byte c-no-star-or-slash (b ∷ [])
 no-slash-byte b h f g = Bytewise.Byte.byte (go (decLt b 0x80) (decLt b 0x20) (ℕ-discrete b (ch "\t")) (ℕ-discrete b (ch "\n")) (decLt b (ch "*")) (decLt b (ch "/")))
   where
     go : Dec (b < 0x80) → Dec (b < 0x20) → Dec (b ≡ ch "\t") → Dec (b ≡ ch "\n") → Dec (b < ch "*") → Dec (b < ch "/") → Bytewise.Raw c-no-star-or-slash b
@@ -376,7 +376,7 @@ no-slash-byte b h f g = Bytewise.Byte.byte (go (decLt b 0x80) (decLt b 0x20) (�
     go (yes l) (no a) q r (no w) (yes v) = inl (l, inr (inr (inr (inr (inl (omega arith))))))
     go (yes l) (no a) q r (no w) (no v) = inl (l, inr (inr (inr (inr (inr (inl (omega arith)))))))
 
-line-end-of : (b : ℕ) → NoteIs b Machine.lineEnd → Line-end b
+pub line-end-of : (b : ℕ) → NoteIs b Machine.lineEnd → Line-end b
 line-end-of b y = go (ℕ-discrete b (ch "\n"))
   where
     go : Dec (b ≡ ch "\n") → Line-end b
@@ -500,7 +500,7 @@ module _ {S M : Type 0} (Sub : S → List ℕ → M → Type 0) (f : S → Machi
 
 item-is : (p : ℕ) (i : Machine.Item) (b : ℕ) → OutIs ItemRest i b (scan p i b)
 item-is p (Machine.word w m) b = lifted WordRest (λ a. Machine.word a m) (λ v. Got.value m) (λ s a y v r e. (v, r, e)) (λ s a y r. r) w b (Names.wordScan p w b) (word-is p w b)
-item-is p (Machine.numeric s) b = lifted NumericRest Machine.numeric Got.value (λ s a y v r e. (v, r, e)) (λ s a y r. r) s b (Numeric.scan p s b) (numeric-is p s b)
+item-is p (Machine.numeric s) b = lifted (NumericRest true) Machine.numeric Got.value (λ s a y v r e. (v, r, e)) (λ s a y r. r) s b (Numeric.scan p s b) (numeric-is true p s b)
 item-is p (Machine.string-part z u s) b = lifted PartRest (Machine.string-part z u) (λ v. Got.string z (u ++ v)) (λ s a y v r e. (v, r, e)) (λ s a y r. r) s b (Strings.scan p s b) (part-is p s b)
 item-is p (Machine.binary-part u s) b = lifted BinaryRest (Machine.binary-part u) (λ v. Got.binary (u ++ v)) (λ s a y v r e. (v, r, e)) (λ s a y r. r) s b (Binaries.scan p s b) (binary-is p s b)
 item-is p (Machine.identifier s) b = lifted NameRest Machine.identifier Got.key (λ s a y v r e. (v, r, e)) (λ s a y r. r) s b (Names.scan p s b) (name-is p s b)
@@ -608,7 +608,7 @@ back-item p d k i b x t h = back-out p d k i b x t (scan p i b) (item-is p i b) 
 -- ---- where a value is wanted
 
 -- what an array or an object ends as is of the kind that it began as
-abbrev Alike : Inside → Inside → Type 0
+abbrev pub Alike : Inside → Inside → Type 0
 Alike (elements x) (elements y) = Unit {0}
 Alike (elements x) (members y) = ⊥
 Alike (members x) (elements y) = ⊥
@@ -626,7 +626,7 @@ alike-trans (members x) (elements y) z a b = absurd a
 alike-trans (members x) (members y) (elements z) a b = b
 alike-trans (members x) (members y) (members z) a b = tt
 
-rest-alike : {d : ℕ} {x y : Inside} {a : List ℕ} → Rest true d x a y → Alike x y
+pub rest-alike : {d : ℕ} {x y : Inside} {a : List ℕ} → Rest true d x a y → Alike x y
 rest-alike t = elim t as (λ d a m _. Unit {0}) (λ d x a y _. Alike x y) (λ d x a y _. Alike x y) (λ d x a y _. Alike x y) [
   | Value.null-word ↦ tt
   | Value.true-word ↦ tt
@@ -652,11 +652,11 @@ plain-value k d a m x r t e v h o = value-then k d a m x r t e v (h (after (Utf8
 word-value : (k : List Frame) (d : ℕ) (w : List ℕ) (m x : Meaning) (t : List ℕ) → Value true d w m → ItemCome k d (Machine.word w m) x t → BaseCome k d want x t
 word-value k d w m x t v h = plain-value k d w m x (h .rest) t (h .split ∙ ap (λ (a : List ℕ). a ++ h .rest) (h .does .1)) v (rw (h .does .2) at (h .goes))
 
-numeric-value : {a : List ℕ} {m : Meaning} → NumericItem a m → (d : ℕ) → Value true d a m
+pub numeric-value : {a : List ℕ} {m : Meaning} → NumericItem true a m → (d : ℕ) → Value true d a m
 numeric-value (NumericItem.number y) d = Value.number y
 numeric-value (NumericItem.time-value y) d = Value.time-value y
 
-numeric-wanted : {a : List ℕ} {m : Meaning} → Taken a m → (k : List Frame) (d : ℕ) (x : Meaning) (r t : List ℕ) → t ≡ a ++ r → BaseCome k d (got (Got.value m)) x r → BaseCome k d want x t
+numeric-wanted : {a : List ℕ} {m : Meaning} → Taken true a m → (k : List Frame) (d : ℕ) (x : Meaning) (r t : List ℕ) → t ≡ a ++ r → BaseCome k d (got (Got.value m)) x r → BaseCome k d want x t
 numeric-wanted (Taken.item {a = a} {m = m} y) k d x r t e h = plain-value k d a m x r t e (numeric-value y d) h
 numeric-wanted (Taken.trailed {a = a} {d = q} y) k d x r t e h =
     plain-value k d a (Meaning.time (LocalDate q)) x (ch " " ∷ r) t (e ∙ append-assoc a (ch " " ∷ []) r) (Value.time-value (Time-value.local-date y))
@@ -865,10 +865,24 @@ unfolding read
 comes [] p c x e = finished p c x e
 comes (b ∷ t) p c x e = back p c b x t (comes t (suc p) (step p c b) x e)
 
+-- what the machine accepts in UTF-8, however long
+pub record Derived (t : List ℕ) (m : Meaning) : Type 0 where
+  pub lead : List ℕ
+  pub body : List ℕ
+  pub rest : List ℕ
+  pub split : t ≡ lead ++ (body ++ rest)
+  pub layout : Ws lead
+  pub value : Value true depthLimit body m
+  pub last : Last rest
+
+pub derived : (t : List ℕ) (m : Meaning) → Octets t → reading t ≡ Ok m → Derived t m
+unfolding reading
+derived t m o e =
+    let h = comes t 0 (at (base want) depthLimit []) m e o in
+    record { lead = h .lead; body = h .body; rest = h .rest; split = h .split; layout = h .layout; value = subst (Value true depthLimit (h .body)) (h .goes .1) (h .value); last = h .goes .0 }
+
 -- in UTF-8 and within the length, what the machine accepts, the grammar derives
 pub derives : (t : List ℕ) (m : Meaning) → Octets t → length t ≤ textLimit → reading t ≡ Ok m → Text true t m
-unfolding reading
 derives t m o l e =
-    let h = comes t 0 (at (base want) depthLimit []) m e o in
-    subst₂ (Text true) (sym (h .split)) (h .goes .1)
-    (Text.text (h .layout) (h .value) (h .goes .0) (subst (λ (s : List ℕ). length s ≤ textLimit) (h .split) l))
+    let h = derived t m o e in
+    subst (λ (s : List ℕ). Text true s m) (sym (h .split)) (Text.text (h .layout) (h .value) (h .last) (subst (λ (s : List ℕ). length s ≤ textLimit) (h .split) l))

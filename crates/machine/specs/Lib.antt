@@ -16,3 +16,5 @@ pub mod Names
 pub mod Machine
 -- Verdict: what a whole text comes to
 pub mod Verdict
+-- which of 3 to 7, and where, by the grammar alone
+pub mod Refused

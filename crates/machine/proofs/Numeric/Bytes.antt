@@ -50,34 +50,34 @@ dec-begins : {a : List ℕ} {v up dn : ℕ} → Dec a v up dn → Begins a
 dec-begins (Dec.whole i f e) = begins-more (int-begins i) _
 dec-begins (Dec.part (Frac1.given d) e) = Begins.begins Lead.point
 
-unsigned-begins : {g : Bool} {a : List ℕ} {n : N.Number} → Unsigned true g a n → Begins a
+unsigned-begins : {k : Bool} {g : Bool} {a : List ℕ} {n : N.Number} → Unsigned k g a n → Begins a
 unsigned-begins Unsigned.nan = Begins.begins Lead.n-letter
 unsigned-begins Unsigned.inf = Begins.begins Lead.i-letter
 unsigned-begins (Unsigned.hex x d l f) = Begins.begins (Lead.digit {b = ch "0"} (omega arith))
 unsigned-begins (Unsigned.dec d f) = dec-begins d
 
-number-begins : {a : List ℕ} {n : N.Number} → Number true a n → Begins a
+pub number-begins : {k : Bool} {a : List ℕ} {n : N.Number} → Number k a n → Begins a
 number-begins (Number.number Sign.unsigned u) = unsigned-begins u
 number-begins (Number.number Sign.plus u) = Begins.begins Lead.plus
 number-begins (Number.number Sign.minus u) = Begins.begins Lead.minus
 
-date-begins : {a : List ℕ} {d : D.Date} → Local-date true a d → Begins a
+date-begins : {k : Bool} {a : List ℕ} {d : D.Date} → Local-date k a d → Begins a
 date-begins (Local-date.local-date y m d x) = begins-more (digits-begin y) _
 
-clock-begins : {a : List ℕ} {n : ℕ} → Local-time true a n → Begins a
+clock-begins : {k : Bool} {a : List ℕ} {n : ℕ} → Local-time k a n → Begins a
 clock-begins (Local-time.local-time (Time-hour.hour h l) m s f) = begins-more (digits-begin h) _
 
-time-begins : {a : List ℕ} {t : T.Time} → Time-value true a t → Begins a
+pub time-begins : {k : Bool} {a : List ℕ} {t : T.Time} → Time-value k a t → Begins a
 time-begins (Time-value.local-date d) = date-begins d
 time-begins (Time-value.local-time c) = clock-begins c
 time-begins (Time-value.local-date-time d x c) = begins-more (date-begins d) _
 time-begins (Time-value.offset-date-time d x c o) = begins-more (date-begins d) _
 
-pub numeric-begins : {a : List ℕ} {m : Meaning} → NumericItem a m → Begins a
+pub numeric-begins : {a : List ℕ} {m : Meaning} → NumericItem true a m → Begins a
 numeric-begins (NumericItem.number n) = number-begins n
 numeric-begins (NumericItem.time-value t) = time-begins t
 
-pub taken-begins : {a : List ℕ} {m : Meaning} → Taken a m → Begins a
+pub taken-begins : {a : List ℕ} {m : Meaning} → Taken true a m → Begins a
 taken-begins (Taken.item i) = numeric-begins i
 taken-begins (Taken.trailed d) = begins-more (date-begins d) _
 
@@ -207,11 +207,11 @@ time-plain (Time-value.local-time c) = clock-plain c
 time-plain (Time-value.local-date-time d x c) = each-join (date-plain d) (all-more (separator-plain x) (clock-plain c))
 time-plain (Time-value.offset-date-time d x c o) = each-join (date-plain d) (all-more (separator-plain x) (each-join (clock-plain c) (offset-plain o)))
 
-pub numeric-plain : {a : List ℕ} {m : Meaning} → NumericItem a m → Plain a
+pub numeric-plain : {a : List ℕ} {m : Meaning} → NumericItem true a m → Plain a
 numeric-plain (NumericItem.number n) = number-plain n
 numeric-plain (NumericItem.time-value t) = time-plain t
 
-pub taken-plain : {a : List ℕ} {m : Meaning} → Taken a m → Plain a
+pub taken-plain : {a : List ℕ} {m : Meaning} → Taken true a m → Plain a
 unfolding plain
 taken-plain (Taken.item i) = numeric-plain i
 taken-plain (Taken.trailed d) = each-join (date-plain d) (plain-is (letters " ") refl)

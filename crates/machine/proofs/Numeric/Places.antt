@@ -1,6 +1,6 @@
 -- A refusal's place is no later than the byte that gives it. Assumes nothing.
 use Prim.Native.Nat.{ℕ, zero, suc, _+_, _*_, _^_, _≤_}
-use mathlib.Core.Path.{_≡_, subst}
+use mathlib.Core.Path.{_≡_, refl, subst}
 use mathlib.Core.Bool.{Bool, true, false, cond, _&&_}
 use mathlib.Core.List.{[], _∷_}
 use native.Mathlib.Omega.{arith}
@@ -10,11 +10,10 @@ use Rattle.meaning.specs.declared.Date as D
 use Rattle.meaning.specs.declared.Time as T
 use Rattle.meaning.specs.declared.Time.the-variants.{LocalDate, LocalTime, LocalDateTime, OffsetDateTime}
 use Rattle.meaning.specs.declared.Refusal.{Refusal}
-use Rattle.meaning.specs.declared.Refusal.the-variants.{NotGrammar, BadNumber}
+use Rattle.meaning.specs.declared.Refusal.the-variants.{TextTooLong, NotUtf8, NotGrammar, BadEscape, BadTime, BadNumber, TooDeep, TapeTooShort, StoreTooShort, NotWellFormed, NoJsonForm, OutputTooShort, WrittenTooLong, NoSuchRecord}
 use Rattle.meaning.specs.Limits.{coefficientLimit}
 use Rattle.meaning.specs.Letters.{ch}
 use Rattle.meaning.specs.Clock.{timeOfDay}
-use Rattle.meaning.specs.Paper.{placeOf}
 use Rattle.grammar.specs.Numbers.{raised, lowered}
 use Rattle.grammar.specs.Times.{signed}
 use Rattle.machine.specs.Scan.{takes, stops, breaks}
@@ -43,15 +42,31 @@ firstOf (secPoint q w h m s) = q
 firstOf (nanos q w h m s k v) = q
 firstOf (zulu q d h m s n) = q
 
--- an outcome at the place p: the next state began no later, a refusal's place is no later
+-- what a refusal at the byte p says of its place: 3 names that byte, and no other a later one
+abbrev pub Blame : ℕ → Refusal → Type 0
+Blame p TextTooLong = ⊥
+Blame p (NotUtf8 q) = ⊥
+Blame p (NotGrammar q) = q ≡ p
+Blame p (BadEscape q) = q ≤ p
+Blame p (BadTime q) = q ≤ p
+Blame p (BadNumber q) = q ≤ p
+Blame p (TooDeep q) = q ≤ p
+Blame p (TapeTooShort n) = ⊥
+Blame p (StoreTooShort n) = ⊥
+Blame p (NotWellFormed q) = ⊥
+Blame p (NoJsonForm i) = ⊥
+Blame p (OutputTooShort n) = ⊥
+Blame p (WrittenTooLong n) = ⊥
+Blame p (NoSuchRecord i) = ⊥
+
+-- an outcome at the place p: the next state began no later, a refusal's place is as above
 abbrev Placed : ℕ → Res → Type 0
 Placed p (takes s) = firstOf s ≤ suc p
 Placed p (stops m) = Unit {0}
-Placed p (breaks r) = placeOf r ≤ p
+Placed p (breaks r) = Blame p r
 
-refused-here : (p : ℕ) → placeOf (NotGrammar p) ≤ p
-unfolding placeOf
-refused-here p = omega arith
+refused-here : (p : ℕ) → Blame p (NotGrammar p)
+refused-here p = refl
 
 only-placed : (p c : ℕ) (s : St) (b : ℕ) → firstOf s ≤ suc p → Placed p (only p c s b)
 only-placed p c s b h = go (eqb b c)
@@ -65,12 +80,10 @@ module _ (p q : ℕ) (l : q ≤ p) where
   next = omega arith
 
   tested-placed : (ok : Bool) (t : T.Time) → Placed p (tested q ok t)
-  unfolding placeOf
   tested-placed true t = tt
   tested-placed false t = l
 
-  bad-number : placeOf (BadNumber q) ≤ p
-  unfolding placeOf
+  bad-number : Blame p (BadNumber q)
   bad-number = l
 
   settled : (g : Bool) (m up dn : ℕ) → Placed p (settle q g m up dn)
@@ -294,7 +307,7 @@ scan-placed p (zulu q d h m s n) b l = tested-placed p q l (okDate d && okClock 
 pub numeric-first : (p : ℕ) (s : St) (b : ℕ) (s' : St) → firstOf s ≤ p → scan p s b ≡ takes s' → firstOf s' ≤ suc p
 numeric-first p s b s' l e = subst (λ (o : Res). Placed p o) e (scan-placed p s b l)
 
-pub numeric-place : (p : ℕ) (s : St) (b : ℕ) (r : Refusal) → firstOf s ≤ p → scan p s b ≡ breaks r → placeOf r ≤ p
+pub numeric-place : (p : ℕ) (s : St) (b : ℕ) (r : Refusal) → firstOf s ≤ p → scan p s b ≡ breaks r → Blame p r
 numeric-place p s b r l e = subst (λ (o : Res). Placed p o) e (scan-placed p s b l)
 
 pub first-begin : (p : ℕ) → firstOf begin ≤ p

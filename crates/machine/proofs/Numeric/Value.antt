@@ -72,6 +72,24 @@ module _ (q : ℕ) (g : Bool) where
         go true f = stop _ (Finite.nought (eqb-true _ _ f))
         go false f = let l : 0 < m = omega (arith, eqb-false m 0 f) in checked-is (strip m m 0 .0) (strip m m 0 .1 + up) (stripped m up l) (strip-is m m 0 l (omega arith) .1)
 
+-- out of the range too there is a coefficient and a power
+pub some-finite : (g : Bool) (m up dn : ℕ) → (x : Number) × Finite false g m up dn x
+some-finite g m up dn = go (eqb m 0) refl
+  where
+    by-power : (c u : ℕ) → m * 10 ^ up ≡ c * 10 ^ u → (c % 10 ≡ 0 → ⊥) → (x : Bool) → leb dn u ≡ x → (y : Number) × Finite false g m up dn y
+    by-power c u e n true f = let h = leb-true dn u f in let k : u ≡ u - dn + dn = omega arith in (_, Finite.whole (e ∙ ap (λ (x : ℕ). c * 10 ^ x) k ∙ sym (powers c (u - dn) dn)) n tt tt)
+    by-power c u e n false f = let h = leb-false dn u f in let k : u + suc (dn - u - 1) ≡ dn = omega arith in (_, Finite.part (ap (λ (x : ℕ). x * 10 ^ suc (dn - u - 1)) e ∙ powers c u (suc (dn - u - 1)) ∙ ap (λ (x : ℕ). c * 10 ^ x) k) n tt tt)
+
+    go : (x : Bool) → eqb m 0 ≡ x → (y : Number) × Finite false g m up dn y
+    go true f = (_, Finite.nought (eqb-true _ _ f))
+    go false f = let l : 0 < m = omega (arith, eqb-false m 0 f) in by-power (strip m m 0 .0) (strip m m 0 .1 + up) (stripped m up l) (strip-is m m 0 l (omega arith) .1) (leb dn (strip m m 0 .1 + up)) refl
+
+pub finite-by : (k : Bool) {g : Bool} {m up dn : ℕ} {w : Number} → Finite true g m up dn w → Finite k g m up dn w
+finite-by true h = h
+finite-by false (Finite.nought e) = Finite.nought e
+finite-by false (Finite.whole e p c n) = Finite.whole e p tt tt
+finite-by false (Finite.part e p c n) = Finite.part e p tt tt
+
 -- the only coefficient and power
 module _ (m up d w : ℕ) (e : m * 10 ^ up ≡ d * 10 ^ w) (n : d % 10 ≡ 0 → ⊥) where
   pub positive : 0 < m

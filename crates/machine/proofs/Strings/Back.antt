@@ -1,6 +1,6 @@
 -- What the string scanner takes is a raw string part with that value: what may still come, from each state, one byte back. Assumes nothing.
 use Prim.Native.Nat.{ℕ, zero, suc, _+_, _*_, _≤_, _<_}
-use mathlib.Core.Path.{_≡_, refl, sym, _∙_, ap}
+use mathlib.Core.Path.{_≡_, refl, sym, _∙_, ap, subst}
 use mathlib.Core.Logic.{inl, inr}
 use mathlib.Core.Bool.{true, false, cond}
 use mathlib.Core.List.{List, [], _∷_, _++_, append-assoc, append-nil}
@@ -23,7 +23,7 @@ use Rattle.machine.proofs.Strings.Tests.{by-bool, by-eqb, by-ltb, by-le
 -- ---- what may still come
 
 abbrev pub Tail : Quote → List ℕ → List ℕ → List ℕ → Type 0
-Tail j acc a v = (u : List ℕ) × Body j a u × (acc ++ u ≡ v)
+Tail j acc a v = (u : List ℕ) × Body true j a u × (acc ++ u ≡ v)
 
 -- where a high surrogate waits, its low one
 abbrev pub Halved : Half → Quote → List ℕ → List ℕ → List ℕ → Type 0
@@ -38,11 +38,11 @@ abbrev pub LinesRest : ℕ → ℕ → List ℕ → List ℕ → List ℕ → Ty
 LinesRest q n acc a v = (j : Quote) → q ≡ mark j → n ≤ 2 → (u : List ℕ) × Lines j (replicate n q ++ a) u × (acc ++ u ≡ v)
 
 abbrev pub PartRest : St → List ℕ → List ℕ → Type 0
-PartRest start a v = Raw-part a v
-PartRest (one q) a v = (j : Quote) → q ≡ mark j → Raw-part (mark j ∷ a) v
-PartRest (two q) a v = (j : Quote) → q ≡ mark j → Raw-part (mark j ∷ mark j ∷ a) v
-PartRest (lines0 q) a v = (j : Quote) → q ≡ mark j → Raw-part (three j ++ a) v
-PartRest (linesCR q) a v = (j : Quote) → q ≡ mark j → Raw-part (three j ++ (ch "\r" ∷ a)) v
+PartRest start a v = Raw-part true a v
+PartRest (one q) a v = (j : Quote) → q ≡ mark j → Raw-part true (mark j ∷ a) v
+PartRest (two q) a v = (j : Quote) → q ≡ mark j → Raw-part true (mark j ∷ mark j ∷ a) v
+PartRest (lines0 q) a v = (j : Quote) → q ≡ mark j → Raw-part true (three j ++ a) v
+PartRest (linesCR q) a v = (j : Quote) → q ≡ mark j → Raw-part true (three j ++ (ch "\r" ∷ a)) v
 PartRest (lines q n acc) a v = LinesRest q n acc a v
 PartRest (body k) a v = BodyRest k a v
 PartRest (esc k at) a v = BodyRest k (ch "\\" ∷ a) v
@@ -86,7 +86,7 @@ close-back k b e r v f j q = go (k .high) (f .2)
     go whole z = (z, ([], rw (e ∙ q, f .0) Body.closed, append-nil (k .acc) ∙ f .1))
     go (half from h) z = absurd (spoilt-not (k .bad) from z)
 
-plain-may : (b : ℕ) → S.plainByte b ≡ true → (0x20 ≤ b) × (b < over)
+pub plain-may : (b : ℕ) → S.plainByte b ≡ true → (0x20 ≤ b) × (b < over)
 unfolding S.plainByte
 plain-may b = by-ltb (λ t. t ≡ true → (0x20 ≤ b) × (b < over)) b 0x20 _ _ (λ h e. let z : false ≡ true = e in absurd (no-way z)) (λ h e. (h, ltb-true b over e))
   where
@@ -154,11 +154,11 @@ braces-back k at d w ds x r v =
 
 -- ---- several lines
 
-one-more : (n q : ℕ) (a : List ℕ) → replicate (suc n) q ++ a ≡ replicate n q ++ (q ∷ a)
+pub one-more : (n q : ℕ) (a : List ℕ) → replicate (suc n) q ++ a ≡ replicate n q ++ (q ∷ a)
 one-more zero q a = refl
 one-more (suc n) q a = ap {B = List ℕ} (λ (r : List ℕ). q ∷ r) (one-more n q a)
 
-up-to-two : (n : ℕ) (j : Quote) → n ≤ 2 → Up-to-two j (replicate n (mark j))
+pub up-to-two : (n : ℕ) (j : Quote) → n ≤ 2 → Up-to-two j (replicate n (mark j))
 up-to-two zero j h = Up-to-two.no-quote
 up-to-two (suc zero) j h = Up-to-two.one-quote
 up-to-two (suc (suc zero)) j h = Up-to-two.two-quotes
@@ -181,7 +181,7 @@ lines-is p q n acc b s f =
 digit-is : (s : St) (b : ℕ) (x y : Out St (List ℕ)) → (Hexdig b (hexOf b) → Is s b x) → Is s b y → Is s b (cond (ltb (hexOf b) 16) x y)
 digit-is s b x y f g = by-ltb (Is s b) (hexOf b) 16 x y (λ l. f (hex-is b l)) (λ l. g)
 
-inner-return : (j : Quote) → Inner (mark j) (ch "\r")
+pub inner-return : (j : Quote) → Inner (mark j) (ch "\r")
 unfolding S.lineByte
 inner-return double = record { no-end = omega arith; may = refl }
 inner-return single = record { no-end = omega arith; may = refl }
@@ -190,21 +190,24 @@ close-is : (k : Ctx) (b : ℕ) (z : Bad) → badNow k ≡ z → Is (done k) b (S
 close-is k b fine e = (refl, refl, e)
 close-is k b (spoilt at) e = tt
 
+by-value : {a u v : List ℕ} → u ≡ v → Raw-part true a u → Raw-part true a v
+by-value {a} e x = subst (Raw-part true a) e x
+
 pub part-is : (p : ℕ) (s : St) (b : ℕ) → OutIs PartRest s b (scan p s b)
 unfolding scan S.onShort S.onHex S.hexed S.onBrace
 part-is p start b = by-eqb (Is start b) b 0x22 _ _ (λ e a v h. rw e (h double e)) λ n. by-eqb (Is start b) b 0x27 _ _ (λ e a v h. rw e (h single e)) (λ m. tt)
 part-is p (one q) b =
     by-eqb (Is (one q) b) b q _ _ (λ e a v h j i. rw (e ∙ i) (h j i))
-    (λ n. body-is p (mk q fine whole []) b (one q) (λ a v h j i. let t = h j i .1 in rw (t .2) at (Raw-part.one-line j (t .1))))
+    (λ n. body-is p (mk q fine whole []) b (one q) (λ a v h j i. let t = h j i .1 in by-value (t .2) (Raw-part.one-line j (t .1))))
 part-is p (two q) b = by-eqb (Is (two q) b) b q _ _ (λ e a v h j i. rw (e ∙ i) (h j i)) (λ n j i. Raw-part.one-line j Body.closed)
 part-is p (lines0 q) b =
-    by-eqb (Is (lines0 q) b) b 10 _ _ (λ e a v h j i. let t = h j i (omega arith) in rw e (rw (t .2) at (Raw-part.trimmed j Newline.line-feed (t .1)))) λ n.
+    by-eqb (Is (lines0 q) b) b 10 _ _ (λ e a v h j i. let t = h j i (omega arith) in rw e (by-value (t .2) (Raw-part.trimmed j Newline.line-feed (t .1)))) λ n.
     by-eqb (Is (lines0 q) b) b 13 _ _ (λ e a v h j i. rw e (h j i))
-    (λ m. lines-is p q 0 [] b (lines0 q) (λ a v h j i. let t = h j i (omega arith) in rw (t .2) at (Raw-part.multiline j (t .1) (No-newline.other-byte n m))))
+    (λ m. lines-is p q 0 [] b (lines0 q) (λ a v h j i. let t = h j i (omega arith) in by-value (t .2) (Raw-part.multiline j (t .1) (No-newline.other-byte n m))))
 part-is p (linesCR q) b =
-    by-eqb (Is (linesCR q) b) b 10 _ _ (λ e a v h j i. let t = h j i (omega arith) in rw e (rw (t .2) at (Raw-part.trimmed j Newline.return-line-feed (t .1))))
+    by-eqb (Is (linesCR q) b) b 10 _ _ (λ e a v h j i. let t = h j i (omega arith) in rw e (by-value (t .2) (Raw-part.trimmed j Newline.return-line-feed (t .1))))
     (λ n. lines-is p q 0 (letters "\r") b (linesCR q)
-    (λ a v h j i. let t = h j i (omega arith) in rw (t .2) at (Raw-part.multiline j (Lines.byte Up-to-two.no-quote (inner-return j) (t .1)) (No-newline.return-before n))))
+    (λ a v h j i. let t = h j i (omega arith) in by-value (t .2) (Raw-part.multiline j (Lines.byte Up-to-two.no-quote (inner-return j) (t .1)) (No-newline.return-before n))))
 part-is p (lines q n acc) b = lines-is p q n acc b (lines q n acc) (λ a v h. h)
 part-is p (body k) b = body-is p k b (body k) (λ a v h. h)
 part-is p (esc k at) b =
@@ -222,5 +225,5 @@ part-is p (brace k at x) b =
     (λ n. digit-is (brace k at x) b _ _ (λ d a v h. (suc (h .0), b ∷ h .1, h .2, h .3, rw (h .4), Digits.next d (h .5), h .6)) tt)
 part-is p (done k) b = close-is k b (badNow k) refl
 
-pub raw-part : {a u : List ℕ} → PartRest begin a u → Raw-part a u
+pub raw-part : {a u : List ℕ} → PartRest begin a u → Raw-part true a u
 raw-part h = h

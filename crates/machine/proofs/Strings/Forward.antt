@@ -22,10 +22,10 @@ use Rattle.machine.proofs.Strings.Raw.{Plain, Inner}
 use Rattle.machine.proofs.Strings.Quotes.{mark-ascii, mark-high, between, between-other, line-ranges, line-of}
 use Rattle.machine.proofs.Strings.Tests.{hex-of, hex-small, hex-ascii, short-of, ends-all}
 
-abbrev Run : ℕ → St → List ℕ → St → Type 0
+abbrev pub Run : ℕ → St → List ℕ → St → Type 0
 Run = Steps scan
 
-abbrev Ran : ℕ → St → List ℕ → List ℕ → Type 0
+abbrev pub Ran : ℕ → St → List ℕ → List ℕ → Type 0
 Ran = Goes scan PartEnds
 
 -- ---- what may come after a part is no quote
@@ -33,7 +33,7 @@ Ran = Goes scan PartEnds
 no-quote : {b : ℕ} → PartEnds b → (b ≡ ch "\"" → ⊥) × (b ≡ ch "'" → ⊥)
 no-quote = ends-all (λ b. (b ≡ ch "\"" → ⊥) × (b ≡ ch "'" → ⊥)) (omega arith)
 
-no-mark : {b : ℕ} → PartEnds b → (q : Quote) → b ≡ mark q → ⊥
+pub no-mark : {b : ℕ} → PartEnds b → (q : Quote) → b ≡ mark q → ⊥
 no-mark x double = no-quote x .0
 no-mark x single = no-quote x .1
 
@@ -54,17 +54,17 @@ encode-each P n s f g = go (decLe n 0x7F)
     go (yes h) = rw (row-1 n h) (all-more (f h) all-none)
     go (no h) = each-map g (long (encoded n s) (long-encode n (omega arith)))
 
-encode-some : (n : ℕ) → Scalar n → 0 < length (encode n)
+pub encode-some : (n : ℕ) → Scalar n → 0 < length (encode n)
 encode-some n s = sized (encoded n s) .some
 
-record First (P : ℕ → Type 0) (c : List ℕ) : Type 0 where
-  byte : ℕ
-  rest : List ℕ
-  is : c ≡ byte ∷ rest
-  has : P byte
-  all : Each P rest
+pub record First (P : ℕ → Type 0) (c : List ℕ) : Type 0 where
+  pub byte : ℕ
+  pub rest : List ℕ
+  pub is : c ≡ byte ∷ rest
+  pub has : P byte
+  pub all : Each P rest
 
-first-of : {P : ℕ → Type 0} {c : List ℕ} → Each P c → 0 < length c → First P c
+pub first-of : {P : ℕ → Type 0} {c : List ℕ} → Each P c → 0 < length c → First P c
 first-of all-none h = absurd (omega arith)
 first-of (all-more {b = b} {s = s} p x) h = record { byte = b; rest = s; is = refl; has = p; all = x }
 
@@ -79,7 +79,7 @@ unfolding scan S.hexed
 unit-steps (Digits.next {v = v} h Digits.over) p k at s e = eats scan Steps.stay (hex-step h p k at 0 v ∙ ap (λ (c : Ctx). takes (body c)) e)
 unit-steps (Digits.next {v = v} h (Digits.next {n = n} g x)) p k at s e = eats scan (unit-steps (Digits.next g x) (suc p) k at s e) (hex-step h p k at (suc n) v)
 
-uni-steps : {w : ℕ} {a : List ℕ} → Hexadecimal 4 a w → (p : ℕ) (k : Ctx) (at : ℕ) (s : Ctx) → S.unit k at w (k .high) ≡ s → Run p (uni k at) a (body s)
+pub uni-steps : {w : ℕ} {a : List ℕ} → Hexadecimal 4 a w → (p : ℕ) (k : Ctx) (at : ℕ) (s : Ctx) → S.unit k at w (k .high) ≡ s → Run p (uni k at) a (body s)
 unfolding scan S.hexed
 uni-steps (Digits.next {b = b} h x) p k at s e = let u = hex-ascii h in eats scan (unit-steps x (suc p) k at s e) (rw (ne-eqb b 0x7B (omega arith)) (hex-step h p k at 3 0))
 
@@ -117,16 +117,16 @@ braces-scalar {w} s k at = go (s .whole)
     go (inl h) = rw (lt-ltb w 0xD800 h)
     go (inr h) = rw (le-ltb w 0xD800 (omega arith), le-ltb w 0xE000 (omega arith), le-leb w 0x10FFFF (s .top))
 
-brace-step : {b x : ℕ} → Hexdig b x → (p : ℕ) (k : Ctx) (at v : ℕ) → S.onBrace p k at v (hexOf b) ≡ takes (brace k at (16 * v + x))
+pub brace-step : {b x : ℕ} → Hexdig b x → (p : ℕ) (k : Ctx) (at v : ℕ) → S.onBrace p k at v (hexOf b) ≡ takes (brace k at (16 * v + x))
 unfolding S.onBrace
 brace-step {b} {x} h p k at v = rw (hex-of h, lt-ltb x 16 (hex-small h))
 
-brace-steps : {n v w : ℕ} {a : List ℕ} → Digits Hexdig 16 n v a w → (p : ℕ) (k : Ctx) (at : ℕ) → Run p (brace k at v) a (brace k at w)
+pub brace-steps : {n v w : ℕ} {a : List ℕ} → Digits Hexdig 16 n v a w → (p : ℕ) (k : Ctx) (at : ℕ) → Run p (brace k at v) a (brace k at w)
 unfolding scan
 brace-steps Digits.over p k at = Steps.stay
 brace-steps (Digits.next {v = v} {b = b} h x) p k at = let u = hex-ascii h in eats scan (brace-steps x (suc p) k at) (rw (ne-eqb b 0x7D (omega arith)) (brace-step h p k at v))
 
-back-step : (p : ℕ) (k : Ctx) → scan p (body k) (ch "\\") ≡ takes (esc k p)
+pub back-step : (p : ℕ) (k : Ctx) → scan p (body k) (ch "\\") ≡ takes (esc k p)
 unfolding scan S.onBody
 back-step p k = refl
 
@@ -146,7 +146,7 @@ escape-steps (Escape.braced {n = w} (Digits.next {b = b} {a = a} h x) s) p k at 
 
 -- ---- one line
 
-abbrev clear : ℕ → List ℕ → Ctx
+abbrev pub clear : ℕ → List ℕ → Ctx
 clear q acc = mk q fine whole acc
 
 plain-step : {q b : ℕ} → Plain q b → (p : ℕ) (acc : List ℕ) → scan p (body (clear q acc)) b ≡ takes (body (clear q (acc ++ (b ∷ []))))
@@ -157,7 +157,7 @@ plain-steps : {q : ℕ} {c : List ℕ} → Each (Plain q) c → (p : ℕ) (acc :
 plain-steps all-none p acc = rw append-nil Steps.stay
 plain-steps (all-more {b = b} x y) p acc = eats scan (rw append-assoc at (plain-steps y (suc p) (acc ++ (b ∷ [])))) (plain-step x p acc)
 
-plain-each : (q : Quote) (n : ℕ) → Scalar n → Of unescaped n → Each (Plain (mark q)) (encode n)
+pub plain-each : (q : Quote) (n : ℕ) → Scalar n → Of unescaped n → Each (Plain (mark q)) (encode n)
 plain-each q n s o = encode-each (Plain (mark q)) n s (λ h. let x = between q 0x10FFFF n (omega arith) o in omega arith) (λ b h. let i = mark-ascii q in omega arith)
 
 chars-steps : {q : Quote} {a u : List ℕ} → Chars (Among unescaped) (Escape true) q a u → (p : ℕ) (acc : List ℕ) → Run p (body (clear (mark q) acc)) a (body (clear (mark q) (acc ++ u)))
@@ -188,7 +188,7 @@ body-goes : {q : Quote} {a u : List ℕ} → Chars (Among unescaped) (Escape tru
 body-goes {q} {a} {u} x p acc = steps-go scan (chars-steps x p acc) (close-goes q (adv p a) (acc ++ u))
 
 -- after the opening quote, a byte that is no quote does what it does in the body
-one-step : {q b : ℕ} → (b ≡ q → ⊥) → (p : ℕ) → scan p (one q) b ≡ scan p (body (clear q [])) b
+pub one-step : {q b : ℕ} → (b ≡ q → ⊥) → (p : ℕ) → scan p (one q) b ≡ scan p (body (clear q [])) b
 unfolding scan
 one-step {q} {b} h p = rw (ne-eqb b q h)
 
@@ -201,11 +201,11 @@ one-as : {q p : ℕ} {v : List ℕ} (l : List ℕ) → Not-first q l → Ran p (
 one-as [] h x = absurd h
 one-as {p = p} (b ∷ l) h x = same (one-step h p) x
 
-two-goes : (q : Quote) (p : ℕ) → Ran p (two (mark q)) [] []
+pub two-goes : (q : Quote) (p : ℕ) → Ran p (two (mark q)) [] []
 unfolding scan
 two-goes q p = halts scan (λ b e. rw (ne-eqb b (mark q) (no-mark e q)))
 
-no-slash : (q : Quote) → ch "\\" ≡ mark q → ⊥
+pub no-slash : (q : Quote) → ch "\\" ≡ mark q → ⊥
 no-slash double = omega arith
 no-slash single = omega arith
 
@@ -292,7 +292,7 @@ return-step : (q : ℕ) {b : ℕ} → (b ≡ ch "\n" → ⊥) → (p : ℕ) → 
 unfolding scan
 return-step q {b} h p = rw (ne-eqb b 10 h)
 
-no-return : (q : Quote) → (mark q ≡ ch "\n" → ⊥) × (mark q ≡ ch "\r" → ⊥)
+pub no-return : (q : Quote) → (mark q ≡ ch "\n" → ⊥) × (mark q ≡ ch "\r" → ⊥)
 no-return double = omega arith
 no-return single = omega arith
 
@@ -322,7 +322,7 @@ unfolding scan
 lost-newline Newline.line-feed x p = took scan (x (suc p)) refl
 lost-newline Newline.return-line-feed x p = took scan (took scan (x (suc (suc p))) refl) refl
 
-start-step : (q : Quote) (p : ℕ) → scan p start (mark q) ≡ takes (one (mark q))
+pub start-step : (q : Quote) (p : ℕ) → scan p start (mark q) ≡ takes (one (mark q))
 unfolding scan
 start-step double p = refl
 start-step single p = refl

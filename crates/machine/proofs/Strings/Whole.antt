@@ -21,7 +21,7 @@ use Rattle.machine.proofs.Strings.Ascii.{Ascii, ascii-octets, digits-as
 no-high : (q : Quote) {b : ℕ} → High b → mark q ≡ b → ⊥
 no-high q h e = let i = mark-ascii q in omega arith
 
-escape-ascii : {e v : List ℕ} → Escape true e v → Each Ascii e
+escape-ascii : {k : Bool} {e v : List ℕ} → Escape k e v → Each Ascii e
 escape-ascii (Escape.short {b = b} x) = let i = short-of x in all-more {b = b} (omega arith) all-none
 escape-ascii (Escape.unit x s) = all-more {b = ch "u"} (omega arith) (digits-ascii x)
 escape-ascii (Escape.pair x i y j) = all-more {b = ch "u"} (omega arith) (each-join (digits-ascii x) (all-more {b = ch "\\"} (omega arith) (all-more {b = ch "u"} (omega arith) (digits-ascii y))))
@@ -32,26 +32,26 @@ escape-ascii (Escape.braced x s) = all-more {b = ch "u"} (omega arith) (all-more
 unescaped-high : (n : ℕ) → In 0x80 0x10FFFF n → Of unescaped n
 unescaped-high n i = inr (inr (inr (inl (omega arith))))
 
-abbrev One : Quote → List ℕ → List ℕ → Type 0
-One q a u = Chars (Among unescaped) (Escape true) q a u
+abbrev One : Bool → Quote → List ℕ → List ℕ → Type 0
+One k q a u = Chars (Among unescaped) (Escape k) q a u
 
 wider : {q b : ℕ} → Plain q b → Between 0x10FFFF q b
 wider x = record { low = x .low; high = omega arith; no-back = x .no-back; no-end = x .no-end }
 
 -- behind bytes of a character that has begun, the rest t and its value
-record Split (q : Quote) (c t u : List ℕ) : Type 0 where
+record Split (k : Bool) (q : Quote) (c t u : List ℕ) : Type 0 where
   value : List ℕ
   inner : List ℕ
   means : u ≡ c ++ value
   is : t ≡ inner ++ (mark q ∷ [])
-  chars : One q inner value
+  chars : One k q inner value
 
-body-of : {q : Quote} {a u : List ℕ} → Body q a u → (c t : List ℕ) → a ≡ c ++ t → Each High c → Octets t → Split q c t u
+body-of : {k : Bool} {q : Quote} {a u : List ℕ} → Body k q a u → (c t : List ℕ) → a ≡ c ++ t → Each High c → Octets t → Split k q c t u
 body-of Body.closed [] t e all-none o = record { value = []; inner = []; means = refl; is = sym e; chars = Chars.none }
-body-of {q} Body.closed (d ∷ c) t e (all-more h z) o = absurd (no-high q h (same-head e))
-body-of {q} (Body.plain {b = b} {a = a} {u = u} x y) [] t e all-none o = go (λ c t e h o. body-of y c t e h o) (begins-with o b a (sym e))
+body-of {q = q} Body.closed (d ∷ c) t e (all-more h z) o = absurd (no-high q h (same-head e))
+body-of {k} {q} (Body.plain {b = b} {a = a} {u = u} x y) [] t e all-none o = go (λ c t e h o. body-of y c t e h o) (begins-with o b a (sym e))
   where
-    go : ((c t : List ℕ) → a ≡ c ++ t → Each High c → Octets t → Split q c t u) → (Ascii b × Octets a) ⊎ Long b a → Split q [] t (b ∷ u)
+    go : ((c t : List ℕ) → a ≡ c ++ t → Each High c → Octets t → Split k q c t u) → (Ascii b × Octets a) ⊎ Long b a → Split k q [] t (b ∷ u)
     go f (inl i) =
         let s = f [] a refl all-none (i .1) in
         record { value = b ∷ s .value; inner = b ∷ s .inner; means = rw (s .means); is = sym e ∙ ap {B = List ℕ} (λ (l : List ℕ). b ∷ l) (s .is); chars = plain-char q 0x10FFFF (wider x) (ascii-among unescaped b (i .0)) (s .chars) }
@@ -67,7 +67,7 @@ body-of {q} (Body.plain {b = b} {a = a} {u = u} x y) [] t e all-none o = go (λ 
 body-of (Body.plain {b = b} x y) (d ∷ c) t e (all-more h z) o =
     let s = body-of y c t (same-tail e) z o in
     record { value = s .value; inner = s .inner; means = cc (same-head e, s .means); is = s .is; chars = s .chars }
-body-of {q} (Body.escaped {e = w} {v = v} {a = a} x y) [] t e all-none o =
+body-of {q = q} (Body.escaped {e = w} {v = v} {a = a} x y) [] t e all-none o =
     let s = body-of y [] a refl all-none (after (ascii-octets (all-more {b = ch "\\"} (omega arith) (escape-ascii x))) a (rw (sym e) at o)) in
     record {
       value = v ++ s .value;
@@ -160,16 +160,16 @@ no-newline-front q (b ∷ []) (No-newline.return-before h) = No-newline.lone-ret
 no-newline-front q (b ∷ c ∷ u) (No-newline.other-byte h g) = No-newline.other-byte h g
 no-newline-front q (b ∷ c ∷ u) (No-newline.return-before h) = No-newline.return-before h
 
-one-line-of : (q : Quote) {a u : List ℕ} → Split q [] a u → String-part true (mark q ∷ a) u
+one-line-of : {k : Bool} (q : Quote) {a u : List ℕ} → Split k q [] a u → String-part k (mark q ∷ a) u
 one-line-of q s = rw (s .is, s .means) (String-part.one-line (Quoted.quoted q (s .chars)))
 
-multiline-of : (q : Quote) {a u : List ℕ} → Cut q [] a u → No-newline a → String-part true (three q ++ a) u
+multiline-of : {k : Bool} (q : Quote) {a u : List ℕ} → Cut q [] a u → No-newline a → String-part k (three q ++ a) u
 multiline-of q s n = rw (s .is, s .means) (String-part.multiline q (s .chars) (no-newline-front q (s .value) (rw (s .is) at n)))
 
-trimmed-of : (q : Quote) {n a u : List ℕ} → Newline n → Cut q [] a u → String-part true (three q ++ (n ++ a)) u
+trimmed-of : {k : Bool} (q : Quote) {n a u : List ℕ} → Newline n → Cut q [] a u → String-part k (three q ++ (n ++ a)) u
 trimmed-of q x s = rw (s .is, s .means) (String-part.trimmed q x (s .chars))
 
-pub part-of : {a u : List ℕ} → Raw-part a u → Octets a → String-part true a u
+pub part-of : {k : Bool} {a u : List ℕ} → Raw-part k a u → Octets a → String-part k a u
 part-of (Raw-part.one-line {a = a} q x) o = one-line-of q (body-of x [] a refl all-none (after (ascii-octets (all-more (mark-ascii q) all-none)) a o))
 part-of (Raw-part.multiline {a = a} q x n) o = multiline-of q (lines-of x [] a refl all-none (after (ascii-octets (three-ascii q)) a o)) n
 part-of (Raw-part.trimmed {n = n} {a = a} q x y) o =
@@ -183,8 +183,8 @@ Closed a = (x : List ℕ) × (q : Quote) × (a ≡ x ++ (mark q ∷ []))
 before : (b : List ℕ) {a : List ℕ} → Closed a → Closed (b ++ a)
 before b c = (b ++ c .0, c .1, ap {B = List ℕ} (λ (z : List ℕ). b ++ z) (c .2) ∙ sym (append-assoc b (c .0) (mark (c .1) ∷ [])))
 
-body-closed : {q : Quote} {a u : List ℕ} → Body q a u → Closed a
-body-closed {q} Body.closed = ([], q, refl)
+body-closed : {k : Bool} {q : Quote} {a u : List ℕ} → Body k q a u → Closed a
+body-closed {q = q} Body.closed = ([], q, refl)
 body-closed (Body.plain {b = b} x y) = before (b ∷ []) (body-closed y)
 body-closed (Body.escaped {e = e} x y) = before (ch "\\" ∷ e) (body-closed y)
 
@@ -192,14 +192,14 @@ lines-closed : {q : Quote} {a u : List ℕ} → Lines q a u → Closed a
 lines-closed {q} Lines.shut = (mark q ∷ mark q ∷ [], q, refl)
 lines-closed (Lines.byte {s = s} {b = b} m i y) = rw append-assoc at (before (s ++ (b ∷ [])) (lines-closed y))
 
-raw-closed : {a u : List ℕ} → Raw-part a u → Closed a
+raw-closed : {k : Bool} {a u : List ℕ} → Raw-part k a u → Closed a
 raw-closed (Raw-part.one-line q x) = before (mark q ∷ []) (body-closed x)
 raw-closed (Raw-part.multiline q x n) = before (three q) (lines-closed x)
 raw-closed (Raw-part.trimmed {n = n} q x y) = before (three q) (before n (lines-closed y))
 
 -- a part ends in a quote, which is ASCII: it ends where a character ends
-pub part-cut : {a u : List ℕ} → Raw-part a u → (r : List ℕ) → Octets (a ++ r) → Octets a × Octets r
-part-cut {a} x r o =
+pub part-cut : {k : Bool} {a u : List ℕ} → Raw-part k a u → (r : List ℕ) → Octets (a ++ r) → Octets a × Octets r
+part-cut {a = a} x r o =
     let c = raw-closed x in
     let b = mark (c .1) in
     let i = mark-ascii (c .1) in

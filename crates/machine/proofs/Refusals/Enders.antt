@@ -1,0 +1,256 @@
+-- What a number or a time value does at a byte that it does not take is the same for every such byte. Assumes nothing.
+use Prim.Native.Nat.{ℕ, zero, suc, _+_, _*_, _^_}
+use mathlib.Core.Path.{_≡_, refl}
+use mathlib.Core.Bool.{Bool, true, false, cond, _&&_}
+use mathlib.Core.Logic.{_⊎_, inl, inr}
+use mathlib.Core.List.{List, [], _∷_}
+use lib.Dec.{eqb, leb}
+use lib.IntN.{pos}
+use Rattle.meaning.specs.declared.Date as D
+use Rattle.meaning.specs.declared.Time.the-variants.{OffsetDateTime}
+use Rattle.meaning.specs.declared.Refusal.the-variants.{NotGrammar}
+use Rattle.meaning.specs.Clock.{timeOfDay}
+use Rattle.meaning.specs.Letters.{ch}
+use Rattle.meaning.specs.Meaning.{Meaning}
+use Rattle.grammar.specs.Times.{signed}
+use Rattle.machine.specs.Scan.{Out, takes, stops, breaks}
+use Rattle.machine.specs.Numeric
+use Rattle.machine.specs.Numeric.{St, Res, begin, sign, word, nought, int, point, frac, exp, expSign, expDigits, hexMark, hex, both, field, spaced, secPoint, nanos, zulu, Len, d1, d2, d3, d4, When, alone, on, Slot, month, day, hour, minute, second, offsetHour, offsetMinute, scan, settle, scaled, dated, tested, dateDone, clockDone, okDate, okClock, Dg, digit, other, Num, digitN, pointN, eN, xN, colonN, minusN, otherN, Sec, digitS, pointS, zuluS, plusS, minusS, otherS, Fst, noughtF, digitF, plusF, minusF, pointF, nF, iF, otherF}
+use Rattle.machine.proofs.Numeric.Complete.{settleHex}
+
+abbrev stuckAt : ℕ → Res
+stuckAt p = breaks (NotGrammar p)
+
+abbrev numberEnd : ℕ → ℕ → Len → Bool → ℕ → Res
+numberEnd p q k false v = settle q false v 0 0
+numberEnd p q d1 true v = settle q false 0 0 0
+numberEnd p q d2 true v = stuckAt p
+numberEnd p q d3 true v = stuckAt p
+numberEnd p q d4 true v = stuckAt p
+
+abbrev fullEnd : ℕ → ℕ → Slot → ℕ → Res
+fullEnd p q (month y) v = stuckAt p
+fullEnd p q (day y m) v = dateDone q (dated y m v)
+fullEnd p q (hour d) v = stuckAt p
+fullEnd p q (minute w h) v = stuckAt p
+fullEnd p q (second w h m) v = clockDone q w h m v 0
+fullEnd p q (offsetHour d h m s n g) v = stuckAt p
+fullEnd p q (offsetMinute d h m s n g i) v = tested q ((okDate d && okClock h m s) && (leb i 23 && leb v 59)) (OffsetDateTime d (timeOfDay h m s n) (signed g (i * 60 + v)))
+
+abbrev pub ender : ℕ → St → Res
+ender p begin = stuckAt p
+ender p (sign q g) = stuckAt p
+ender p (word [] n) = stops (Meaning.number n)
+ender p (word (c ∷ a) n) = stuckAt p
+ender p (nought q g) = settle q g 0 0 0
+ender p (int q g m) = settle q g m 0 0
+ender p (point q g) = stuckAt p
+ender p (frac q g m f) = settle q g m 0 f
+ender p (exp q g m f) = stuckAt p
+ender p (expSign q g m f s) = stuckAt p
+ender p (expDigits q g m f s e) = scaled q g m f s e
+ender p (hexMark q g) = stuckAt p
+ender p (hex q g v) = settleHex q g v
+ender p (both q k z v) = numberEnd p q k z v
+ender p (field q l zero v) = fullEnd p q l v
+ender p (field q l (suc n) v) = stuckAt p
+ender p (spaced q d) = dateDone q d
+ender p (secPoint q w h m s) = stuckAt p
+ender p (nanos q w h m s k v) = clockDone q w h m s (v * 10 ^ k)
+ender p (zulu q d h m s n) = tested q (okDate d && okClock h m s) (OffsetDateTime d (timeOfDay h m s n) (pos 0))
+
+abbrev pub Takes : Res → Type 0
+Takes (takes s) = Unit {0}
+Takes (stops m) = ⊥
+Takes (breaks r) = ⊥
+
+abbrev pub Or : Res → Res → Type 0
+Or o e = Takes o ⊎ (o ≡ e)
+
+only-or : (p c : ℕ) (s : St) (b : ℕ) → Or (Numeric.only p c s b) (stuckAt p)
+only-or p c s b = go (eqb b c)
+  where
+    go : (t : Bool) → Or (cond t (takes s) (breaks (NotGrammar p))) (stuckAt p)
+    go true = inl tt
+    go false = inr refl
+
+begin-or : (p b : ℕ) (c : Fst) → Or (Numeric.onBegin p b c) (stuckAt p)
+begin-or p b noughtF = inl tt
+begin-or p b digitF = inl tt
+begin-or p b pointF = inl tt
+begin-or p b nF = inl tt
+begin-or p b iF = inl tt
+begin-or p b plusF = inl tt
+begin-or p b minusF = inl tt
+begin-or p b otherF = inr refl
+
+sign-or : (p q : ℕ) (g : Bool) (b : ℕ) (c : Fst) → Or (Numeric.onSign p q g b c) (stuckAt p)
+sign-or p q g b noughtF = inl tt
+sign-or p q g b digitF = inl tt
+sign-or p q g b pointF = inl tt
+sign-or p q g b nF = inl tt
+sign-or p q g b iF = inl tt
+sign-or p q g b plusF = inr refl
+sign-or p q g b minusF = inr refl
+sign-or p q g b otherF = inr refl
+
+nought-or : (q : ℕ) (g : Bool) (c : Num) → Or (Numeric.onNought q g c) (settle q g 0 0 0)
+nought-or q g pointN = inl tt
+nought-or q g eN = inl tt
+nought-or q g xN = inl tt
+nought-or q g digitN = inr refl
+nought-or q g colonN = inr refl
+nought-or q g minusN = inr refl
+nought-or q g otherN = inr refl
+
+int-or : (q : ℕ) (g : Bool) (m b : ℕ) (c : Num) → Or (Numeric.onInt q g m b c) (settle q g m 0 0)
+int-or q g m b digitN = inl tt
+int-or q g m b pointN = inl tt
+int-or q g m b eN = inl tt
+int-or q g m b xN = inr refl
+int-or q g m b colonN = inr refl
+int-or q g m b minusN = inr refl
+int-or q g m b otherN = inr refl
+
+frac-or : (q : ℕ) (g : Bool) (m f b : ℕ) (c : Num) → Or (Numeric.onFrac q g m f b c) (settle q g m 0 f)
+frac-or q g m f b digitN = inl tt
+frac-or q g m f b eN = inl tt
+frac-or q g m f b pointN = inr refl
+frac-or q g m f b xN = inr refl
+frac-or q g m f b colonN = inr refl
+frac-or q g m f b minusN = inr refl
+frac-or q g m f b otherN = inr refl
+
+point-or : (p q : ℕ) (g : Bool) (b : ℕ) (c : Dg) → Or (Numeric.onPoint p q g b c) (stuckAt p)
+point-or p q g b digit = inl tt
+point-or p q g b other = inr refl
+
+exp-or : (p q : ℕ) (g : Bool) (m f b : ℕ) (c : Numeric.ExpB) → Or (Numeric.onExp p q g m f b c) (stuckAt p)
+exp-or p q g m f b Numeric.digitE = inl tt
+exp-or p q g m f b Numeric.plusE = inl tt
+exp-or p q g m f b Numeric.minusE = inl tt
+exp-or p q g m f b Numeric.otherE = inr refl
+
+exp-sign-or : (p q : ℕ) (g : Bool) (m f : ℕ) (s : Bool) (b : ℕ) (c : Dg) → Or (Numeric.onExpSign p q g m f s b c) (stuckAt p)
+exp-sign-or p q g m f s b digit = inl tt
+exp-sign-or p q g m f s b other = inr refl
+
+exp-digits-or : (q : ℕ) (g : Bool) (m f : ℕ) (s : Bool) (e b : ℕ) (c : Dg) → Or (Numeric.onExpDigits q g m f s e b c) (scaled q g m f s e)
+exp-digits-or q g m f s e b digit = inl tt
+exp-digits-or q g m f s e b other = inr refl
+
+mark-or : (p q : ℕ) (g : Bool) (c : Numeric.HexB) → Or (Numeric.onHexMark p q g c) (stuckAt p)
+mark-or p q g (Numeric.value d) = inl tt
+mark-or p q g Numeric.noHex = inr refl
+
+hex-or : (q : ℕ) (g : Bool) (v : ℕ) (c : Numeric.HexB) → Or (Numeric.onHex q g v c) (settleHex q g v)
+hex-or q g v (Numeric.value d) = inl tt
+hex-or q g v Numeric.noHex = inr refl
+
+as-number-or : (p q : ℕ) (k : Len) (z : Bool) (v b : ℕ) (c : Num) → Or (Numeric.asNumber p q k z v b c) (numberEnd p q k z v)
+as-number-or p q k false v b c = int-or q false v b c
+as-number-or p q d1 true v b c = nought-or q false c
+as-number-or p q d2 true v b c = inr refl
+as-number-or p q d3 true v b c = inr refl
+as-number-or p q d4 true v b c = inr refl
+
+digit-or : (p q : ℕ) (k : Len) (z : Bool) (v b : ℕ) → Or (Numeric.onDigit p q k z v b) (numberEnd p q k z v)
+digit-or p q d1 z v b = inl tt
+digit-or p q d2 z v b = inl tt
+digit-or p q d3 z v b = inl tt
+digit-or p q d4 z v b = as-number-or p q d4 z v b digitN
+
+colon-or : (p q : ℕ) (k : Len) (z : Bool) (v b : ℕ) → Or (Numeric.onColon p q k z v b) (numberEnd p q k z v)
+colon-or p q d1 z v b = as-number-or p q d1 z v b colonN
+colon-or p q d2 z v b = inl tt
+colon-or p q d3 z v b = as-number-or p q d3 z v b colonN
+colon-or p q d4 z v b = as-number-or p q d4 z v b colonN
+
+minus-or : (p q : ℕ) (k : Len) (z : Bool) (v b : ℕ) → Or (Numeric.onMinus p q k z v b) (numberEnd p q k z v)
+minus-or p q d1 z v b = as-number-or p q d1 z v b minusN
+minus-or p q d2 z v b = as-number-or p q d2 z v b minusN
+minus-or p q d3 z v b = as-number-or p q d3 z v b minusN
+minus-or p q d4 z v b = inl tt
+
+both-or : (p q : ℕ) (k : Len) (z : Bool) (v b : ℕ) (c : Num) → Or (Numeric.onBoth p q k z v b c) (numberEnd p q k z v)
+both-or p q k z v b digitN = digit-or p q k z v b
+both-or p q k z v b colonN = colon-or p q k z v b
+both-or p q k z v b minusN = minus-or p q k z v b
+both-or p q k z v b pointN = as-number-or p q k z v b pointN
+both-or p q k z v b eN = as-number-or p q k z v b eN
+both-or p q k z v b xN = as-number-or p q k z v b xN
+both-or p q k z v b otherN = as-number-or p q k z v b otherN
+
+day-or : (q : ℕ) (d : D.Date) (c : Numeric.Day) → Or (Numeric.onDay q d c) (dateDone q d)
+day-or q d Numeric.letterD = inl tt
+day-or q d Numeric.spaceD = inl tt
+day-or q d Numeric.otherD = inr refl
+
+zone-or : (q : ℕ) (w : When) (h m s n : ℕ) (c : Sec) → Or (Numeric.onZone q w h m s n c) (clockDone q w h m s n)
+zone-or q alone h m s n c = inr refl
+zone-or q (on d) h m s n zuluS = inl tt
+zone-or q (on d) h m s n plusS = inl tt
+zone-or q (on d) h m s n minusS = inl tt
+zone-or q (on d) h m s n digitS = inr refl
+zone-or q (on d) h m s n pointS = inr refl
+zone-or q (on d) h m s n otherS = inr refl
+
+sec-or : (q : ℕ) (w : When) (h m s : ℕ) (c : Sec) → Or (Numeric.onSec q w h m s c) (clockDone q w h m s 0)
+sec-or q w h m s pointS = inl tt
+sec-or q w h m s digitS = zone-or q w h m s 0 digitS
+sec-or q w h m s zuluS = zone-or q w h m s 0 zuluS
+sec-or q w h m s plusS = zone-or q w h m s 0 plusS
+sec-or q w h m s minusS = zone-or q w h m s 0 minusS
+sec-or q w h m s otherS = zone-or q w h m s 0 otherS
+
+nanos-or : (q : ℕ) (w : When) (h m s k v b : ℕ) (c : Sec) → Or (Numeric.onNanos q w h m s k v b c) (clockDone q w h m s (v * 10 ^ k))
+nanos-or q w h m s zero v b digitS = inl tt
+nanos-or q w h m s (suc k) v b digitS = inl tt
+nanos-or q w h m s k v b pointS = zone-or q w h m s (v * 10 ^ k) pointS
+nanos-or q w h m s k v b zuluS = zone-or q w h m s (v * 10 ^ k) zuluS
+nanos-or q w h m s k v b plusS = zone-or q w h m s (v * 10 ^ k) plusS
+nanos-or q w h m s k v b minusS = zone-or q w h m s (v * 10 ^ k) minusS
+nanos-or q w h m s k v b otherS = zone-or q w h m s (v * 10 ^ k) otherS
+
+full-or : (p q : ℕ) (l : Slot) (v b : ℕ) → Or (Numeric.onFull p q l v b) (fullEnd p q l v)
+full-or p q (month y) v b = only-or p (ch "-") (field q (day y v) 2 0) b
+full-or p q (day y m) v b = day-or q (dated y m v) (Numeric.dayOf b)
+full-or p q (hour d) v b = only-or p (ch ":") (field q (minute (on d) v) 2 0) b
+full-or p q (minute w h) v b = only-or p (ch ":") (field q (second w h v) 2 0) b
+full-or p q (second w h m) v b = sec-or q w h m v (Numeric.secOf b)
+full-or p q (offsetHour d h m s n g) v b = only-or p (ch ":") (field q (offsetMinute d h m s n g v) 2 0) b
+full-or p q (offsetMinute d h m s n g i) v b = inr refl
+
+field-or : (p q : ℕ) (l : Slot) (n v b : ℕ) (c : Dg) → Or (Numeric.onField p q l n v b c) (stuckAt p)
+field-or p q l n v b digit = inl tt
+field-or p q l n v b other = inr refl
+
+spaced-or : (q : ℕ) (d : D.Date) (b : ℕ) (c : Dg) → Or (Numeric.onSpaced q d b c) (dateDone q d)
+spaced-or q d b digit = inl tt
+spaced-or q d b other = inr refl
+
+sec-point-or : (p q : ℕ) (w : When) (h m s b : ℕ) (c : Dg) → Or (Numeric.onSecPoint p q w h m s b c) (stuckAt p)
+sec-point-or p q w h m s b digit = inl tt
+sec-point-or p q w h m s b other = inr refl
+
+pub taken-or-ender : (p : ℕ) (s : St) (b : ℕ) → Or (scan p s b) (ender p s)
+taken-or-ender p begin b = begin-or p b (Numeric.fstOf b)
+taken-or-ender p (sign q g) b = sign-or p q g b (Numeric.fstOf b)
+taken-or-ender p (word [] n) b = inr refl
+taken-or-ender p (word (c ∷ a) n) b = only-or p c (word a n) b
+taken-or-ender p (nought q g) b = nought-or q g (Numeric.numOf b)
+taken-or-ender p (int q g m) b = int-or q g m b (Numeric.numOf b)
+taken-or-ender p (point q g) b = point-or p q g b (Numeric.dgOf b)
+taken-or-ender p (frac q g m f) b = frac-or q g m f b (Numeric.numOf b)
+taken-or-ender p (exp q g m f) b = exp-or p q g m f b (Numeric.expOf b)
+taken-or-ender p (expSign q g m f s) b = exp-sign-or p q g m f s b (Numeric.dgOf b)
+taken-or-ender p (expDigits q g m f s e) b = exp-digits-or q g m f s e b (Numeric.dgOf b)
+taken-or-ender p (hexMark q g) b = mark-or p q g (Numeric.hexOf b)
+taken-or-ender p (hex q g v) b = hex-or q g v (Numeric.hexOf b)
+taken-or-ender p (both q k z v) b = both-or p q k z v b (Numeric.numOf b)
+taken-or-ender p (field q l zero v) b = full-or p q l v b
+taken-or-ender p (field q l (suc n) v) b = field-or p q l n v b (Numeric.dgOf b)
+taken-or-ender p (spaced q d) b = spaced-or q d b (Numeric.dgOf b)
+taken-or-ender p (secPoint q w h m s) b = sec-point-or p q w h m s b (Numeric.dgOf b)
+taken-or-ender p (nanos q w h m s k v) b = nanos-or q w h m s k v b (Numeric.secOf b)
+taken-or-ender p (zulu q d h m s n) b = inr refl
