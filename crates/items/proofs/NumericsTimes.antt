@@ -10,6 +10,7 @@ use lib.ListN.{length, getD}
 use lib.IntN.{ℤ, pos}
 use borrow.Author.Tests.{eq-eqb, ne-eqb, le-leb, lt-leb}
 use Rattle.rules.specs.Rfc3339.{Dated}
+use Rattle.rules.proofs.Outcomes.{date-done, date-none}
 use Rattle.rules.specs.declared.DateAnswer.{DateAnswer}
 use Rattle.rules.specs.declared.DateAnswer.the-variants.{Done, NoDate}
 use Rattle.rules.proofs.Months.{isDate, date-is, is-date}
@@ -101,15 +102,13 @@ module _ (s : List ℕ) (i mark : ℕ) (f : Field) where
 -- ---- the check
 
 pub date-yes : {y m d : ℕ} {r : DateAnswer} → Dated y m d r → r ≡ Done → true ≡ isDate y m d
-date-yes (Dated.done k) e = sym (date-is k)
-date-yes (Dated.none k) e = let z : _≡_ {A = ℕ} 0 1 = cc in absurd (omega arith)
+date-yes {y} {m} {d} x e = sym (date-is (date-done (subst (Dated y m d) e x)))
 
 pub date-no : {y m d : ℕ} {r : DateAnswer} → Dated y m d r → r ≡ NoDate → false ≡ isDate y m d
-date-no (Dated.done k) e = let z : _≡_ {A = ℕ} 0 1 = cc in absurd (omega arith)
-date-no {y} {m} {d} (Dated.none k) e = go (isDate y m d) refl
+date-no {y} {m} {d} x e = go (isDate y m d) refl
   where
-    go : (x : Bool) → isDate y m d ≡ x → false ≡ isDate y m d
-    go true f = absurd (k (is-date f))
+    go : (b : Bool) → isDate y m d ≡ b → false ≡ isDate y m d
+    go true f = absurd (date-none (subst (Dated y m d) e x) (is-date f))
     go false f = sym f
 
 module _ (h m s : ℕ) where

@@ -47,7 +47,6 @@ place-3 p = refl
 
 -- so its place is no later than the byte
 fault-within : (p : ℕ) (r : Refusal) → Blame p r → placeOf r ≤ p
-unfolding placeOf
 fault-within p TextTooLong h = absurd h
 fault-within p (NotUtf8 q) h = absurd h
 fault-within p (NotGrammar q) h = omega arith
@@ -514,13 +513,13 @@ read-kept (b ∷ t) p c h =
     rw e (read-kept t (suc p) (step p c b) (step-kept p c b h))
 
 fault-place : (t : List ℕ) (a : Utf8Answer) → Judged t a → VerdictKept (length t) (decoded a t)
-unfolding decoded reading placeOf
+unfolding decoded reading
 fault-place t Done j = let e : 0 + length t ≡ length t = omega arith in rw e at (read-kept t 0 (at (base want) depthLimit []) tt)
 fault-place t (IllFormed k) (ill f) = omega (arith, simp length-append at (ap length (f .split)), f .place)
 
 -- every refusal's place is at most the text's length
 pub place-within : (t : List ℕ) → VerdictKept (length t) (verdict t)
-unfolding verdict placeOf
+unfolding verdict
 place-within t = go (leb (length t) textLimit) refl
   where
     go : (x : Bool) → leb (length t) textLimit ≡ x → VerdictKept (length t) (cond x (decoded (judged t) t) (No TextTooLong))

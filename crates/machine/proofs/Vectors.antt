@@ -264,5 +264,5 @@ vectors =
     ∷ []
 
 pub vectors-hold : gots vectors ≡ wants vectors
-unfolding text vectors gots wants verdict decoded judged faultFrom lengthAt isWide lowOf highOf leadingZeros encode isLeap isDate depthLimit numberOf placeOf decimalIn decimal fixed trimmed escaped escapes quoted hexPairs binaryText powerText numberText dateText fractionText clockText offsetText timeText canonical elementsText membersText strip settle read reading S.hexOf S.shortOf S.alone S.unit S.inBraces S.hexed S.onHex S.onBrace S.onShort S.plainByte S.onBody S.lineByte S.onLines S.scan B.onDigit B.onShort B.onText B.scan N.classOf N.onStart N.onName N.scan N.wordScan
+unfolding text vectors gots wants verdict decoded judged faultFrom lengthAt isWide lowOf highOf leadingZeros encode isLeap isDate depthLimit decimalIn decimal fixed trimmed escaped escapes quoted hexPairs binaryText powerText numberText dateText fractionText clockText offsetText timeText canonical elementsText membersText strip settle read reading S.hexOf S.shortOf S.alone S.unit S.inBraces S.hexed S.onHex S.onBrace S.onShort S.plainByte S.onBody S.lineByte S.onLines S.scan B.onDigit B.onShort B.onText B.scan N.classOf N.onStart N.onName N.scan N.wordScan
 vectors-hold = refl

@@ -1,11 +1,12 @@
 -- A refusal is its number and its place. Assumes nothing.
-use mathlib.Core.Path.{_≡_, refl, sym, ap₂, _∙_}
+use mathlib.Core.Path.{_≡_, refl, sym, ap, ap₂, _∙_}
 use mathlib.Core.Bool.{cond}
 use Prim.Native.Nat.{ℕ}
 use lib.Dec.{eqb}
 use Rattle.meaning.specs.declared.Refusal.{Refusal}
 use Rattle.meaning.specs.declared.Refusal.the-variants.{TextTooLong, NotUtf8, NotGrammar, BadEscape, BadTime, BadNumber, TooDeep, TapeTooShort, StoreTooShort, NotWellFormed, NoJsonForm, OutputTooShort, WrittenTooLong, NoSuchRecord}
-use Rattle.meaning.specs.Paper.{numberOf, placeOf}
+use Rattle.rules.specs.Paper.{Said, numberSaid, placeSaid}
+use Rattle.meaning.specs.Paper.{numberOf, placeOf, refusalSaid}
 
 refusal : ℕ → ℕ → Refusal
 refusal n p =
@@ -25,7 +26,7 @@ refusal n p =
     TextTooLong))))))))))))
 
 told : (r : Refusal) → refusal (numberOf r) (placeOf r) ≡ r
-unfolding refusal numberOf placeOf
+unfolding refusal
 told TextTooLong = refl
 told (NotUtf8 p) = refl
 told (NotGrammar p) = refl
@@ -41,5 +42,5 @@ told (OutputTooShort p) = refl
 told (WrittenTooLong p) = refl
 told (NoSuchRecord p) = refl
 
-pub one-refusal : (r s : Refusal) → numberOf r ≡ numberOf s → placeOf r ≡ placeOf s → r ≡ s
-one-refusal r s e f = sym (told r) ∙ ap₂ refusal e f ∙ told s
+pub same-refusal : {X : Type 0} (r s : Refusal) → _≡_ {A = Said X} (refusalSaid r) (refusalSaid s) → r ≡ s
+same-refusal r s e = sym (told r) ∙ ap₂ refusal (ap numberSaid e) (ap placeSaid e) ∙ told s

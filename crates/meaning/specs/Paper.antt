@@ -1,10 +1,14 @@
 -- Document 01's table of refusals: the number and the place of each. Assumes nothing.
 use Prim.Native.Nat.{ℕ}
 use Rattle.meaning.specs.declared.Refusal.{Refusal}
-use Rattle.meaning.specs.declared.Refusal.the-variants.{TextTooLong, NotUtf8, NotGrammar, BadEscape, BadTime, BadNumber, TooDeep, TapeTooShort, StoreTooShort, NotWellFormed, NoJsonForm, OutputTooShort, WrittenTooLong, NoSuchRecord}
+use Rattle.meaning.specs.declared.Refusal.the-variants.{TextTooLong, NotUtf8, NotGrammar, BadEscape, BadTime}
+use Rattle.meaning.specs.declared.Refusal.the-variants.{BadNumber, TooDeep, TapeTooShort, StoreTooShort}
+use Rattle.meaning.specs.declared.Refusal.the-variants.{NotWellFormed, NoJsonForm, OutputTooShort}
+use Rattle.meaning.specs.declared.Refusal.the-variants.{WrittenTooLong, NoSuchRecord}
+use Rattle.rules.specs.Paper.{Said, refused}
 use Rattle.meaning.specs.Limits.{textLimit}
 
-unfoldable pub numberOf : Refusal → ℕ
+abbrev pub numberOf : Refusal → ℕ
 numberOf TextTooLong = 1
 numberOf (NotUtf8 place) = 2
 numberOf (NotGrammar place) = 3
@@ -20,7 +24,7 @@ numberOf (OutputTooShort needed) = 12
 numberOf (WrittenTooLong size) = 13
 numberOf (NoSuchRecord index) = 14
 
-unfoldable pub placeOf : Refusal → ℕ
+abbrev pub placeOf : Refusal → ℕ
 -- 16777216
 placeOf TextTooLong = textLimit
 -- first byte of the first ill-formed sequence
@@ -49,3 +53,7 @@ placeOf (OutputTooShort needed) = needed
 placeOf (WrittenTooLong size) = size
 -- the index
 placeOf (NoSuchRecord index) = index
+
+-- a refusal, in the table's terms
+abbrev pub refusalSaid : {X : Type 0} → Refusal → Said X
+refusalSaid why = refused (numberOf why) (placeOf why)

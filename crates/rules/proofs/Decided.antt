@@ -15,7 +15,7 @@ use Rattle.rules.specs.Decided.{ones, conj, bounds, isWide, lengthAt, fa
 use Rattle.rules.specs.declared.Utf8Answer.{Utf8Answer}
 use Rattle.rules.specs.declared.Utf8Answer.the-variants.{Done, IllFormed}
 use Rattle.rules.proofs.Places.{step1, down⁻, Wide, no-char, ascii-char, back2, back3, back4}
-use Rattle.rules.proofs.Outcomes.{one-outcome-utf8}
+use Rattle.rules.proofs.Outcomes.{one-outcome-utf8, utf8-done}
 use Rattle.rules.proofs.Runs.{Passed, passed-none, passed-char, char-room, fault-at, all-passed}
 
 -- ---- it is right
@@ -142,10 +142,7 @@ unfolding judged
 judged-is s = fault-is (length s) s 0 (passed-none s) (omega arith)
 
 pub judged-done : {s : List ℕ} → judged s ≡ Done → Octets s
-judged-done {s} e = octets-of (subst (Judged s) e (judged-is s))
-  where
-    octets-of : Judged s Done → Octets s
-    octets-of (done o) = o
+judged-done {s} e = utf8-done (subst (Judged s) e (judged-is s))
 
 pub done-judged : {s : List ℕ} → Octets s → judged s ≡ Done
-done-judged {s} o = one-outcome-utf8 (judged-is s) (done o)
+done-judged {s} o = one-outcome-utf8 (judged-is s) (done o refl)

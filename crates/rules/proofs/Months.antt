@@ -126,11 +126,11 @@ same-days {y} p q = days-are (leap-is y) p ∙ sym (days-are (leap-is y) q)
 
 -- what the days of a month decide of a day
 pub too-late : (y m d n : ℕ) → Lasts y m n → n < d → Dated y m d NoDate
-too-late y m d n (month x) h = Rfc3339.none (λ t. omega (arith, same-days x (t .month)))
-too-late y m d n (no-month f) h = Rfc3339.none (λ t. f (t .days) (t .month))
+too-late y m d n (month x) h = Rfc3339.none (λ t. omega (arith, same-days x (t .month))) refl
+too-late y m d n (no-month f) h = Rfc3339.none (λ t. f (t .days) (t .month)) refl
 
 pub a-date : (y m d n : ℕ) → y ≤ 9999 → 1 ≤ d → Lasts y m n → d ≤ n → Dated y m d Done
-a-date y m d n a b (month x) h = done (record { year = a; days = n; month = x; from = b; to = h })
+a-date y m d n a b (month x) h = done (record { year = a; days = n; month = x; from = b; to = h }) refl
 a-date y m d n a b (no-month f) h = absurd (omega arith)
 
 -- ---- whether three numbers are a date, as a test that computes

@@ -109,7 +109,7 @@ fault s i p h g =
 
 pub fault-at : (s : List ℕ) (i n : ℕ) → Passed s i → i < length s → CharAt s i n → n ≡ 0 → Judged s (IllFormed i)
 fault-at s i n p h (char q f x) e = absurd (omega arith)
-fault-at s i n p h (gap g) e = ill (fault s i p h g)
+fault-at s i n p h (gap g) e = ill (fault s i p h g) refl
 
 pub all-passed : (s : List ℕ) (i : ℕ) → Passed s i → length s ≤ i → Judged s Done
-all-passed s i p h = done (subst Octets (ap (λ (k : ℕ). take k s) (le-antisymm (p .within) h) ∙ take-length s) (p .good))
+all-passed s i p h = done (subst Octets (ap (λ (k : ℕ). take k s) (le-antisymm (p .within) h) ∙ take-length s) (p .good)) refl

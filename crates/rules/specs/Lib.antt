@@ -3,8 +3,10 @@
 pub mod Rfc3629
 -- Rfc3339: leap years, the days of a month, which three numbers are a date.
 pub mod Rfc3339
--- Paper: document 01's number and place for each answer, and what the calls for C hand back.
+-- Paper: document 01's number and place for each answer.
 pub mod Paper
+-- Told: what the calls for C hand over.
+pub mod Told
 -- Posts: what the functions below the two public calls promise.
 pub mod Posts
 -- Decided: the first fault, as a function that computes.

@@ -3,7 +3,8 @@
 use mathlib.Core.Path.{_≡_}
 use Prim.Native.Nat.{ℕ, _%_, _≤_}
 use Rattle.rules.specs.declared.DateAnswer.{DateAnswer}
-use Rattle.rules.specs.declared.DateAnswer.the-variants.{Done, NoDate}
+use Rattle.rules.specs.Paper as paper
+use Rattle.rules.specs.Paper.{dateSaid, refused}
 
 -- appendix C: year % 4 == 0 && (year % 100 != 0 || year % 400 == 0)
 pub data Leap (y : ℕ) : Type 0 where
@@ -35,9 +36,9 @@ pub record Date (y m d : ℕ) : Type 0 where
   pub to : d ≤ days
 
 -- what `date` may answer
-pub data Dated (y m d : ℕ) : DateAnswer → Type 0 where
-  done : Date y m d → Dated y m d Done
-  none : (Date y m d → ⊥) → Dated y m d NoDate
+pub data Dated (y m d : ℕ) (a : DateAnswer) : Type 0 where
+  done : Date y m d → dateSaid a ≡ paper.done tt → Dated y m d a
+  none : (Date y m d → ⊥) → dateSaid a ≡ refused 5 0 → Dated y m d a
 
 -- what `days` may answer: the days of the month, or 0 where the number is no month
 pub data Lasts (y m : ℕ) : ℕ → Type 0 where

@@ -8,7 +8,8 @@ use Prim.Native.Nat.{ℕ, _+_, _*_, _/_, _%_, _≤_, _<_}
 use lib.Dec.{leb}
 use lib.ListN.{length}
 use Rattle.rules.specs.declared.Utf8Answer.{Utf8Answer}
-use Rattle.rules.specs.declared.Utf8Answer.the-variants.{Done, IllFormed}
+use Rattle.rules.specs.Paper as paper
+use Rattle.rules.specs.Paper.{utf8Said, refused}
 
 -- the byte b lies in %x lo-hi
 pub record In (lo hi b : ℕ) : Type 0 where
@@ -51,9 +52,9 @@ pub record Fault (s : List ℕ) (k : ℕ) : Type 0 where
   pub bad : NoChar rest
 
 -- what `utf8` may answer
-pub data Judged (s : List ℕ) : Utf8Answer → Type 0 where
-  done : Octets s → Judged s Done
-  ill : {k : ℕ} → Fault s k → Judged s (IllFormed k)
+pub data Judged (s : List ℕ) (a : Utf8Answer) : Type 0 where
+  done : Octets s → utf8Said a ≡ paper.done tt → Judged s a
+  ill : {k : ℕ} → Fault s k → utf8Said a ≡ refused 2 k → Judged s a
 
 -- a character number: at most 10FFFF, and no surrogate (section 3)
 pub record Scalar (n : ℕ) : Type 0 where

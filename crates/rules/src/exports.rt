@@ -1,7 +1,7 @@
 // The two calls for C and Rust (include/lanternrung_rules.h).
 use crate::DateAnswer;
 use crate::Utf8Answer;
-ghost use Rattle.rules.specs.Paper.{Utf8Told, DateTold};
+ghost use Rattle.rules.specs.Told.{Utf8Told, DateTold};
 
 // A refusal's number in document 01, 0 where there is none, and its place.
 #[repr(C)]

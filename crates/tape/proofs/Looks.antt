@@ -1,5 +1,5 @@
 -- The record at an index, by its four numbers. Assumes nothing.
-use mathlib.Core.Path.{_≡_, sym, ap, _∙_, subst}
+use mathlib.Core.Path.{_≡_, refl, sym, ap, _∙_, subst}
 use mathlib.Core.Bool.{Bool, true, false}
 use mathlib.Core.List.{List, _++_}
 use Prim.Native.Nat.{ℕ, _+_, _*_, _<_}
@@ -11,6 +11,8 @@ use Rattle.meaning.specs.declared.Refusal.{Refusal}
 use Rattle.meaning.specs.Tape.{recordBytes}
 use Rattle.meaning.specs.Words.{Fit}
 use Rattle.meaning.specs.Look.{OwnFields, wholeRecords, RecordAt}
+use Rattle.rules.proofs.Outcomes.{done-apart}
+use Rattle.meaning.proofs.Paper.{same-refusal}
 use Rattle.meaning.proofs.Bytes.{get-lt}
 use Rattle.meaning.proofs.Records.{record-length, Stands, stands, stands-drop}
 use Rattle.tape.specs.declared.Words.{Words}
@@ -18,6 +20,7 @@ use Rattle.tape.specs.declared.Shape.{Shape}
 use Rattle.tape.specs.declared.Looked.{Looked}
 use Rattle.tape.specs.Shapes.{Worded, Loaded, onlyRecord, Shaped, shaped, junk, wordsAt}
 use Rattle.tape.specs.Fields.{Decides}
+use Rattle.tape.specs.Paper.{lookSaid}
 use Rattle.tape.specs.Looking.{Looks, found, past-end, not-one}
 use Rattle.tape.proofs.Deciding.{held, failed}
 use Rattle.tape.proofs.Wording.{only}
@@ -76,11 +79,11 @@ module _ (tape store : List ℕ) (index : ℕ) where
 
     module _ {s : Shape} (d : Shaped (wordsAt tape (index * 16)) s) where
       pub look-junk : s ≡ Shape.Junk → Looks tape store index (Looked.Refused (Refusal.NotWellFormed index))
-      look-junk e = not-one within (λ r a. shape-junk d e r (a .fits) (record-numbers r a))
+      look-junk e = not-one within (λ r a. shape-junk d e r (a .fits) (record-numbers r a)) refl
 
       module _ (r : Record) (e : s ≡ Shape.Record r) {b : Bool} (own : Decides (OwnFields r index (wholeRecords tape) store) b) where
         pub look-found : b ≡ true → Looks tape store index (Looked.Record r)
-        look-found t = let q = shape-record d e in found (record-there r (q .0) (q .1) (held own t))
+        look-found t = let q = shape-record d e in found (record-there r (q .0) (q .1) (held own t)) refl
 
         pub look-fault : b ≡ false → Looks tape store index (Looked.Refused (Refusal.NotWellFormed index))
         look-fault t =
@@ -90,16 +93,24 @@ module _ (tape store : List ℕ) (index : ℕ) where
             (λ x a.
             let z : x ≡ r = sym (record-only x a) ∙ only w r (q .0) (q .1) in
             failed own t (subst (λ (y : Record). OwnFields y index (wholeRecords tape) store) z (a .own)))
+            refl
 
 -- ---- what `look` answered
 
+-- what is said tells the answer
+pub same-looked : (a b : Looked) → lookSaid a ≡ lookSaid b → a ≡ b
+same-looked (Looked.Record r) (Looked.Record s) e = cc
+same-looked (Looked.Record r) (Looked.Refused w) e = absurd (done-apart e)
+same-looked (Looked.Refused v) (Looked.Record s) e = absurd (done-apart (sym e))
+same-looked (Looked.Refused v) (Looked.Refused w) e = ap Looked.Refused (same-refusal v w e)
+
 pub looked-record : {tape store : List ℕ} {index : ℕ} {a : Looked} {r : Record} → Looks tape store index a → a ≡ Looked.Record r → RecordAt tape store index r
-looked-record {tape} {store} {index} {r = r} (found {r = x} g) e = let z : x ≡ r = cc in subst (RecordAt tape store index) z g
-looked-record (past-end h) e = let z : _≡_ {A = ℕ} 0 1 = cc in absurd (omega arith)
-looked-record (not-one h n) e = let z : _≡_ {A = ℕ} 0 1 = cc in absurd (omega arith)
+looked-record {tape} {store} {index} {r = r} (found {r = x} g s) e = let z : x ≡ r = cc in subst (RecordAt tape store index) z g
+looked-record (past-end h s) e = absurd (done-apart (sym (ap lookSaid e) ∙ s))
+looked-record (not-one h n s) e = absurd (done-apart (sym (ap lookSaid e) ∙ s))
 
 pub refused : {tape store : List ℕ} {index : ℕ} {a : Looked} {why : Refusal} → Looks tape store index a → a ≡ Looked.Refused why
     → (r : Record) → RecordAt tape store index r → ⊥
-refused (found g) e r s = let z : _≡_ {A = ℕ} 0 1 = cc in omega arith
-refused (past-end h) e r s = omega (arith, s .within)
-refused (not-one h n) e r s = n r s
+refused (found g s) e r t = done-apart (sym s ∙ ap lookSaid e)
+refused (past-end h s) e r t = omega (arith, t .within)
+refused (not-one h n s) e r t = n r t

@@ -5,8 +5,8 @@ use Prim.Native.Nat.{ℕ, _+_, _*_, _/_, _≤_, _<_}
 use native.Mathlib.Omega.{arith}
 use lib.ListN.{length, getD, take, drop}
 use lib.Seq.{sets-eq, take-at, drop-at, length-take-le}
+use Rattle.rules.specs.Paper.{done}
 use Rattle.meaning.specs.declared.Record.{Record}
-use Rattle.meaning.specs.Paper.{numberOf, placeOf}
 use Rattle.meaning.specs.Tape.{records, recordsOf, recordBytes, WellFormed}
 use Rattle.meaning.specs.Words.{Fit}
 use Rattle.meaning.specs.Look.{OwnFields, wholeRecords, RecordAt}
@@ -17,7 +17,8 @@ use Rattle.tape.specs.declared.Judged.{Judged}
 use Rattle.tape.specs.Putting.{putRecord, putBytes}
 use Rattle.tape.specs.Looking.{Looks, found, past-end, not-one}
 use Rattle.tape.specs.Judging.{Judges, well, ill}
-use Rattle.tape.specs.Paper.{lookedNumber, lookedPlace, judgedNumber, judgedPlace}
+use Rattle.tape.specs.Paper.{lookSaid}
+use Rattle.tape.proofs.Looks.{same-looked}
 use Rattle.tape.proofs.Puts.{record-room, put-record-length}
 
 -- ---- one outcome
@@ -29,15 +30,18 @@ pub one-outcome-put-bytes : (store : List ℕ) (at : ℕ) (bytes : List ℕ) {a 
 one-outcome-put-bytes store at bytes p q = p ∙ sym q
 
 pub one-outcome-look : {tape store : List ℕ} {index : ℕ} {a b : Looked} → Looks tape store index a → Looks tape store index b → a ≡ b
-one-outcome-look {tape} {store} {index} (found {r = r} p) (found {r = s} q) = ap Looked.Record (one-record tape store index r s p q)
-one-outcome-look (found p) (past-end h) = absurd (omega (arith, p .within))
-one-outcome-look (found {r = r} p) (not-one h n) = absurd (n r p)
-one-outcome-look (past-end h) (found q) = absurd (omega (arith, q .within))
-one-outcome-look (past-end h) (past-end g) = refl
-one-outcome-look (past-end h) (not-one g n) = absurd (omega arith)
-one-outcome-look (not-one h n) (found {r = s} q) = absurd (n s q)
-one-outcome-look (not-one h n) (past-end g) = absurd (omega arith)
-one-outcome-look (not-one h n) (not-one g m) = refl
+one-outcome-look {tape} {store} {index} {a} {b} p q = same-looked a b (said p q)
+  where
+    said : Looks tape store index a → Looks tape store index b → lookSaid a ≡ lookSaid b
+    said (found {r = r} p e) (found {r = s} q g) = e ∙ ap done (one-record tape store index r s p q) ∙ sym g
+    said (found p e) (past-end h g) = absurd (omega (arith, p .within))
+    said (found {r = r} p e) (not-one h n g) = absurd (n r p)
+    said (past-end h e) (found q g) = absurd (omega (arith, q .within))
+    said (past-end h e) (past-end k g) = e ∙ sym g
+    said (past-end h e) (not-one k n g) = absurd (omega arith)
+    said (not-one h n e) (found {r = s} q g) = absurd (n s q)
+    said (not-one h n e) (past-end k g) = absurd (omega arith)
+    said (not-one h n e) (not-one k m g) = e ∙ sym g
 
 pub one-outcome-judge : {tape store : List ℕ} {a b : Judged} → Judges tape store a → Judges tape store b → a ≡ b
 one-outcome-judge (well p) (well q) = refl
@@ -61,13 +65,13 @@ pub put-look : (tape store : List ℕ) (index : ℕ) (r : Record) → index < wh
     → Looks (putRecord tape index r) store index (Looked.Record r)
 put-look tape store index r h f o =
     let e : wholeRecords (putRecord tape index r) ≡ wholeRecords tape = ap (λ (n : ℕ). n / 16) (put-record-length tape index r) in
-    found (record { within = omega arith; lies = put-lies tape index r h; fits = f; own = rw e o })
+    found (record { within = omega arith; lies = put-lies tape index r h; fits = f; own = rw e o }) refl
 
 -- ---- look at a well-formed tape: the records of its meaning
 
 pub look-well-formed : {tape store : List ℕ} {k : ℕ} {a : Looked} (w : WellFormed tape store) → k < records (w .meaning) → Looks tape store k a
     → a ≡ Looked.Record (getD (recordsOf (w .meaning) 0 0) k Record.Null)
-look-well-formed {tape} {store} {k} w h l = one-outcome-look l (found (well-formed-record tape store w k h))
+look-well-formed {tape} {store} {k} w h l = one-outcome-look l (found (well-formed-record tape store w k h) refl)
 
 -- ---- what a caller of `judge` knows in each case
 
@@ -78,27 +82,3 @@ judged-well (ill n) e = let z : _≡_ {A = ℕ} 0 1 = cc in absurd (omega arith)
 pub judged-ill : {tape store : List ℕ} {a : Judged} → Judges tape store a → a ≡ Judged.Ill → WellFormed tape store → ⊥
 judged-ill (well w) e = let z : _≡_ {A = ℕ} 0 1 = cc in absurd (omega arith)
 judged-ill (ill n) e = n
-
--- ---- the paper's numbers and places
-
--- look: 14 at the index for an index past the whole records
-pub look-past : {tape store : List ℕ} {index : ℕ} {a : Looked} → Looks tape store index a → wholeRecords tape ≤ index
-    → (lookedNumber a ≡ 14) × (lookedPlace a ≡ index)
-unfolding lookedNumber lookedPlace numberOf placeOf
-look-past (found p) h = absurd (omega (arith, p .within))
-look-past (past-end g) h = (refl, refl)
-look-past (not-one g n) h = absurd (omega arith)
-
--- and 10 at the index where no record stands
-pub look-none : {tape store : List ℕ} {index : ℕ} {a : Looked} → Looks tape store index a → index < wholeRecords tape
-    → ((r : Record) → RecordAt tape store index r → ⊥) → (lookedNumber a ≡ 10) × (lookedPlace a ≡ index)
-unfolding lookedNumber lookedPlace numberOf placeOf
-look-none (found {r = r} p) h n = absurd (n r p)
-look-none (past-end g) h n = absurd (omega arith)
-look-none (not-one g m) h n = (refl, refl)
-
--- judge: 10 at 0
-pub judge-none : {tape store : List ℕ} {a : Judged} → Judges tape store a → (WellFormed tape store → ⊥) → (judgedNumber a ≡ 10) × (judgedPlace a ≡ 0)
-unfolding judgedNumber judgedPlace
-judge-none (well w) n = absurd (n w)
-judge-none (ill m) n = (refl, refl)

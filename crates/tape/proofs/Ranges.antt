@@ -12,11 +12,11 @@ use mir.Syntax.{Width, w32}
 use mir.Val.{SFits, ofZ, toZ}
 use mir.ValLaws.{toZ-ofZ}
 use borrow.Author.Tests.{ltb-true, ltb-false, leb-true, leb-false, eqb-true, eqb-false}
-use Rattle.rules.specs.Rfc3629.{Octets, Judged as Utf8Judged, done as utf8-done, ill as utf8-ill}
-use Rattle.rules.specs.Rfc3339.{Date as Calendar, Dated, done as date-done, none as no-date}
+use Rattle.rules.specs.Rfc3629.{Octets, Judged as Utf8Judged}
+use Rattle.rules.specs.Rfc3339.{Date as Calendar, Dated}
 use Rattle.rules.specs.declared.Utf8Answer.{Utf8Answer}
 use Rattle.rules.specs.declared.DateAnswer.{DateAnswer}
-use Rattle.rules.proofs.Outcomes.{one-outcome-utf8}
+use Rattle.rules.proofs.Outcomes.{utf8-done, utf8-fault, no-fault, date-done, date-none}
 use Rattle.meaning.specs.Limits.{coefficientLimit, powerLimit}
 use Rattle.meaning.specs.Good.{GoodFinite, nought, nonzero}
 use Rattle.meaning.specs.Look.{Inside, Utf8Inside}
@@ -67,12 +67,10 @@ nonzero-good c p l n d = decides-as (λ h. nonzero l n h) finite-power d
 -- ---- dates
 
 pub is-date : {y m d : ℕ} {a : DateAnswer} → Dated y m d a → a ≡ DateAnswer.Done → Decides (Calendar y m d) true
-is-date (date-done g) e = holds g
-is-date (no-date n) e = let z : _≡_ {A = ℕ} 0 1 = cc in absurd (omega arith)
+is-date {y} {m} {d} x e = holds (date-done (subst (Dated y m d) e x))
 
 pub is-no-date : {y m d : ℕ} {a : DateAnswer} → Dated y m d a → a ≡ DateAnswer.NoDate → Decides (Calendar y m d) false
-is-no-date (date-done g) e = let z : _≡_ {A = ℕ} 0 1 = cc in absurd (omega arith)
-is-no-date (no-date n) e = fails n
+is-no-date {y} {m} {d} x e = fails (date-none (subst (Dated y m d) e x))
 
 -- ---- strings
 
@@ -88,12 +86,8 @@ module _ (size start : ℕ) (store : List ℕ) where
 
   module _ (s : List ℕ) (a : Utf8Answer) (is : s ≡ take size (drop start store)) (j : Utf8Judged s a) (i : Inside size start store) where
     pub is-utf8 : a ≡ Utf8Answer.Done → Decides (Utf8Inside size start store) true
-    is-utf8 e = holds (i, subst Octets is (octets j e))
-      where
-        octets : {x : Utf8Answer} → Utf8Judged s x → x ≡ Utf8Answer.Done → Octets s
-        octets (utf8-done o) q = o
-        octets (utf8-ill f) q = let z : _≡_ {A = ℕ} 0 1 = cc in absurd (omega arith)
+    is-utf8 e = holds (i, subst Octets is (utf8-done (subst (Utf8Judged s) e j)))
 
     pub is-not-utf8 : (k : ℕ) → a ≡ Utf8Answer.IllFormed k → Decides (Utf8Inside size start store) false
     is-not-utf8 k e =
-        fails (λ u. let q = one-outcome-utf8 j (utf8-done (subst Octets (sym is) (u .1))) in let z : _≡_ {A = ℕ} 0 1 = cc in omega arith)
+        fails (λ u. no-fault (subst Octets (sym is) (u .1)) (utf8-fault (subst (Utf8Judged s) e j)))

@@ -1,10 +1,11 @@
 -- The answers of the public calls, from what their parts promise. Assumes nothing.
-use mathlib.Core.Path.{_≡_, sym, subst}
+use mathlib.Core.Path.{_≡_, refl, sym, ap, _∙_, subst}
 use mathlib.Core.List.{List}
 use mathlib.Core.Option.{none, some}
 use Prim.Native.Nat.{ℕ, _≤_, _<_}
 use native.Mathlib.Omega.{arith}
 use lib.ListN.{length}
+use Rattle.rules.specs.Paper.{done, refused}
 use Rattle.meaning.specs.declared.Refusal.the-variants.{NotWellFormed, NoJsonForm, OutputTooShort, WrittenTooLong}
 use Rattle.meaning.specs.Limits.{textLimit}
 use Rattle.meaning.specs.Meaning.{Meaning}
@@ -16,8 +17,8 @@ use Rattle.tape.specs.Judging.{Judges, well as judged-good, ill as judged-bad}
 use Rattle.writer.specs.declared.Written.{Written}
 use Rattle.writer.specs.declared.Written.the-variants.{Wrote, Refused}
 use Rattle.writer.specs.declared.Formless.{Formless}
-use Rattle.writer.specs.Walk.{TextFits, TextLength, TextPut, Finds, at, nowhere, FirstFormless}
-use Rattle.writer.specs.Written.{Writes, too-long, too-short, written, WritesText, WritesJaxn, WritesJson}
+use Rattle.writer.specs.Walk.{TextFits, TextLength, TextPut, Finds, at, nowhere, WritesText, FirstFormless}
+use Rattle.writer.specs.Written.{Writes, too-long, too-short, written, WritesJaxn, WritesJson}
 
 -- ---- the judge's answer
 
@@ -44,19 +45,11 @@ finds-nowhere (nowhere e) q = e
 module _ {tape store : List ℕ} (o : List ℕ) {needed : ℕ} (l : TextLength tape store needed) where
   pub text-too-long : textLimit < needed → WritesText tape store o (Refused (WrittenTooLong needed)) o
   text-too-long h =
-      record {
-        is = λ w.
-            let t = canonical (w .meaning) in
-            subst (λ (n : ℕ). Writes t o (Refused (WrittenTooLong n)) o) (sym (l .is w)) (too-long (omega (arith, l .is w)));
-      }
+      record { is = λ w. too-long (omega (arith, l .is w)) (ap (refused 13) (l .is w)) }
 
   pub text-too-short : needed ≤ textLimit → length o < needed → WritesText tape store o (Refused (OutputTooShort needed)) o
   text-too-short h k =
-      record {
-        is = λ w.
-            let t = canonical (w .meaning) in
-            subst (λ (n : ℕ). Writes t o (Refused (OutputTooShort n)) o) (sym (l .is w)) (too-short (omega (arith, l .is w)) (omega (arith, l .is w)));
-      }
+      record { is = λ w. too-short (omega (arith, l .is w)) (omega (arith, l .is w)) (ap (refused 12) (l .is w)) }
 
   pub text-fits : needed ≤ length o → WellFormed tape store → TextFits tape store (length o)
   text-fits h w = record { well = w; fits = omega (arith, l .is w) }
@@ -67,8 +60,7 @@ module _ {tape store : List ℕ} (o : List ℕ) {needed : ℕ} (l : TextLength t
         is = λ w.
             let t = canonical (w .meaning) in
             let q = p .is w in
-            subst (λ (n : ℕ). Writes t o (Wrote n) out) (sym (q .size))
-            (subst (λ (x : List ℕ). Writes t o (Wrote (length t)) x) (sym (q .text)) (written (omega (arith, l .is w)) (omega (arith, l .is w))));
+            subst (Writes t o (Wrote r)) (sym (q .text)) (written (omega (arith, l .is w)) (omega (arith, l .is w)) (ap done (q .size)));
       }
 
 -- ---- the public calls
@@ -78,10 +70,10 @@ module _ {tape store : List ℕ} {x : Judged} (j : Judges tape store x) where
   is-well e = judge-well j e
 
   pub jaxn-ill : (o : List ℕ) → x ≡ Judged.Ill → WritesJaxn tape store o (Refused (NotWellFormed 0)) o
-  jaxn-ill o e = WritesJaxn.ill (judge-ill j e)
+  jaxn-ill o e = WritesJaxn.ill (judge-ill j e) refl
 
   pub json-ill : (o : List ℕ) → x ≡ Judged.Ill → WritesJson tape store o (Refused (NotWellFormed 0)) o
-  json-ill o e = WritesJson.ill (judge-ill j e)
+  json-ill o e = WritesJson.ill (judge-ill j e) refl
 
   module _ (e : x ≡ Judged.Well) where
     pub jaxn-text : {o out : List ℕ} {answer : Written} → WritesText tape store o answer out → WritesJaxn tape store o answer out
@@ -89,7 +81,7 @@ module _ {tape store : List ℕ} {x : Judged} (j : Judges tape store x) where
 
     module _ {found : Formless} (f : FirstFormless tape store found) where
       pub json-formless : (o : List ℕ) {index : ℕ} → found ≡ Formless.At index → WritesJson tape store o (Refused (NoJsonForm index)) o
-      json-formless o q = let w = judge-well j e in WritesJson.formless w (finds-at (f .is w) q)
+      json-formless o q = let w = judge-well j e in WritesJson.formless w (finds-at (f .is w) q) refl
 
       pub json-text : {o out : List ℕ} {answer : Written} → found ≡ Formless.Nowhere → WritesText tape store o answer out → WritesJson tape store o answer out
       json-text q t = let w = judge-well j e in WritesJson.text w (finds-nowhere (f .is w) q) (t .is w)

@@ -14,7 +14,9 @@ use Rattle.meaning.specs.Canonical.{numberText, quoted, binaryText, timeText, c
 use Rattle.meaning.specs.Json.{noJson}
 use Rattle.writer.specs.declared.Turn.{Turn}
 use Rattle.writer.specs.declared.Formless.{Formless}
+use Rattle.writer.specs.declared.Written.{Written}
 use Rattle.writer.specs.Laid.{Put}
+use Rattle.writer.specs.Written.{Writes}
 
 -- the bytes of a string, a key or a binary
 abbrev pub part : List ℕ → ℕ → ℕ → List ℕ
@@ -81,6 +83,10 @@ pub record TextLength (tape store : List ℕ) (n : ℕ) : Type 0 where
 
 pub record TextPut (tape store o out : List ℕ) (n : ℕ) : Type 0 where
   pub is : (w : WellFormed tape store) → Put (canonical (w .meaning)) o out n
+
+-- 13, 12, or the text
+pub record WritesText (tape store o : List ℕ) (answer : Written) (out : List ℕ) : Type 0 where
+  pub is : (w : WellFormed tape store) → Writes (canonical (w .meaning)) o answer out
 
 -- the first record with no JSON form
 pub data Finds (m : Meaning) : Formless → Type 0 where

@@ -1,6 +1,7 @@
 // Write JAXN and write JSON: the canonical text of a tape and its store into a lent output.
 ghost use Rattle.meaning.specs.Tape.{WellFormed};
-ghost use Rattle.writer.specs.Written.{WritesText, WritesJaxn, WritesJson};
+ghost use Rattle.writer.specs.Walk.{WritesText};
+ghost use Rattle.writer.specs.Written.{WritesJaxn, WritesJson};
 
 mod digits;
 mod numbers;

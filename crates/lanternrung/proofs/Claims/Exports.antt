@@ -53,7 +53,6 @@ pub record CallsForC : Type 0 where
 
 -- no refusal has the number 0
 numbered : (why : Refusal) → numberOf why ≡ 0 → ⊥
-unfolding numberOf
 numbered TextTooLong e = omega arith
 numbered (NotUtf8 p) e = omega arith
 numbered (NotGrammar p) e = omega arith

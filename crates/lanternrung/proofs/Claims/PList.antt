@@ -56,7 +56,7 @@ refuses text why e =
 -- ---- the verdicts are computed
 
 both : All samples × All slips
-unfolding verdict decoded judged faultFrom lengthAt isWide lowOf highOf leadingZeros encode isLeap isDate depthLimit numberOf placeOf decimalIn decimal fixed trimmed escaped escapes quoted hexPairs binaryText powerText numberText dateText fractionText clockText timeText canonical elementsText strip settle read reading S.hexOf S.shortOf S.alone S.unit S.inBraces S.hexed S.onHex S.onBrace S.onShort S.plainByte S.onBody S.lineByte S.onLines S.scan B.onDigit B.onShort B.onText B.scan N.classOf N.onStart N.onName N.scan N.wordScan
+unfolding verdict decoded judged faultFrom lengthAt isWide lowOf highOf leadingZeros encode isLeap isDate depthLimit decimalIn decimal fixed trimmed escaped escapes quoted hexPairs binaryText powerText numberText dateText fractionText clockText timeText canonical elementsText strip settle read reading S.hexOf S.shortOf S.alone S.unit S.inBraces S.hexed S.onHex S.onBrace S.onShort S.plainByte S.onBody S.lineByte S.onLines S.scan B.onDigit B.onShort B.onText B.scan N.classOf N.onStart N.onName N.scan N.wordScan
 both = (
   refuses _ (NotGrammar 0) refl
       & refuses _ (NotGrammar 1) refl

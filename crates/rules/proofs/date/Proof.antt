@@ -1,4 +1,5 @@
 -- Each answer by the test that led to it. Assumes nothing.
+use mathlib.Core.Path.{refl}
 use native.Mathlib.Omega.{arith}
 use Rattle.rules.specs.Rfc3339.{none}
 use Rattle.rules.proofs.Months.{too-late, a-date}
@@ -11,11 +12,11 @@ use Rattle.rules.proofs.calendar.days.Reads as days-reads
 
 -- src/lib.rt:44:9
 returns : tie.Need-returns
-returns c = none (λ d. omega arith)
+returns c = none (λ d. omega arith) refl
 
 -- src/lib.rt:47:9
 returns-2 : tie.Need-returns-2
-returns-2 c = none (λ d. omega arith)
+returns-2 c = none (λ d. omega arith) refl
 
 -- src/lib.rt:49:14
 days-requires : tie.Need-days-requires

@@ -1,4 +1,5 @@
 -- `look`: 14, then the shape, then the fields. Assumes nothing.
+use mathlib.Core.Path.{refl}
 use native.Mathlib.Omega.{arith}
 use Rattle.tape.specs.Looking.{past-end}
 use Rattle.tape.proofs.Looks.{look-found, look-junk, look-fault}
@@ -7,7 +8,7 @@ use Rattle.tape.proofs.look.Statement.{statement}
 use Rattle.tape.proofs.look.Tie as tie
 
 returns : tie.Need-returns
-returns c = past-end (omega arith)
+returns c = past-end (omega arith) refl
 
 mul-shape-at : tie.Need-mul-shape-at
 mul-shape-at c = search needs

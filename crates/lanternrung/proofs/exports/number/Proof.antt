@@ -50,59 +50,45 @@ enum-told-14 : tie.Need-enum-told-14
 enum-told-14 c = search needs
 
 returns : tie.Need-returns
-unfolding numberOf
 returns c = sym (ap numberOf (c .enum-told .given .1))
 
 returns-2 : tie.Need-returns-2
-unfolding numberOf
 returns-2 c = sym (ap numberOf (c .enum-told2 .given .1))
 
 returns-3 : tie.Need-returns-3
-unfolding numberOf
 returns-3 c = sym (ap numberOf (c .enum-told3 .given .1))
 
 returns-4 : tie.Need-returns-4
-unfolding numberOf
 returns-4 c = sym (ap numberOf (c .enum-told4 .given .1))
 
 returns-5 : tie.Need-returns-5
-unfolding numberOf
 returns-5 c = sym (ap numberOf (c .enum-told5 .given .1))
 
 returns-6 : tie.Need-returns-6
-unfolding numberOf
 returns-6 c = sym (ap numberOf (c .enum-told6 .given .1))
 
 returns-7 : tie.Need-returns-7
-unfolding numberOf
 returns-7 c = sym (ap numberOf (c .enum-told7 .given .1))
 
 returns-8 : tie.Need-returns-8
-unfolding numberOf
 returns-8 c = sym (ap numberOf (c .enum-told8 .given .1))
 
 returns-9 : tie.Need-returns-9
-unfolding numberOf
 returns-9 c = sym (ap numberOf (c .enum-told9 .given .1))
 
 returns-10 : tie.Need-returns-10
-unfolding numberOf
 returns-10 c = sym (ap numberOf (c .enum-told10 .given .1))
 
 returns-11 : tie.Need-returns-11
-unfolding numberOf
 returns-11 c = sym (ap numberOf (c .enum-told11 .given .1))
 
 returns-12 : tie.Need-returns-12
-unfolding numberOf
 returns-12 c = sym (ap numberOf (c .enum-told12 .given .1))
 
 returns-13 : tie.Need-returns-13
-unfolding numberOf
 returns-13 c = sym (ap numberOf (c .enum-told13 .given .1))
 
 returns-14 : tie.Need-returns-14
-unfolding numberOf
 returns-14 c = sym (ap numberOf (c .enum-told14 .given .1))
 
 pub number-spec : {M : Type 1} → statement M

@@ -50,59 +50,45 @@ enum-known-why-13 : tie.Need-enum-known-why-13
 enum-known-why-13 c = search needs
 
 returns : tie.Need-returns
-unfolding placeOf
 returns c = sym (ap placeOf (c .enum-told .given .1))
 
 returns-2 : tie.Need-returns-2
-unfolding placeOf
 returns-2 c = sym (ap placeOf (c .before .why .given .1))
 
 returns-3 : tie.Need-returns-3
-unfolding placeOf
 returns-3 c = sym (ap placeOf (c .before .why2 .given .1))
 
 returns-4 : tie.Need-returns-4
-unfolding placeOf
 returns-4 c = sym (ap placeOf (c .before .why3 .given .1))
 
 returns-5 : tie.Need-returns-5
-unfolding placeOf
 returns-5 c = sym (ap placeOf (c .before .why4 .given .1))
 
 returns-6 : tie.Need-returns-6
-unfolding placeOf
 returns-6 c = sym (ap placeOf (c .before .why5 .given .1))
 
 returns-7 : tie.Need-returns-7
-unfolding placeOf
 returns-7 c = sym (ap placeOf (c .before .why6 .given .1))
 
 returns-8 : tie.Need-returns-8
-unfolding placeOf
 returns-8 c = sym (ap placeOf (c .before .why7 .given .1))
 
 returns-9 : tie.Need-returns-9
-unfolding placeOf
 returns-9 c = sym (ap placeOf (c .before .why8 .given .1))
 
 returns-10 : tie.Need-returns-10
-unfolding placeOf
 returns-10 c = sym (ap placeOf (c .before .why9 .given .1))
 
 returns-11 : tie.Need-returns-11
-unfolding placeOf
 returns-11 c = sym (ap placeOf (c .before .why10 .given .1))
 
 returns-12 : tie.Need-returns-12
-unfolding placeOf
 returns-12 c = sym (ap placeOf (c .before .why11 .given .1))
 
 returns-13 : tie.Need-returns-13
-unfolding placeOf
 returns-13 c = sym (ap placeOf (c .before .why12 .given .1))
 
 returns-14 : tie.Need-returns-14
-unfolding placeOf
 returns-14 c = sym (ap placeOf (c .before .why13 .given .1))
 
 pub place-spec : {M : Type 1} → statement M
