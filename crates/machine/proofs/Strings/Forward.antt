@@ -160,7 +160,7 @@ plain-steps (all-more {b = b} x y) p acc = eats scan (rw append-assoc at (plain-
 pub plain-each : (q : Quote) (n : ℕ) → Scalar n → Of unescaped n → Each (Plain (mark q)) (encode n)
 plain-each q n s o = encode-each (Plain (mark q)) n s (λ h. let x = between q 0x10FFFF n (omega arith) o in omega arith) (λ b h. let i = mark-ascii q in omega arith)
 
-chars-steps : {q : Quote} {a u : List ℕ} → Chars (Among unescaped) (Escape true) q a u → (p : ℕ) (acc : List ℕ) → Run p (body (clear (mark q) acc)) a (body (clear (mark q) (acc ++ u)))
+pub chars-steps : {q : Quote} {a u : List ℕ} → Chars (Among unescaped) (Escape true) q a u → (p : ℕ) (acc : List ℕ) → Run p (body (clear (mark q) acc)) a (body (clear (mark q) (acc ++ u)))
 chars-steps Chars.none p acc = rw append-nil Steps.stay
 chars-steps {q} (Chars.plain (Among.character {n = n} s o) y) p acc =
     steps-join scan (plain-steps (plain-each q n s o) p acc) (rw append-assoc at (chars-steps y (adv p (encode n)) (acc ++ encode n)))
