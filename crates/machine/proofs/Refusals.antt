@@ -40,3 +40,5 @@ pub mod Faulty
 pub mod Given
 -- 5, from the grammar to the machine.
 pub mod Hours
+-- 4, from the machine to the grammar.
+pub mod Escapes

@@ -108,7 +108,7 @@ escape-bare (Escape.braced {n = w} (Digits.next {b = b} {a = a} h x) s) p c at =
   braces-quote c at w,
 )
 
-plain-bare : {q b : ℕ} → Plain q b → (p : ℕ) (c : Ctx) → c .quote ≡ q → scan p (body c) b ≡ takes (body (give c (b ∷ [])))
+pub plain-bare : {q b : ℕ} → Plain q b → (p : ℕ) (c : Ctx) → c .quote ≡ q → scan p (body c) b ≡ takes (body (give c (b ∷ [])))
 unfolding scan S.onBody S.plainByte
 plain-bare {q} {b} x p c e = rw (e, ne-eqb b 0x5C (x .no-back), ne-eqb b q (x .no-end), le-ltb b 0x20 (x .low), lt-ltb b 256 (omega arith))
 

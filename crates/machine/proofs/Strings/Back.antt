@@ -104,7 +104,7 @@ body-is p k b s f =
 
 -- ---- units
 
-four-small : {a : List ℕ} {w : ℕ} → Hexadecimal 4 a w → w < 0x10000
+pub four-small : {a : List ℕ} {w : ℕ} → Hexadecimal 4 a w → w < 0x10000
 four-small (Digits.next x₁ (Digits.next x₂ (Digits.next x₃ (Digits.next x₄ Digits.over)))) = omega (arith, hex-small x₁, hex-small x₂, hex-small x₃, hex-small x₄)
 
 wait-back : (k : Ctx) (at w : ℕ) {ds : List ℕ} → Hexadecimal 4 ds w → In 0xD800 0xDBFF w → (r v : List ℕ) → BodyRest (wait k at w) r v → BodyRest k (letters "\\u" ++ (ds ++ r)) v

@@ -100,7 +100,7 @@ unit-scalar {w} s k at (half from h) = go (s .whole)
     go (inl l) = rw (lt-ltb w 0xDC00 (omega arith)) (alone-scalar s k at)
     go (inr l) = rw (le-ltb w 0xDC00 (omega arith), le-ltb w 0xE000 (omega arith)) (alone-scalar s k at)
 
-unit-high : {w : ℕ} → In 0xD800 0xDBFF w → (k : Ctx) (at : ℕ) (h : Half) → S.unit k at w h ≡ wait k at w
+pub unit-high : {w : ℕ} → In 0xD800 0xDBFF w → (k : Ctx) (at : ℕ) (h : Half) → S.unit k at w h ≡ wait k at w
 unfolding S.unit S.alone
 unit-high {w} i k at whole = rw (le-ltb w 0xD800 (i .low), lt-ltb w 0xDC00 (omega arith))
 unit-high {w} i k at (half from h) = rw (lt-ltb w 0xDC00 (omega arith), le-ltb w 0xD800 (i .low))
@@ -160,7 +160,7 @@ plain-steps (all-more {b = b} x y) p acc = eats scan (rw append-assoc at (plain-
 pub plain-each : (q : Quote) (n : ℕ) → Scalar n → Of unescaped n → Each (Plain (mark q)) (encode n)
 plain-each q n s o = encode-each (Plain (mark q)) n s (λ h. let x = between q 0x10FFFF n (omega arith) o in omega arith) (λ b h. let i = mark-ascii q in omega arith)
 
-chars-steps : {q : Quote} {a u : List ℕ} → Chars (Among unescaped) (Escape true) q a u → (p : ℕ) (acc : List ℕ) → Run p (body (clear (mark q) acc)) a (body (clear (mark q) (acc ++ u)))
+pub chars-steps : {q : Quote} {a u : List ℕ} → Chars (Among unescaped) (Escape true) q a u → (p : ℕ) (acc : List ℕ) → Run p (body (clear (mark q) acc)) a (body (clear (mark q) (acc ++ u)))
 chars-steps Chars.none p acc = rw append-nil Steps.stay
 chars-steps {q} (Chars.plain (Among.character {n = n} s o) y) p acc =
     steps-join scan (plain-steps (plain-each q n s o) p acc) (rw append-assoc at (chars-steps y (adv p (encode n)) (acc ++ encode n)))
