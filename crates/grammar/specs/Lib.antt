@@ -19,5 +19,7 @@ pub mod Binary
 pub mod Keys
 -- Trailing Comma: value, array, object, and the whole text
 pub mod Values
+-- which refusal a text is given, and where
+pub mod Refused
 -- examples of documents 002 and 01 with their meanings, and the claim that they are derived
 pub mod Examples

@@ -8,7 +8,8 @@ use native.Mathlib.Omega.{arith}
 use lib.Dec.{leb, eqb, ltb}
 use lib.ListN.{length, length-append}
 use borrow.Author.Tests.{leb-false}
-use Rattle.rules.specs.Rfc3629.{Judged, ill, Fault}
+use Rattle.rules.specs.Rfc3629.{Judged}
+use Rattle.rules.proofs.Outcomes.{utf8-fault}
 use Rattle.rules.specs.declared.Utf8Answer.{Utf8Answer}
 use Rattle.rules.specs.declared.Utf8Answer.the-variants.{Done, IllFormed}
 use Rattle.rules.specs.Decided.{judged}
@@ -515,7 +516,7 @@ read-kept (b ∷ t) p c h =
 fault-place : (t : List ℕ) (a : Utf8Answer) → Judged t a → VerdictKept (length t) (decoded a t)
 unfolding decoded reading
 fault-place t Done j = let e : 0 + length t ≡ length t = omega arith in rw e at (read-kept t 0 (at (base want) depthLimit []) tt)
-fault-place t (IllFormed k) (ill f) = omega (arith, simp length-append at (ap length (f .split)), f .place)
+fault-place t (IllFormed k) j = let f = utf8-fault j in omega (arith, simp length-append at (ap length (f .split)), f .place)
 
 -- every refusal's place is at most the text's length
 pub place-within : (t : List ℕ) → VerdictKept (length t) (verdict t)

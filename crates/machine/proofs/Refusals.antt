@@ -42,3 +42,7 @@ pub mod Given
 pub mod Hours
 -- 4, from the grammar to the machine.
 pub mod EscapeGiven
+-- 4, from the machine to the grammar.
+pub mod Escapes
+-- The theorem, with 1 and 2 in front.
+pub mod Whole

@@ -16,5 +16,3 @@ pub mod Names
 pub mod Machine
 -- Verdict: what a whole text comes to
 pub mod Verdict
--- which of 3 to 7, and where, by the grammar alone
-pub mod Refused

@@ -22,7 +22,7 @@ use Rattle.machine.specs.Machine
 use Rattle.machine.specs.Machine.{Use, Got, Base, base, item, Frame, inside, read, lift, onOut, No, reading}
 use Rattle.machine.specs.Strings as S
 use Rattle.machine.specs.Strings.{St, Ctx, Half, Bad, mk, give, wait, blame, badNow, lost, first, scan, begin, one, body, esc, done, fine, spoilt, whole, half}
-use Rattle.machine.specs.Refused.{Spot, value, part, among}
+use Rattle.grammar.specs.Refused.{Spot, value, part, among}
 use Rattle.machine.proofs.Runs.{adv, Steps, eats, steps-join}
 use Rattle.machine.proofs.Complete.{begun, StartsString, starts-string, quote-class}
 use Rattle.machine.proofs.Whole.{absorbing}

@@ -21,7 +21,7 @@ use Rattle.machine.specs.Numeric
 use Rattle.machine.specs.Strings
 use Rattle.machine.specs.Binaries
 use Rattle.machine.specs.Names
-use Rattle.machine.specs.Refused.{Spot, Left, value, Ends, Fault, Refusals}
+use Rattle.grammar.specs.Refused.{Spot, Left, value, Ends, Item-fault}
 use Rattle.machine.proofs.Runs.{adv}
 use Rattle.machine.proofs.Places.{Live}
 use Rattle.machine.proofs.Refusals.Bare.{Other}
@@ -31,7 +31,7 @@ use Rattle.machine.proofs.Refusals.Forward.{val-left}
 use Rattle.machine.proofs.Refusals.Reached.{ConfAt, ItemAt}
 use Rattle.machine.proofs.Refusals.Why.{Only, word-only, binary-only, name-only, Kind, numeric-kind, PartKind, part-kind, Escapes, byte-fault}
 use Rattle.machine.proofs.Refusals.Stuck.{stands}
-use Rattle.machine.proofs.Refusals.Once.{Faulty, refusals}
+use Rattle.machine.proofs.Refusals.Once.{Refusals, Faulty, refusals}
 use Rattle.machine.proofs.Refusals.Lead.{depth-given}
 use Rattle.machine.proofs.Refusals.Given.{number-given}
 use Rattle.machine.proofs.Refusals.Hours.{time-given}
@@ -65,7 +65,7 @@ module _ (G : Refusal → Type 0) where
 
 module _ (escapes : Escapes) (l : List ℕ) (o : Octets (l ++ [])) where
   abbrev Ended : Refusal → Type 0
-  Ended r = Fault (l ++ []) r
+  Ended r = Item-fault (l ++ []) r
 
   numeric-why : (p d : ℕ) (k : List Frame) (s : Numeric.St) → ItemAt p k d (Machine.numeric s) l → Why Ended (Machine.endOut p k (scan p (Machine.numeric s) over))
   numeric-why p d k s h = go (Numeric.scan p s over) refl (numeric-kind p s over)
@@ -76,8 +76,8 @@ module _ (escapes : Escapes) (l : List ℕ) (o : Octets (l ++ [])) where
       here : (r : Refusal) → Numeric.scan p s over ≡ breaks r → Numeric.scan (adv (length (h .front)) (h .body)) s over ≡ breaks r
       here r e = subst (λ (i : ℕ). Numeric.scan i s over ≡ breaks r) (sym (h .here)) e
 
-      whole : (r : Refusal) → Fault (h .front ++ (h .body ++ [])) r → Ended r
-      whole r x = subst (λ (t : List ℕ). Fault t r) (sym (ap (λ (t : List ℕ). t ++ []) (h .split) ∙ append-assoc (h .front) (h .body) [])) x
+      whole : (r : Refusal) → Item-fault (h .front ++ (h .body ++ [])) r → Ended r
+      whole r x = subst (λ (t : List ℕ). Item-fault t r) (sym (ap (λ (t : List ℕ). t ++ []) (h .split) ∙ append-assoc (h .front) (h .body) [])) x
 
       go : (x : Numeric.Res) → Numeric.scan p s over ≡ x → Kind x → Why Ended (Machine.endOut p k (lift Machine.numeric Got.value x))
       go (takes t) e x = three Ended p
@@ -117,11 +117,11 @@ module _ (escapes : Escapes) where
   place : (a : List ℕ) → length a ≡ adv 0 a
   place a = sym (adv-length a 0 ∙ omega arith)
 
-  found : (t : List ℕ) (r : Refusal) → Octets t → Other r → Refuses 0 init r t → Fault t r
+  found : (t : List ℕ) (r : Refusal) → Octets t → Other r → Refuses 0 init r t → Item-fault t r
   found t r o n (Refuses.at-byte a b s l h e) = byte-fault escapes a b s o (adv 0 a) (after a) r l (place a) (stands a (b ∷ s) o) e n
   found t r o n (Refuses.at-end u l h e) =
       let o' : Octets (u ++ []) = subst Octets (sym (append-nil u)) o in
-      subst (λ (x : List ℕ). Fault x r) (append-nil u) (subst (Why (λ (x : Refusal). Fault (u ++ []) x)) e (end-why escapes u o' (adv 0 u) (after u) l (stands u [] o')) n)
+      subst (λ (x : List ℕ). Item-fault x r) (append-nil u) (subst (Why (λ (x : Refusal). Item-fault (u ++ []) x)) e (end-why escapes u o' (adv 0 u) (after u) l (stands u [] o')) n)
 
   pub faulty : Faulty
   faulty t r o n e = found t r o n (refused-at t r e)
@@ -133,11 +133,11 @@ Escape-given = (d : ℕ) (s : Spot) (l a u b v : List ℕ) (q : Quote) (r : List
     → reading (l ++ (mark q ∷ (a ++ (ch "\\" ∷ (b ++ (mark q ∷ r)))))) ≡ No (BadEscape (length l + 1 + length a))
 
 module _ (escaped : Escape-given) where
-  given : {t : List ℕ} {r : Refusal} → Fault t r → reading t ≡ No r
-  given (Fault.escape {d = d} {s = s} {l = l} {a = a} {u = u} {b = b} {v = v} {q = q} r x y z n) = escaped d s l a u b v q r x y z n
-  given (Fault.time {d = d} {l = l} {x = a} {r = r} {t = t} x y n e) = time-given d l a r t x y n e
-  given (Fault.number {d = d} {l = l} {x = a} {r = r} {n = m} x y n e) = number-given d l a r m x y n e
-  given (Fault.depth r x y) = depth-given r x y
+  given : {t : List ℕ} {r : Refusal} → Item-fault t r → reading t ≡ No r
+  given (Item-fault.escape {d = d} {s = s} {l = l} {a = a} {u = u} {b = b} {v = v} {q = q} r x y z n) = escaped d s l a u b v q r x y z n
+  given (Item-fault.time {d = d} {l = l} {x = a} {r = r} {t = t} x y n e) = time-given d l a r t x y n e
+  given (Item-fault.number {d = d} {l = l} {x = a} {r = r} {n = m} x y n e) = number-given d l a r m x y n e
+  given (Item-fault.depth r x y) = depth-given r x y
 
   -- the theorem, from the two that are left
   pub refusals-by : Escapes → Refusals

@@ -21,7 +21,7 @@ use Rattle.grammar.specs.Keys.{Key}
 use Rattle.grammar.specs.Values.{Inside, elements, members, Closes, Value, Rest, After, Item}
 use Rattle.machine.specs.Machine
 use Rattle.machine.specs.Machine.{Use, as-value, as-key, Got, Base, want, wantKey, wantString, wantBinary, got, Frame, inside, pair, asValue, asKey}
-use Rattle.machine.specs.Refused.{Spot, value, part, among, Left}
+use Rattle.grammar.specs.Refused.{Spot, value, part, among, Left}
 use Rattle.machine.proofs.Sound.{lay-join, rest-pre}
 use Rattle.machine.proofs.Refusals.Loose.{loose-value, loose-key}
 

@@ -23,7 +23,7 @@ use Rattle.machine.specs.Machine
 use Rattle.machine.specs.Machine.{Got, want, base, item, Frame, Conf, at, fail, read, lift, onOut, Verdict, No, reading}
 use Rattle.machine.specs.Numeric as Nu
 use Rattle.machine.specs.Numeric.{St, Res, begin, scan}
-use Rattle.machine.specs.Refused.{Numeric, Ends, value, Left}
+use Rattle.grammar.specs.Refused.{Numeric, Ends, value, Left}
 use Rattle.machine.proofs.Layouts.{adv-join}
 use Rattle.machine.proofs.Runs as Runs
 use Rattle.machine.proofs.Runs.{GoesTo, HaltTo, Steps, steps-join, adv, OutIs}

@@ -8,7 +8,7 @@ use Rattle.meaning.specs.Meaning.{Meaning}
 use Rattle.meaning.specs.declared.Refusal.the-variants.{NotGrammar}
 use Rattle.grammar.specs.Values.{Text}
 use Rattle.machine.specs.Machine.{No, reading, fail, step}
-use Rattle.machine.specs.Refused.{Opens}
+use Rattle.grammar.specs.Refused.{Opens}
 use Rattle.machine.proofs.Runs.{adv}
 use Rattle.machine.proofs.Refusals.Bare.{never-3}
 use Rattle.machine.proofs.Refusals.Split.{after, whatever-follows}

@@ -21,7 +21,7 @@ use Rattle.machine.specs.Scan.{takes, stops, breaks, over}
 use Rattle.machine.specs.Machine
 use Rattle.machine.specs.Machine.{want, base, item, Frame, at, read, No, reading}
 use Rattle.machine.specs.Numeric.{St, Res, begin, scan}
-use Rattle.machine.specs.Refused.{Numeric, Ends, value, Left}
+use Rattle.grammar.specs.Refused.{Numeric, Ends, value, Left}
 use Rattle.machine.proofs.Runs as Runs
 use Rattle.machine.proofs.Runs.{GoesTo, HaltTo, Steps, steps-join, adv, OutIs}
 use Rattle.machine.proofs.Layouts.{adv-join}

@@ -13,7 +13,7 @@ use Rattle.grammar.specs.Comments.{Ws}
 use Rattle.grammar.specs.Strings.{String-part}
 use Rattle.grammar.specs.Values.{Inside, elements, members, Value, Item}
 use Rattle.machine.specs.Machine.{Use, as-value, as-key, Got, Base, want, wantKey, wantString, got, base, Frame, inside, pair, Conf, at, fail, step, read, reading, No}
-use Rattle.machine.specs.Refused.{Spot, value, part, among, Left, Opening, Fault}
+use Rattle.grammar.specs.Refused.{Spot, value, part, among, Left, Opening, Item-fault}
 use Rattle.machine.proofs.Runs.{Ends, PartEnds, adv}
 use Rattle.machine.proofs.Layouts.{adv-join, stepped, layout-run}
 use Rattle.machine.proofs.Complete.{Follows, StartsString, string-part-run, gotOf, value-run, Adds, comma-after, key-run, after-layout, part-after-layout, one-more}

@@ -18,7 +18,7 @@ use Rattle.grammar.specs.Numbers.{Number}
 use Rattle.grammar.specs.Times.{Time-value, Local-date}
 use Rattle.machine.specs.Scan.{Out, takes, stops, breaks}
 use Rattle.machine.specs.Numeric.{St, Res, begin, scan}
-use Rattle.machine.specs.Refused.{Numeric, Ends, value, Left, Fault}
+use Rattle.grammar.specs.Refused.{Numeric, Ends, value, Left, Item-fault}
 use Rattle.machine.proofs.Layouts.{adv-join}
 use Rattle.machine.proofs.Runs as Runs
 use Rattle.machine.proofs.Runs.{GoesTo, HaltTo, Goes, Halt, Steps, adv, value-goes}
@@ -148,22 +148,22 @@ time-of (Taken.trailed y) e = TimeOf.trailed y
 
 module _ (f : List ℕ) (d : ℕ) (left : Left d value f) (s : St) (b : ℕ) (tail : List ℕ) where
   -- 6: where a number breaks with it, there is the fault
-  pub number-fault : (a : List ℕ) → Steps scan (length f) begin a s → Ends a tail → (q : ℕ) → scan (adv (length f) a) s b ≡ breaks (BadNumber q) → Fault (f ++ (a ++ tail)) (BadNumber q)
+  pub number-fault : (a : List ℕ) → Steps scan (length f) begin a s → Ends a tail → (q : ℕ) → scan (adv (length f) a) s b ≡ breaks (BadNumber q) → Item-fault (f ++ (a ++ tail)) (BadNumber q)
   number-fault a x w q e =
       let h = numeric-broke false (adv (length f) a) s b (BadNumber q) e in
       let y = number-of (steps-back scan (NumericRest false) (numeric-is false) x (h .1)) refl in
-      subst (Fault (f ++ (a ++ tail))) (sym (number-place (length f) x b (BadNumber q) e y)) (Fault.number left y (no-number (length f) x b (BadNumber q) e) w)
+      subst (Item-fault (f ++ (a ++ tail))) (sym (number-place (length f) x b (BadNumber q) e y)) (Item-fault.number left y (no-number (length f) x b (BadNumber q) e) w)
 
-  time-faults : {a : List ℕ} → TimeOf a → Steps scan (length f) begin a s → Ends a tail → (r : Refusal) → scan (adv (length f) a) s b ≡ breaks r → Fault (f ++ (a ++ tail)) r
-  time-faults {a} (TimeOf.time y) x w r e = subst (Fault (f ++ (a ++ tail))) (sym (time-place (length f) x b r e y)) (Fault.time left y (no-time (length f) x b r e) w)
+  time-faults : {a : List ℕ} → TimeOf a → Steps scan (length f) begin a s → Ends a tail → (r : Refusal) → scan (adv (length f) a) s b ≡ breaks r → Item-fault (f ++ (a ++ tail)) r
+  time-faults {a} (TimeOf.time y) x w r e = subst (Item-fault (f ++ (a ++ tail))) (sym (time-place (length f) x b r e y)) (Item-fault.time left y (no-time (length f) x b r e) w)
   time-faults (TimeOf.trailed {b = c} y) x w r e =
       let n = not-taken (length f) x b r e in
       let i : r ≡ BadTime (length f) = subst (EndsOr (IsTime (length f))) e (after-space (EndsOr (IsTime (length f))) (λ t h. h) (time-ends (Time-value.local-date y) (length f)) x b n) in
       rw (append-assoc c (letters " ") tail, i)
-      (Fault.time left (Time-value.local-date y) (λ t z. subst (Stops (length f) x b) e (after-space (Stops (length f) x b) (λ t h. h) (value-goes scan tt (time-goes z (length f))) x b n)) (Ends.space w))
+      (Item-fault.time left (Time-value.local-date y) (λ t z. subst (Stops (length f) x b) e (after-space (Stops (length f) x b) (λ t h. h) (value-goes scan tt (time-goes z (length f))) x b n)) (Ends.space w))
 
   -- 5
-  pub time-fault : (a : List ℕ) → Steps scan (length f) begin a s → Ends a tail → (q : ℕ) → scan (adv (length f) a) s b ≡ breaks (BadTime q) → Fault (f ++ (a ++ tail)) (BadTime q)
+  pub time-fault : (a : List ℕ) → Steps scan (length f) begin a s → Ends a tail → (q : ℕ) → scan (adv (length f) a) s b ≡ breaks (BadTime q) → Item-fault (f ++ (a ++ tail)) (BadTime q)
   time-fault a x w q e =
       let h = numeric-broke false (adv (length f) a) s b (BadTime q) e in
       time-faults (time-of (steps-back scan (NumericRest false) (numeric-is false) x (h .1)) refl) x w (BadTime q) e

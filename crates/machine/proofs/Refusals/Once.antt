@@ -14,7 +14,7 @@ use Rattle.meaning.specs.declared.Refusal.{Refusal}
 use Rattle.meaning.specs.declared.Refusal.the-variants.{TextTooLong, NotUtf8, NotGrammar, BadEscape, BadTime, BadNumber, TooDeep, TapeTooShort, StoreTooShort, NotWellFormed, NoJsonForm, OutputTooShort, WrittenTooLong, NoSuchRecord}
 use Rattle.grammar.specs.Values.{Text}
 use Rattle.machine.specs.Machine.{Verdict, Ok, No, reading}
-use Rattle.machine.specs.Refused.{Opens, Stuck, Fault, Refused, Refusals}
+use Rattle.grammar.specs.Refused.{Opens, Stuck, Item-fault, Refused}
 use Rattle.machine.proofs.Sound.{derived}
 use Rattle.machine.proofs.Refusals.Loose.{loose-value}
 use Rattle.machine.proofs.Refusals.Opens.{fewer}
@@ -82,6 +82,9 @@ accepted t m p o e x = go (found x)
 
 -- ---- the theorem
 
+abbrev pub Refusals : Type 0
+Refusals = (t : List ℕ) → Octets t → (r : Refusal) → (reading t ≡ No r) ↔ Refused t r
+
 three-or : (r : Refusal) → ((q : ℕ) × (r ≡ NotGrammar q)) ⊎ Other r
 three-or TextTooLong = inr (λ q e. let z : _≡_ {A = ℕ} 0 1 = cc in omega arith)
 three-or (NotUtf8 p) = inr (λ q e. let z : _≡_ {A = ℕ} 0 1 = cc in omega arith)
@@ -98,18 +101,18 @@ three-or (OutputTooShort p) = inr (λ q e. let z : _≡_ {A = ℕ} 0 1 = cc in o
 three-or (WrittenTooLong p) = inr (λ q e. let z : _≡_ {A = ℕ} 0 1 = cc in omega arith)
 three-or (NoSuchRecord p) = inr (λ q e. let z : _≡_ {A = ℕ} 0 1 = cc in omega arith)
 
-fault-other : {t : List ℕ} {r : Refusal} → Fault t r → Other r
-fault-other (Fault.escape r x y z n) q e = let z : _≡_ {A = ℕ} 0 1 = cc in omega arith
-fault-other (Fault.time x y n h) q e = let z : _≡_ {A = ℕ} 0 1 = cc in omega arith
-fault-other (Fault.number x y n h) q e = let z : _≡_ {A = ℕ} 0 1 = cc in omega arith
-fault-other (Fault.depth r x y) q e = let z : _≡_ {A = ℕ} 0 1 = cc in omega arith
+fault-other : {t : List ℕ} {r : Refusal} → Item-fault t r → Other r
+fault-other (Item-fault.escape r x y z n) q e = let z : _≡_ {A = ℕ} 0 1 = cc in omega arith
+fault-other (Item-fault.time x y n h) q e = let z : _≡_ {A = ℕ} 0 1 = cc in omega arith
+fault-other (Item-fault.number x y n h) q e = let z : _≡_ {A = ℕ} 0 1 = cc in omega arith
+fault-other (Item-fault.depth r x y) q e = let z : _≡_ {A = ℕ} 0 1 = cc in omega arith
 
 -- what is left: a fault is given, and what is given but for 3 is a fault
 abbrev pub Given : Type 0
-Given = (t : List ℕ) (r : Refusal) → Octets t → Fault t r → reading t ≡ No r
+Given = (t : List ℕ) (r : Refusal) → Octets t → Item-fault t r → reading t ≡ No r
 
 abbrev pub Faulty : Type 0
-Faulty = (t : List ℕ) (r : Refusal) → Octets t → Other r → reading t ≡ No r → Fault t r
+Faulty = (t : List ℕ) (r : Refusal) → Octets t → Other r → reading t ≡ No r → Item-fault t r
 
 module _ (given : Given) (faulty : Faulty) where
   to : (t : List ℕ) → Octets t → (r : Refusal) → reading t ≡ No r → Refused t r
@@ -119,7 +122,7 @@ module _ (given : Given) (faulty : Faulty) where
       go (inl h) = rw (h .1) (Refused.grammar (λ s f. let g = given t s o f in fault-other f (h .0) (let i = h .1 in cc)) (stuck t (h .0) o (e ∙ ap No (h .1))))
       go (inr n) = Refused.fault (faulty t r o n e)
 
-  from-3 : (t : List ℕ) → Octets t → (p : ℕ) → ((r : Refusal) → Fault t r → ⊥) → Stuck t p → (v : Verdict) → reading t ≡ v → reading t ≡ No (NotGrammar p)
+  from-3 : (t : List ℕ) → Octets t → (p : ℕ) → ((r : Refusal) → Item-fault t r → ⊥) → Stuck t p → (v : Verdict) → reading t ≡ v → reading t ≡ No (NotGrammar p)
   from-3 t o p n s (Ok m) e = absurd (accepted t m p o e s)
   from-3 t o p n s (No r) e = go (three-or r)
     where

@@ -14,7 +14,7 @@ use Rattle.grammar.specs.Binary.{B-value, Binary}
 use Rattle.grammar.specs.Keys.{Key}
 use Rattle.grammar.specs.Values.{Inside, elements, members, Closes, Value, Rest, After, Item, Text}
 use Rattle.machine.specs.Machine.{Use, as-value, as-key, Got, Base, want, wantKey, wantString, wantBinary, got, Frame, inside, pair}
-use Rattle.machine.specs.Refused.{Opens}
+use Rattle.grammar.specs.Refused.{Opens}
 use Rattle.machine.proofs.Refusals.Loose.{loose-value, loose-key, loose-string}
 use Rattle.machine.proofs.Refusals.Forward
 

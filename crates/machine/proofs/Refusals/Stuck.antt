@@ -9,7 +9,7 @@ use Rattle.meaning.specs.Limits.{depthLimit}
 use Rattle.meaning.specs.declared.Refusal.the-variants.{NotGrammar}
 use Rattle.grammar.specs.Comments.{Ws}
 use Rattle.machine.specs.Machine.{No, reading, Conf, at, fail, step}
-use Rattle.machine.specs.Refused.{Opens, Stuck}
+use Rattle.grammar.specs.Refused.{Opens, Stuck}
 use Rattle.machine.proofs.Runs.{adv}
 use Rattle.machine.proofs.Places.{Live}
 use Rattle.machine.proofs.Refusals.Split.{init, after, Refuses, refused-at, adv-length}

@@ -26,7 +26,7 @@ use Rattle.machine.specs.Numeric
 use Rattle.machine.specs.Strings
 use Rattle.machine.specs.Binaries
 use Rattle.machine.specs.Names
-use Rattle.machine.specs.Refused.{Opens}
+use Rattle.grammar.specs.Refused.{Opens}
 use Rattle.machine.proofs.Layouts.{NoteIs, note-is}
 use Rattle.machine.proofs.Places.{Live}
 use Rattle.machine.proofs.Numeric.{NumericItem, NumericRest, numeric-is, Taken, numeric-taken}

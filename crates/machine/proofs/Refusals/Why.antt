@@ -28,7 +28,7 @@ use Rattle.machine.specs.Numeric
 use Rattle.machine.specs.Strings
 use Rattle.machine.specs.Binaries
 use Rattle.machine.specs.Names
-use Rattle.machine.specs.Refused.{Left, value, Opening, Ends, Fault}
+use Rattle.grammar.specs.Refused.{Left, value, Opening, Ends, Item-fault}
 use Rattle.machine.proofs.Runs.{adv}
 use Rattle.machine.proofs.Classes.{ClassIs, class-is, opening}
 use Rattle.machine.proofs.Strings.Tests.{by-bool, by-eqb, by-ltb, by-leb}
@@ -233,7 +233,7 @@ module _ (G : Refusal → Type 0) where
 
 module _ (l : List ℕ) (b : ℕ) (rest : List ℕ) where
   abbrev pub Faulted : Refusal → Type 0
-  Faulted r = Fault (l ++ (b ∷ rest)) r
+  Faulted r = Item-fault (l ++ (b ∷ rest)) r
 
   numeric-why : (p d : ℕ) (k : List Frame) (s : Numeric.St) → ItemAt p k d (Machine.numeric s) l → Why Faulted (onOut p d k b (scan p (Machine.numeric s) b))
   numeric-why p d k s h = go (Numeric.scan p s b) refl (numeric-kind p s b)
@@ -247,8 +247,8 @@ module _ (l : List ℕ) (b : ℕ) (rest : List ℕ) where
       here : (r : Refusal) → Numeric.scan p s b ≡ breaks r → Numeric.scan (adv (length (h .front)) (h .body)) s b ≡ breaks r
       here r e = subst (λ (i : ℕ). Numeric.scan i s b ≡ breaks r) (sym (h .here)) e
 
-      whole : (r : Refusal) → Fault (h .front ++ (h .body ++ (b ∷ rest))) r → Faulted r
-      whole r x = subst (λ (t : List ℕ). Fault t r) (sym (ap (λ (t : List ℕ). t ++ (b ∷ rest)) (h .split) ∙ append-assoc (h .front) (h .body) (b ∷ rest))) x
+      whole : (r : Refusal) → Item-fault (h .front ++ (h .body ++ (b ∷ rest))) r → Faulted r
+      whole r x = subst (λ (t : List ℕ). Item-fault t r) (sym (ap (λ (t : List ℕ). t ++ (b ∷ rest)) (h .split) ∙ append-assoc (h .front) (h .body) (b ∷ rest))) x
 
       go : (o : Numeric.Res) → Numeric.scan p s b ≡ o → Kind o → Why Faulted (onOut p d k b (lift Machine.numeric Got.value o))
       go (takes t) e x = tt
@@ -262,7 +262,7 @@ module _ (l : List ℕ) (b : ℕ) (rest : List ℕ) where
   opening-of Machine.curly e = rw e Opening.brace
 
   open-why : (p d : ℕ) (k : List Frame) (c : Machine.Bracket) → b ≡ opening c → length l ≡ p → ValAt k d l → Why Faulted (Machine.opened p d k (Machine.bareOf c))
-  open-why p zero k c e q h = λ n. subst (λ (i : ℕ). Faulted (TooDeep i)) q (Fault.depth rest (val-left k zero l h) (opening-of c e))
+  open-why p zero k c e q h = λ n. subst (λ (i : ℕ). Faulted (TooDeep i)) q (Item-fault.depth rest (val-left k zero l h) (opening-of c e))
   open-why p (suc d) k c e q h = tt
 
 -- ---- string parts: 3 or 4
@@ -310,7 +310,7 @@ part-kind p (Strings.done k) b = close-kind (k .acc) (Strings.badNow k)
 
 -- what is left of 4: a part that has closed with a bad escape in it is the fault
 abbrev pub Escapes : Type 0
-Escapes = (p d : ℕ) (k : List Frame) (z : Use) (u : List ℕ) (s : Strings.St) (l tail : List ℕ) (b q : ℕ) → Octets (l ++ tail) → ItemAt p k d (Machine.string-part z u s) l → Strings.scan p s b ≡ breaks (BadEscape q) → Fault (l ++ tail) (BadEscape q)
+Escapes = (p d : ℕ) (k : List Frame) (z : Use) (u : List ℕ) (s : Strings.St) (l tail : List ℕ) (b q : ℕ) → Octets (l ++ tail) → ItemAt p k d (Machine.string-part z u s) l → Strings.scan p s b ≡ breaks (BadEscape q) → Item-fault (l ++ tail) (BadEscape q)
 
 -- ---- every configuration
 
@@ -444,5 +444,5 @@ module _ (escapes : Escapes) (l : List ℕ) (b : ℕ) (rest : List ℕ) (o : Oct
   step-why p (at (Machine.star s) d k) e q h = star-why p d k s (Machine.noteOf b)
   step-why p (at (item i) d k) e q h = item-why p d k i h
 
-  pub byte-fault : (p : ℕ) (c : Conf) (r : Refusal) → Live c → length l ≡ p → ConfAt p c l → step p c b ≡ fail r → Other r → Fault (l ++ (b ∷ rest)) r
+  pub byte-fault : (p : ℕ) (c : Conf) (r : Refusal) → Live c → length l ≡ p → ConfAt p c l → step p c b ≡ fail r → Other r → Item-fault (l ++ (b ∷ rest)) r
   byte-fault p c r e q h f n = subst Now f (step-why p c e q h) n

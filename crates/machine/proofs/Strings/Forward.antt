@@ -100,7 +100,7 @@ unit-scalar {w} s k at (half from h) = go (s .whole)
     go (inl l) = rw (lt-ltb w 0xDC00 (omega arith)) (alone-scalar s k at)
     go (inr l) = rw (le-ltb w 0xDC00 (omega arith), le-ltb w 0xE000 (omega arith)) (alone-scalar s k at)
 
-unit-high : {w : ℕ} → In 0xD800 0xDBFF w → (k : Ctx) (at : ℕ) (h : Half) → S.unit k at w h ≡ wait k at w
+pub unit-high : {w : ℕ} → In 0xD800 0xDBFF w → (k : Ctx) (at : ℕ) (h : Half) → S.unit k at w h ≡ wait k at w
 unfolding S.unit S.alone
 unit-high {w} i k at whole = rw (le-ltb w 0xD800 (i .low), lt-ltb w 0xDC00 (omega arith))
 unit-high {w} i k at (half from h) = rw (lt-ltb w 0xDC00 (omega arith), le-ltb w 0xD800 (i .low))

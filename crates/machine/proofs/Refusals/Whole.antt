@@ -1,0 +1,77 @@
+-- The machine refuses a text exactly as the grammar does: the same refusal of 1 to 7, at the same place. Assumes nothing.
+use Prim.Native.Nat.{ℕ, _≤_, _<_}
+use mathlib.Core.Path.{_≡_, refl, sym, ap, _∙_, subst}
+use mathlib.Core.Logic.{_↔_}
+use mathlib.Core.Bool.{Bool, true, false, cond}
+use mathlib.Core.List.{List}
+use native.Mathlib.Omega.{arith}
+use lib.Dec.{leb}
+use lib.ListN.{length}
+use borrow.Author.Tests.{le-leb, lt-leb, leb-true, leb-false}
+use Rattle.rules.specs.Rfc3629.{Octets, Fault, Judged, ill}
+use Rattle.rules.specs.declared.Utf8Answer.{Utf8Answer}
+use Rattle.rules.specs.declared.Utf8Answer.the-variants.{Done, IllFormed}
+use Rattle.rules.specs.Decided.{judged}
+use Rattle.rules.proofs.Decided.{judged-is, judged-done, done-judged}
+use Rattle.rules.proofs.Outcomes.{one-outcome-utf8, utf8-fault}
+use Rattle.meaning.specs.Limits.{textLimit}
+use Rattle.meaning.specs.Meaning.{Meaning}
+use Rattle.meaning.specs.declared.Refusal.{Refusal}
+use Rattle.meaning.specs.declared.Refusal.the-variants.{TextTooLong, NotUtf8}
+use Rattle.grammar.specs.Values.{Text}
+use Rattle.grammar.specs.Refused.{Refused, Text-refused, too-long, not-utf8}
+use Rattle.machine.specs.Machine.{Verdict, Ok, No, reading}
+use Rattle.machine.specs.Verdict.{decoded, verdict}
+use Rattle.machine.proofs.Whole.{complete}
+use Rattle.machine.proofs.Refusals.Once.{Refusals}
+use Rattle.machine.proofs.Refusals.Faulty.{refusals-by}
+use Rattle.machine.proofs.Refusals.EscapeGiven.{escape-given}
+use Rattle.machine.proofs.Refusals.Escapes.{escapes}
+
+-- ---- 3 to 7, of UTF-8
+
+pub refusals : Refusals
+refusals = refusals-by escape-given escapes
+
+same-no : {r s : Refusal} → No r ≡ No s → r ≡ s
+same-no e = cc
+
+pub one-refusal : {t : List ℕ} {r s : Refusal} → Octets t → Refused t r → Refused t s → r ≡ s
+one-refusal {t} {r} {s} o x y = same-no (sym (refusals t o r .1 x) ∙ refusals t o s .1 y)
+
+-- ---- 1 and 2 in front
+
+no-not-ok : {r : Refusal} {m : Meaning} → Ok m ≡ No r → ⊥
+no-not-ok e = let z : _≡_ {A = ℕ} 0 1 = cc in omega arith
+
+short-verdict : (t : List ℕ) (a : Utf8Answer) → length t ≤ textLimit → judged t ≡ a → verdict t ≡ decoded a t
+unfolding verdict
+short-verdict t a l e = rw (le-leb (length t) textLimit l, e)
+
+from-verdict : (t : List ℕ) (r : Refusal) → verdict t ≡ No r → Text-refused t r
+unfolding verdict decoded
+from-verdict t r e = by-length (leb (length t) textLimit) refl e
+  where
+    by-utf8 : length t ≤ textLimit → (a : Utf8Answer) → judged t ≡ a → decoded a t ≡ No r → Text-refused t r
+    by-utf8 l Done f g = let o = judged-done f in Text-refused.refused l o (refusals t o r .0 g)
+    by-utf8 l (IllFormed k) f g = subst (Text-refused t) (same-no g) (not-utf8 l (utf8-fault (subst (Judged t) f (judged-is t))))
+
+    by-length : (x : Bool) → leb (length t) textLimit ≡ x → cond x (decoded (judged t) t) (No TextTooLong) ≡ No r → Text-refused t r
+    by-length true f g = by-utf8 (leb-true _ _ f) (judged t) refl g
+    by-length false f g = subst (Text-refused t) (same-no g) (too-long (leb-false _ _ f))
+
+to-verdict : (t : List ℕ) (r : Refusal) → Text-refused t r → verdict t ≡ No r
+unfolding verdict decoded
+to-verdict t r (too-long h) = rw (lt-leb (length t) textLimit h)
+to-verdict t r (not-utf8 {k = k} l f) = short-verdict t (IllFormed k) l (one-outcome-utf8 (judged-is t) (ill f refl))
+to-verdict t r (Text-refused.refused l o x) = short-verdict t Done l (done-judged o) ∙ refusals t o r .1 x
+
+pub text-refusals : (t : List ℕ) (r : Refusal) → (verdict t ≡ No r) ↔ Text-refused t r
+text-refusals t r = (from-verdict t r, to-verdict t r)
+
+pub one-text-refusal : {t : List ℕ} {r s : Refusal} → Text-refused t r → Text-refused t s → r ≡ s
+one-text-refusal {t} {r} {s} x y = same-no (sym (to-verdict t r x) ∙ to-verdict t s y)
+
+-- a text that has a meaning is not refused
+pub not-refused : {t : List ℕ} {m : Meaning} {r : Refusal} → Text true t m → Text-refused t r → ⊥
+not-refused {t} {m} {r} x y = no-not-ok (sym (complete x) ∙ to-verdict t r y)
