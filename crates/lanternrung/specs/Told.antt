@@ -7,7 +7,7 @@ use Prim.Native.Nat.{ℕ, _+_}
 use lib.IntN.{ℤ, pos}
 use Rattle.rules.specs.declared.Utf8Answer.{Utf8Answer}
 use Rattle.rules.specs.declared.DateAnswer.{DateAnswer}
-use Rattle.rules.specs.Paper.{utf8Number, utf8Place, dateNumber}
+use Rattle.rules.specs.Paper.{utf8Said, dateSaid, numberSaid, placeSaid}
 use Rattle.rules.specs.Rfc3339.{Dated}
 use Rattle.rules.specs.Rfc3629.{Judged}
 use Rattle.meaning.specs.declared.Date.{Date}
@@ -90,10 +90,10 @@ lookedFields (Looked.Refused why) = refusedFields why
 -- ---- each call hands on an answer that the library's promise allows, with what it leaves in the lent buffers
 
 unfoldable pub utf8Status : Utf8Answer → Status
-utf8Status a = record { refused = utf8Number a; place = utf8Place a }
+utf8Status a = record { refused = numberSaid (utf8Said a); place = placeSaid (utf8Said a) }
 
 unfoldable pub dateStatus : DateAnswer → Status
-dateStatus a = record { refused = dateNumber a; place = 0 }
+dateStatus a = record { refused = numberSaid (dateSaid a); place = placeSaid (dateSaid a) }
 
 pub record Utf8Told (s : List ℕ) (r : Status) : Type 0 where
   pub answer : Utf8Answer

@@ -1,8 +1,8 @@
--- Numbers in bytes, the lowest first. Assumes nothing.
+-- Numbers in bytes, the lowest first; bytes laid over others. Assumes nothing.
 use mathlib.Core.Bool.{Bool, true, false}
-use mathlib.Core.List.{List, [], _∷_}
+use mathlib.Core.List.{List, [], _∷_, _++_}
 use Prim.Native.Nat.{ℕ, zero, suc, _+_, _*_, _/_, _%_}
-use lib.ListN.{getD}
+use lib.ListN.{length, getD, drop}
 
 -- v in w bytes, little-endian
 unfoldable pub le : ℕ → ℕ → List ℕ
@@ -22,3 +22,7 @@ unnamed w = le w 0
 abbrev pub flag : Bool → ℕ
 flag true = 1
 flag false = 0
+
+-- x over the start of y: what lies past it is unchanged
+abbrev pub laid : List ℕ → List ℕ → List ℕ
+laid x y = x ++ drop (length x) y

@@ -1,37 +1,106 @@
--- What the promises of `measure` and `read` come to, in terms of the grammar. Each holds of any outcome that a promise allows. Assumes nothing.
-use mathlib.Core.Path.{_≡_, refl, sym, ap, _∙_, subst}
-use mathlib.Core.Bool.{Bool, true, false, cond}
+-- What the promises of `measure` and `read` come to. Each holds of any outcome that a promise allows. Assumes nothing.
+use mathlib.Core.Path.{_≡_, refl, sym, ap, ap₂, _∙_, subst}
+use mathlib.Core.Bool.{true}
 use mathlib.Core.List.{List, _++_}
 use Prim.Native.Nat.{ℕ, _*_, _≤_, _<_}
 use native.Mathlib.Omega.{arith}
-use lib.Dec.{ltb}
 use lib.ListN.{length, drop}
-use borrow.Author.Tests.{ltb-true, ltb-false, le-ltb, lt-ltb}
+use Rattle.rules.specs.Paper.{Said, done, refused}
+use Rattle.rules.proofs.Outcomes.{done-apart}
 use Rattle.meaning.specs.declared.Refusal.{Refusal}
-use Rattle.meaning.specs.declared.Refusal.the-variants.{TapeTooShort, StoreTooShort}
+use Rattle.meaning.specs.Bytes.{laid}
 use Rattle.meaning.specs.Meaning.{Meaning}
+use Rattle.meaning.specs.Paper.{refusalSaid}
 use Rattle.meaning.specs.Tape.{records, bytes, tapeOf, storeOf}
+use Rattle.meaning.proofs.Paper.{same-refusal}
 use Rattle.grammar.specs.Values.{Text}
+use Rattle.grammar.specs.Refused.{Text-refused}
 use Rattle.grammar.proofs.Sizes.{Fits, text-fits}
-use Rattle.machine.specs.Machine.{Verdict, Ok, No}
-use Rattle.machine.specs.Verdict.{verdict}
-use Rattle.machine.proofs.Whole.{complete, sound}
+use Rattle.machine.proofs.Whole.{unambiguous}
+use Rattle.machine.proofs.Refusals.Whole.{one-text-refusal, not-refused}
 use Rattle.reader.specs.declared.Answer.{Answer}
 use Rattle.reader.specs.declared.Answer.the-variants.{Counts, Refused}
-use Rattle.reader.specs.Answers.{measured, answered, tapeBytes, unless, tapeAfter, storeAfter, Measures, Reads}
+use Rattle.reader.specs.Answers.{answerSaid, tapeBytes, Measures, Reads, sizes, filled, tape-short, store-short}
+
+-- ---- what is said tells the answer
+
+abbrev recordsSaid : Said (ℕ × ℕ) → ℕ
+recordsSaid (done v) = v .0
+recordsSaid (refused number place) = 0
+
+abbrev bytesSaid : Said (ℕ × ℕ) → ℕ
+bytesSaid (done v) = v .1
+bytesSaid (refused number place) = 0
+
+counts-records : {r s x y : ℕ} → answerSaid (Counts r s) ≡ done (x, y) → r ≡ x
+counts-records e = ap recordsSaid e
+
+counts-bytes : {r s x y : ℕ} → answerSaid (Counts r s) ≡ done (x, y) → s ≡ y
+counts-bytes e = ap bytesSaid e
+
+same-answer : (a b : Answer) → answerSaid a ≡ answerSaid b → a ≡ b
+same-answer (Counts r s) (Counts x y) e = ap₂ Counts (ap recordsSaid e) (ap bytesSaid e)
+same-answer (Counts r s) (Refused w) e = absurd (done-apart e)
+same-answer (Refused v) (Counts x y) e = absurd (done-apart (sym e))
+same-answer (Refused v) (Refused w) e = ap Refused (same-refusal v w e)
 
 -- ---- one outcome
 
-pub one-outcome-measure : (text : List ℕ) (a b : Answer) → Measures text a → Measures text b → a ≡ b
-one-outcome-measure text a b p q = p ∙ sym q
+-- two meanings of one text
+same-sizes : {text : List ℕ} {m n : Meaning} → Text true text m → Text true text n → _≡_ {A = Said (ℕ × ℕ)} (done (records m, bytes m)) (done (records n, bytes n))
+same-sizes x y = ap (λ (m : Meaning). done (records m, bytes m)) (unambiguous x y)
 
-pub one-outcome-read : {text tape store : List ℕ} {a b : Answer} {t u s v : List ℕ} → Reads text tape store a t s → Reads text tape store b u v → (a ≡ b) × (t ≡ u) × (s ≡ v)
-one-outcome-read p q = (p .answers ∙ sym (q .answers), p .taped ∙ sym (q .taped), p .stored ∙ sym (q .stored))
+-- two refusals of one text
+same-told : {text : List ℕ} {v w : Refusal} → Text-refused text v → Text-refused text w → _≡_ {A = Said (ℕ × ℕ)} (refusalSaid v) (refusalSaid w)
+same-told x y = ap refusalSaid (one-text-refusal x y)
+
+pub one-outcome-measure : (text : List ℕ) (a b : Answer) → Measures text a → Measures text b → a ≡ b
+one-outcome-measure text a b p q = same-answer a b (said p q)
+  where
+    said : Measures text a → Measures text b → answerSaid a ≡ answerSaid b
+    said (sizes x e) (sizes y f) = e ∙ same-sizes x y ∙ sym f
+    said (sizes x e) (Measures.no-text y f) = absurd (not-refused x y)
+    said (Measures.no-text x e) (sizes y f) = absurd (not-refused y x)
+    said (Measures.no-text x e) (Measures.no-text y f) = e ∙ same-told x y ∙ sym f
+
+abbrev Same : Answer → Answer → List ℕ → List ℕ → List ℕ → List ℕ → Type 0
+Same a b t u s v = (a ≡ b) × (t ≡ u) × (s ≡ v)
+
+module _ (tape store : List ℕ) where
+  one-filled : {a b : Answer} {m n : Meaning} → m ≡ n → answerSaid a ≡ done (records m, bytes m) → answerSaid b ≡ done (records n, bytes n)
+      → Same a b (laid (tapeOf m) tape) (laid (tapeOf n) tape) (laid (storeOf m) store) (laid (storeOf n) store)
+  one-filled {a} {b} z e f = (same-answer a b (e ∙ ap (λ (k : Meaning). done (records k, bytes k)) z ∙ sym f), ap (λ (k : Meaning). laid (tapeOf k) tape) z, ap (λ (k : Meaning). laid (storeOf k) store) z)
+
+  one-short : {a b : Answer} (f : Meaning → ℕ) (n : ℕ) {m k : Meaning} → m ≡ k → answerSaid a ≡ refused n (f m) → answerSaid b ≡ refused n (f k) → Same a b tape tape store store
+  one-short {a} {b} f n z e g = (same-answer a b (e ∙ ap (λ (x : Meaning). refused n (f x)) z ∙ sym g), refl, refl)
+
+module _ {text tape store : List ℕ} where
+  pub one-outcome-read : {a b : Answer} {t u s v : List ℕ} → Reads text tape store a t s → Reads text tape store b u v → (a ≡ b) × (t ≡ u) × (s ≡ v)
+  one-outcome-read (filled x h k e) (filled y i j f) = one-filled tape store (unambiguous x y) e f
+  one-outcome-read (filled x h k e) (tape-short y i f) = let z = ap tapeBytes (unambiguous x y) in absurd (omega arith)
+  one-outcome-read (filled x h k e) (store-short y i j f) = let z = ap bytes (unambiguous x y) in absurd (omega arith)
+  one-outcome-read (filled x h k e) (Reads.no-text y f) = absurd (not-refused x y)
+  one-outcome-read (tape-short x h e) (filled y i j f) = let z = ap tapeBytes (unambiguous x y) in absurd (omega arith)
+  one-outcome-read (tape-short x h e) (tape-short y i f) = one-short tape store tapeBytes 8 (unambiguous x y) e f
+  one-outcome-read (tape-short x h e) (store-short y i j f) = let z = ap tapeBytes (unambiguous x y) in absurd (omega arith)
+  one-outcome-read (tape-short x h e) (Reads.no-text y f) = absurd (not-refused x y)
+  one-outcome-read (store-short x h k e) (filled y i j f) = let z = ap bytes (unambiguous x y) in absurd (omega arith)
+  one-outcome-read (store-short x h k e) (tape-short y i f) = let z = ap tapeBytes (unambiguous x y) in absurd (omega arith)
+  one-outcome-read (store-short x h k e) (store-short y i j f) = one-short tape store bytes 9 (unambiguous x y) e f
+  one-outcome-read (store-short x h k e) (Reads.no-text y f) = absurd (not-refused x y)
+  one-outcome-read (Reads.no-text x e) (filled y i j f) = absurd (not-refused y x)
+  one-outcome-read (Reads.no-text x e) (tape-short y i f) = absurd (not-refused y x)
+  one-outcome-read (Reads.no-text x e) (store-short y i j f) = absurd (not-refused y x)
+  one-outcome-read {a} {b} (Reads.no-text x e) (Reads.no-text y f) = (same-answer a b (e ∙ same-told x y ∙ sym f), refl, refl)
+
+-- two texts of one meaning are read alike
+pub reads-as : {s t tape store : List ℕ} {m : Meaning} {a : Answer} {tape' store' : List ℕ} → Text true s m → Text true t m → Reads s tape store a tape' store' → Reads t tape store a tape' store'
+reads-as {t = t} x y (filled z h k e) = filled (subst (Text true t) (unambiguous x z) y) h k e
+reads-as {t = t} x y (tape-short z h e) = tape-short (subst (Text true t) (unambiguous x z) y) h e
+reads-as {t = t} x y (store-short z h k e) = store-short (subst (Text true t) (unambiguous x z) y) h k e
+reads-as x y (Reads.no-text z e) = absurd (not-refused x z)
 
 -- ---- measured: the counts are the sizes of the meaning's tape and store
-
-refused-counts : {r s : ℕ} {why : Refusal} → Refused why ≡ Counts r s → ⊥
-refused-counts e = let z : _≡_ {A = ℕ} 0 1 = cc in omega arith
 
 -- a text with its meaning and the sizes of that
 pub record Sized (text : List ℕ) (r s : ℕ) : Type 0 where
@@ -41,16 +110,11 @@ pub record Sized (text : List ℕ) (r s : ℕ) : Type 0 where
   pub held : s ≡ bytes meaning
 
 pub measure-accepts : (text : List ℕ) (r s : ℕ) → Measures text (Counts r s) → Sized text r s
-unfolding measured
-measure-accepts text r s p = go (verdict text) refl p
-  where
-    go : (v : Verdict) → verdict text ≡ v → Counts r s ≡ measured v → Sized text r s
-    go (Ok m) e q = record { meaning = m; text-means = sound text m e; counted = cc; held = cc }
-    go (No why) e q = absurd (refused-counts (sym q))
+measure-accepts text r s (sizes {m = m} x e) = record { meaning = m; text-means = x; counted = counts-records e; held = counts-bytes e }
+measure-accepts text r s (Measures.no-text x e) = absurd (done-apart e)
 
 pub accepts-measure : {text : List ℕ} {m : Meaning} → Text true text m → Measures text (Counts (records m) (bytes m))
-unfolding measured
-accepts-measure x = sym (ap measured (complete x))
+accepts-measure x = sizes x refl
 
 -- ---- accepted: done just where the grammar gives the text a meaning and there is room; then the tape and the store hold it
 
@@ -64,41 +128,31 @@ pub record Held (text tape store : List ℕ) (r s : ℕ) (tape' store' : List �
   pub taped : tape' ≡ tapeOf meaning ++ drop (length (tapeOf meaning)) tape
   pub stored : store' ≡ storeOf meaning ++ drop (length (storeOf meaning)) store
 
-module _ (text tape store : List ℕ) (r s : ℕ) (tape' store' : List ℕ) where
-  pub read-accepts : Reads text tape store (Counts r s) tape' store' → Held text tape store r s tape' store'
-  unfolding answered tapeAfter storeAfter unless
-  read-accepts h = go (verdict text) refl (h .answers) (h .taped) (h .stored)
-    where
-      by-room : (m : Meaning) → verdict text ≡ Ok m → (x : Bool) → ltb (length tape) (tapeBytes m) ≡ x → (y : Bool) → ltb (length store) (bytes m) ≡ y →
-          Counts r s ≡ cond x (Refused (TapeTooShort (tapeBytes m))) (cond y (Refused (StoreTooShort (bytes m))) (Counts (records m) (bytes m))) →
-          tape' ≡ unless (cond x (Refused (TapeTooShort (tapeBytes m))) (cond y (Refused (StoreTooShort (bytes m))) (Counts (records m) (bytes m)))) (tapeOf m) tape →
-          store' ≡ unless (cond x (Refused (TapeTooShort (tapeBytes m))) (cond y (Refused (StoreTooShort (bytes m))) (Counts (records m) (bytes m)))) (storeOf m) store →
-          Held text tape store r s tape' store'
-      by-room m e true f y g a t u = absurd (refused-counts (sym a))
-      by-room m e false f true g a t u = absurd (refused-counts (sym a))
-      by-room m e false f false g a t u =
-          record { meaning = m; text-means = sound text m e; tape-room = ltb-false _ _ f; store-room = ltb-false _ _ g; counted = cc; held = cc; taped = t; stored = u }
+module _ (text tape store : List ℕ) where
+  pub read-accepts : (r s : ℕ) (tape' store' : List ℕ) → Reads text tape store (Counts r s) tape' store' → Held text tape store r s tape' store'
+  read-accepts r s tape' store' (filled {m = m} x h k e) =
+      record { meaning = m; text-means = x; tape-room = h; store-room = k; counted = counts-records e; held = counts-bytes e; taped = refl; stored = refl }
+  read-accepts r s tape' store' (tape-short x h e) = absurd (done-apart e)
+  read-accepts r s tape' store' (store-short x h k e) = absurd (done-apart e)
+  read-accepts r s tape' store' (Reads.no-text x e) = absurd (done-apart e)
 
-      go : (v : Verdict) → verdict text ≡ v → Counts r s ≡ answered v (length tape) (length store) → tape' ≡ tapeAfter v tape store → store' ≡ storeAfter v tape store → Held text tape store r s tape' store'
-      go (Ok m) e a t u = by-room m e (ltb (length tape) (tapeBytes m)) refl (ltb (length store) (bytes m)) refl a t u
-      go (No why) e a t u = absurd (refused-counts (sym a))
-
-  pub accepts-read : (a : Answer) (m : Meaning) → Text true text m → tapeBytes m ≤ length tape → bytes m ≤ length store → Reads text tape store a tape' store' → a ≡ Counts (records m) (bytes m)
-  unfolding answered
-  accepts-read a m x h l q = q .answers ∙ ap (λ (v : Verdict). answered v (length tape) (length store)) (complete x) ∙ rw (le-ltb (length tape) (tapeBytes m) h, le-ltb (length store) (bytes m) l)
+  pub accepts-read : (tape' store' : List ℕ) (a : Answer) (m : Meaning) → Text true text m → tapeBytes m ≤ length tape → bytes m ≤ length store → Reads text tape store a tape' store' → a ≡ Counts (records m) (bytes m)
+  accepts-read tape' store' a m x h k p = one-outcome-read p (filled x h k refl) .0
 
   -- ---- untouched: after a refusal each lent buffer is as it was
-  pub read-untouched : (why : Refusal) → Reads text tape store (Refused why) tape' store' → (tape' ≡ tape) × (store' ≡ store)
-  unfolding answered tapeAfter storeAfter unless
-  read-untouched why h = go (verdict text) (h .answers) (h .taped) (h .stored)
-    where
-      by-answer : (m : Meaning) (b : Answer) → Refused why ≡ b → tape' ≡ unless b (tapeOf m) tape → store' ≡ unless b (storeOf m) store → (tape' ≡ tape) × (store' ≡ store)
-      by-answer m (Counts x y) a t u = absurd (refused-counts a)
-      by-answer m (Refused w) a t u = (t, u)
+  pub read-untouched : (tape' store' : List ℕ) (why : Refusal) → Reads text tape store (Refused why) tape' store' → (tape' ≡ tape) × (store' ≡ store)
+  read-untouched tape' store' why (filled x h k e) = absurd (done-apart (sym e))
+  read-untouched tape' store' why (tape-short x h e) = (refl, refl)
+  read-untouched tape' store' why (store-short x h k e) = (refl, refl)
+  read-untouched tape' store' why (Reads.no-text x e) = (refl, refl)
 
-      go : (v : Verdict) → Refused why ≡ answered v (length tape) (length store) → tape' ≡ tapeAfter v tape store → store' ≡ storeAfter v tape store → (tape' ≡ tape) × (store' ≡ store)
-      go (Ok m) a t u = by-answer m (answered (Ok m) (length tape) (length store)) a t u
-      go (No w) a t u = (t, u)
+-- ---- refused: a refusal of 1 to 7 is given by both, whatever is lent
+
+pub measure-refuses : {text : List ℕ} {a : Answer} {why : Refusal} → Text-refused text why → Measures text a → a ≡ Refused why
+measure-refuses {text} {a} {why} x p = one-outcome-measure text a (Refused why) p (Measures.no-text x refl)
+
+pub read-refuses : {text tape store tape' store' : List ℕ} {a : Answer} {why : Refusal} → Text-refused text why → Reads text tape store a tape' store' → a ≡ Refused why
+read-refuses x p = one-outcome-read p (Reads.no-text x refl) .0
 
 -- ---- bounded: records and store bytes are each at most the text's length
 

@@ -1,37 +1,38 @@
 -- One walk over a text, and what `measure` and `read` make of it. Assumes nothing.
 use mathlib.Core.Path.{_≡_, refl, sym, ap, ap₂, _∙_, subst}
-use mathlib.Core.Bool.{Bool, true, false, cond}
+use mathlib.Core.Bool.{true}
 use mathlib.Core.List.{List, [], _∷_, _++_}
 use Prim.Native.Nat.{ℕ, suc, _+_, _*_, _≤_, _<_}
 use native.Mathlib.Omega.{arith}
-use lib.Dec.{leb, ltb}
 use lib.ListN.{length, getD, drop, set}
 use lib.Seq.{sets}
-use borrow.Author.Tests.{leb-true, leb-false, le-leb, lt-leb, le-ltb, lt-ltb}
-use Rattle.rules.specs.declared.Utf8Answer.{Utf8Answer}
 use Rattle.rules.specs.declared.Utf8Answer.the-variants.{Done, IllFormed}
+use Rattle.rules.specs.Paper.{done, refused}
 use Rattle.rules.specs.Rfc3629.{Judged}
-use Rattle.rules.specs.Decided.{judged}
-use Rattle.rules.proofs.Decided.{judged-is}
-use Rattle.rules.proofs.Outcomes.{one-outcome-utf8}
+use Rattle.rules.proofs.Outcomes.{done-apart, utf8-done, utf8-fault}
 use Rattle.meaning.specs.declared.Refusal.{Refusal}
 use Rattle.meaning.specs.declared.Refusal.the-variants.{NotGrammar, TextTooLong, NotUtf8, TapeTooShort, StoreTooShort}
+use Rattle.meaning.specs.Bytes.{laid}
 use Rattle.meaning.specs.Limits.{textLimit, depthLimit}
 use Rattle.meaning.specs.Meaning.{Meaning}
-use Rattle.meaning.specs.Tape.{records, bytes, recordsOf, recordsBytes, tapeOf, storeOf}
-use Rattle.machine.specs.Machine.{Base, want, got, value, base, Frame, Conf, at, fail, step, finish, Class, classOf, blankC, hashC, slashC, commaC, colonC, plusC, quoteC, dollarC, letterN, letterT, letterF, letterC, otherC, openC, closeC, onGot, Verdict, Ok, No, reading}
-use Rattle.machine.specs.Verdict.{verdict, decoded}
+use Rattle.meaning.specs.Tape.{records, bytes, tapeOf, storeOf}
+use Rattle.meaning.proofs.Whole.{tape-length}
+use Rattle.grammar.specs.Values.{Text}
+use Rattle.grammar.specs.Refused.{Text-refused, too-long, not-utf8}
+use Rattle.machine.specs.Machine.{Base, want, got, value, base, Frame, Conf, at, fail, step, finish, Class, classOf, blankC, hashC, slashC, commaC, colonC, plusC, quoteC, dollarC, letterN, letterT, letterF, letterC, otherC, openC, closeC, onGot, Ok, No, reading}
+use Rattle.machine.proofs.Complete.{reads}
+use Rattle.machine.proofs.Sound.{derives}
+use Rattle.machine.proofs.Refusals.Whole.{refusals}
 use Rattle.reader.specs.Scanning.{Goes, Ends, Bare, Shut}
 use Rattle.reader.specs.Layouts.{Breaks, Laid}
 use Rattle.reader.specs.Cursors.{Ready, AtValue, Took, Left, wants}
-use Rattle.reader.specs.Answers.{WalkSays, Walked, Measures, Reads, measured, answered, tapeBytes, unless, tapeAfter, storeAfter}
-use Rattle.meaning.proofs.Records.{records-bytes-length}
-use Rattle.meaning.proofs.Sizes.{records-length}
+use Rattle.reader.specs.Answers.{Measures, Reads, sizes, filled, tape-short, store-short}
+use Rattle.reader.specs.Walk.{WalkSays, Walked}
 use Rattle.reader.specs.declared.cursor.Cursor.{Cursor}
 use Rattle.reader.specs.declared.Answer.{Answer}
 use Rattle.reader.specs.declared.Answer.the-variants.{Counts, Refused}
 use Rattle.reader.proofs.Runs.{go, stop, halt}
-use Rattle.reader.proofs.Claims.{measure-accepts, bounded}
+use Rattle.reader.proofs.Claims.{Sized, measure-accepts, bounded}
 
 -- ---- the walk
 
@@ -112,26 +113,15 @@ module _ (text : List ℕ) (q : ℕ) (v : Laid text 0 q) where
 
 module _ (text : List ℕ) where
   pub measure-long : textLimit < length text → Measures text (Refused TextTooLong)
-  unfolding verdict measured
-  measure-long h = sym (ap (λ (b : Bool). measured (cond b (decoded (judged text) text) (No TextTooLong))) (lt-leb (length text) textLimit h))
+  measure-long h = Measures.no-text (too-long h) refl
 
   module _ (h : length text ≤ textLimit) where
-    verdict-is : (a : Utf8Answer) → Judged text a → verdict text ≡ decoded a text
-    unfolding verdict
-    verdict-is a j = ap (λ (b : Bool). cond b (decoded (judged text) text) (No TextTooLong)) (le-leb (length text) textLimit h) ∙ ap (λ (x : Utf8Answer). decoded x text) (one-outcome-utf8 (judged-is text) j)
-
     pub measure-ill : (p : ℕ) → Judged text (IllFormed p) → Measures text (Refused (NotUtf8 p))
-    unfolding decoded measured
-    measure-ill p j = sym (ap measured (verdict-is (IllFormed p) j))
-
-    verdict-read : Judged text Done → verdict text ≡ reading text
-    unfolding decoded
-    verdict-read j = verdict-is Done j
+    measure-ill p j = Measures.no-text (not-utf8 h (utf8-fault j)) refl
 
     pub measure-walked : (tape tape' store store' : List ℕ) (a : Answer) → Judged text Done → WalkSays text tape tape' store store' a → Measures text a
-    unfolding measured
-    measure-walked tape tape' store store' (Counts r s) j (m, w, er, es) = ap₂ (λ (x y : ℕ). Counts x y) er es ∙ sym (ap measured (verdict-read j ∙ w .reads))
-    measure-walked tape tape' store store' (Refused why) j w = sym (ap measured (verdict-read j ∙ w))
+    measure-walked tape tape' store store' (Counts r s) j (m, w, er, es) = sizes (derives text m (utf8-done j) h (w .reads)) (ap₂ (λ (x y : ℕ). done (x, y)) er es)
+    measure-walked tape tape' store store' (Refused why) j w = let o = utf8-done j in Measures.no-text (Text-refused.refused h o (refusals text o why .0 w)) refl
 
 -- ---- read
 
@@ -139,125 +129,51 @@ sets-suc : (x : ℕ) (l v : List ℕ) (i : ℕ) → sets (x ∷ l) (suc i) v ≡
 sets-suc x l [] i = refl
 sets-suc x l (a ∷ v) i = sets-suc x (set l i a) v (suc i)
 
-sets-front : (l v : List ℕ) → length v ≤ length l → sets l 0 v ≡ v ++ drop (length v) l
+sets-front : (l v : List ℕ) → length v ≤ length l → sets l 0 v ≡ laid v l
 sets-front l [] h = refl
 sets-front [] (a ∷ v) h = absurd (omega arith)
 sets-front (x ∷ l) (a ∷ v) h = sets-suc a l v 0 ∙ ap (λ (t : List ℕ). a ∷ t) (sets-front l v (omega arith))
 
-tape-length : (m : Meaning) → length (tapeOf m) ≡ tapeBytes m
-unfolding tapeOf
-tape-length m = omega (arith, records-bytes-length (recordsOf m 0 0), records-length m 0 0)
+text-short : {t : List ℕ} {m : Meaning} → Text true t m → length t ≤ textLimit
+text-short (Text.text w v l h) = h
 
-counts-not : {r s : ℕ} {why : Refusal} → Counts r s ≡ Refused why → ⊥
-counts-not e = let z : _≡_ {A = ℕ} 0 1 = cc in omega arith
-
--- what `read` does by a verdict
-abbrev Does : Verdict → List ℕ → List ℕ → Answer → List ℕ → List ℕ → Type 0
-Does v tape store a tape' store' = (a ≡ answered v (length tape) (length store)) × (tape' ≡ tapeAfter v tape store) × (store' ≡ storeAfter v tape store)
-
-reads-by : {text tape store : List ℕ} {a : Answer} {tape' store' : List ℕ} → Does (verdict text) tape store a tape' store' → Reads text tape store a tape' store'
-reads-by d = record { answers = d .0; taped = d .1; stored = d .2 }
-
-module _ (tape store : List ℕ) where
-  refused-does : (v : Verdict) (why : Refusal) → Refused why ≡ measured v → Does v tape store (Refused why) tape store
-  unfolding measured answered tapeAfter storeAfter
-  refused-does (No w) why e = (e, refl, refl)
-  refused-does (Ok m) why e = absurd (counts-not (sym e))
-
-  -- the answer decides
-  by-answer : (m : Meaning) (a : Answer) (tape' store' : List ℕ) → answered (Ok m) (length tape) (length store) ≡ a → tape' ≡ unless a (tapeOf m) tape → store' ≡ unless a (storeOf m) store → Does (Ok m) tape store a tape' store'
-  unfolding tapeAfter storeAfter
-  by-answer m a tape' store' e t s = (sym e, t ∙ ap (λ (x : Answer). unless x (tapeOf m) tape) (sym e), s ∙ ap (λ (x : Answer). unless x (storeOf m) store) (sym e))
-
-  no-tape : (m : Meaning) → length tape < tapeBytes m → answered (Ok m) (length tape) (length store) ≡ Refused (TapeTooShort (tapeBytes m))
-  unfolding answered
-  no-tape m h = rw (lt-ltb (length tape) (tapeBytes m) h)
-
-  no-store : (m : Meaning) → tapeBytes m ≤ length tape → length store < bytes m → answered (Ok m) (length tape) (length store) ≡ Refused (StoreTooShort (bytes m))
-  unfolding answered
-  no-store m h k = rw (le-ltb (length tape) (tapeBytes m) h, lt-ltb (length store) (bytes m) k)
-
-  enough : (m : Meaning) → tapeBytes m ≤ length tape → bytes m ≤ length store → answered (Ok m) (length tape) (length store) ≡ Counts (records m) (bytes m)
-  unfolding answered
-  enough m h k = rw (le-ltb (length tape) (tapeBytes m) h, le-ltb (length store) (bytes m) k)
-
-  short-does : (v : Verdict) (r s : ℕ) → Counts r s ≡ measured v → length tape < r * 16 → Does v tape store (Refused (TapeTooShort (r * 16))) tape store
-  unfolding measured unless
-  short-does (No w) r s e h = absurd (counts-not e)
-  short-does (Ok m) r s e h =
-      let n : r ≡ records m = cc in
-      by-answer m (Refused (TapeTooShort (r * 16))) tape store (no-tape m (omega arith) ∙ ap (λ (x : ℕ). Refused (TapeTooShort (x * 16))) (sym n)) refl refl
-
-  lacking-does : (v : Verdict) (r s : ℕ) → Counts r s ≡ measured v → r * 16 ≤ length tape → length store < s → Does v tape store (Refused (StoreTooShort s)) tape store
-  unfolding measured unless
-  lacking-does (No w) r s e h k = absurd (counts-not e)
-  lacking-does (Ok m) r s e h k =
-      let n : r ≡ records m = cc in
-      let b : s ≡ bytes m = cc in
-      by-answer m (Refused (StoreTooShort s)) tape store (no-store m (omega arith) (omega arith) ∙ ap (λ (x : ℕ). Refused (StoreTooShort x)) (sym b)) refl refl
-
-  filled-does : (m : Meaning) (tape' store' : List ℕ) → tapeBytes m ≤ length tape → bytes m ≤ length store → tape' ≡ sets tape 0 (tapeOf m) → store' ≡ sets store 0 (storeOf m) → Does (Ok m) tape store (Counts (records m) (bytes m)) tape' store'
-  unfolding unless
-  filled-does m tape' store' h k t s =
-      by-answer m (Counts (records m) (bytes m)) tape' store' (enough m h k)
-      (t ∙ sets-front tape (tapeOf m) (omega (arith, tape-length m)))
-      (s ∙ sets-front store (storeOf m) k)
-
--- a text that is measured is short, and its verdict is the machine's
-ok-not : {m : Meaning} {why : Refusal} → No why ≡ Ok m → ⊥
-ok-not e = let z : _≡_ {A = ℕ} 0 1 = cc in omega arith
-
-decoded-reads : (text : List ℕ) (a : Utf8Answer) (m : Meaning) → decoded a text ≡ Ok m → reading text ≡ Ok m
-unfolding decoded
-decoded-reads text Done m e = e
-decoded-reads text (IllFormed p) m e = absurd (ok-not e)
-
-record Heard (text : List ℕ) (m : Meaning) : Type 0 where
-  short : length text ≤ textLimit
-  reads : reading text ≡ Ok m
-
-heard : (text : List ℕ) (m : Meaning) → verdict text ≡ Ok m → Heard text m
-unfolding verdict
-heard text m e = go (leb (length text) textLimit) refl e
-  where
-    go : (b : Bool) → leb (length text) textLimit ≡ b → cond b (decoded (judged text) text) (No TextTooLong) ≡ Ok m → Heard text m
-    go true l x = record { short = leb-true (length text) textLimit l; reads = decoded-reads text (judged text) m x }
-    go false l x = absurd (ok-not x)
-
-accepted-short : (text : List ℕ) (v : Verdict) → verdict text ≡ v → (r s : ℕ) → Counts r s ≡ measured v → length text ≤ textLimit
-unfolding measured
-accepted-short text (Ok m) o r s e = heard text m o .short
-accepted-short text (No why) o r s e = absurd (counts-not e)
-
-accepted-reads : (text : List ℕ) (v : Verdict) → verdict text ≡ v → (r s : ℕ) → Counts r s ≡ measured v → verdict text ≡ reading text
-unfolding measured
-accepted-reads text (Ok m) o r s e = o ∙ sym (heard text m o .reads)
-accepted-reads text (No why) o r s e = absurd (counts-not e)
+no-meaning : {m : Meaning} {why : Refusal} → Ok m ≡ No why → ⊥
+no-meaning e = let z : _≡_ {A = ℕ} 0 1 = cc in omega arith
 
 module _ (text tape store : List ℕ) where
   pub read-refused : (why : Refusal) → Measures text (Refused why) → Reads text tape store (Refused why) tape store
-  read-refused why e = reads-by (refused-does tape store (verdict text) why e)
+  read-refused why (sizes x e) = absurd (done-apart (sym e))
+  read-refused why (Measures.no-text x e) = Reads.no-text x e
 
   module _ (r s : ℕ) (e : Measures text (Counts r s)) where
+    its : Sized text r s
+    its = measure-accepts text r s e
+
     pub read-tape-short : length tape < r * 16 → Reads text tape store (Refused (TapeTooShort (r * 16))) tape store
-    read-tape-short h = reads-by (short-does tape store (verdict text) r s e h)
+    read-tape-short h = tape-short (its .text-means) (omega (arith, its .counted)) (ap (λ (x : ℕ). refused 8 (x * 16)) (its .counted))
 
     pub read-store-short : r * 16 ≤ length tape → length store < s → Reads text tape store (Refused (StoreTooShort s)) tape store
-    read-store-short h k = reads-by (lacking-does tape store (verdict text) r s e h k)
+    read-store-short h k = store-short (its .text-means) (omega (arith, its .counted)) (omega (arith, its .held)) (ap (refused 9) (its .held))
 
     pub read-short : length text ≤ textLimit
-    read-short = accepted-short text (verdict text) refl r s e
+    read-short = text-short (its .text-means)
 
     pub read-few : r ≤ length text
-    read-few = bounded (measure-accepts text r s e) .0
+    read-few = bounded its .0
+
+    -- the walk comes to the meaning that was measured
+    walked-as : (m : Meaning) → reading text ≡ Ok m → its .meaning ≡ m
+    walked-as m w = same-ok (sym (reads (its .text-means)) ∙ w)
+      where
+        same-ok : {x y : Meaning} → Ok x ≡ Ok y → x ≡ y
+        same-ok z = cc
 
     pub read-walked : (tape' store' : List ℕ) (a : Answer) → r * 16 ≤ length tape → s ≤ length store → WalkSays text tape tape' store store' a → Reads text tape store a tape' store'
-    unfolding measured
-    read-walked tape' store' (Refused why) h k w = absurd (counts-not (e ∙ ap measured (accepted-reads text (verdict text) refl r s e ∙ w)))
+    read-walked tape' store' (Refused why) h k w = absurd (no-meaning (sym (reads (its .text-means)) ∙ w))
     read-walked tape' store' (Counts x y) h k (m, w, ex, ey) =
-        let o : verdict text ≡ Ok m = accepted-reads text (verdict text) refl r s e ∙ w .reads in
-        let c : Counts r s ≡ Counts (records m) (bytes m) = e ∙ ap measured o in
-        let n : r ≡ records m = cc in
-        let b : s ≡ bytes m = cc in
-        let d : Does (Ok m) tape store (Counts (records m) (bytes m)) tape' store' = filled-does tape store m tape' store' (omega arith) (omega arith) (w .taped (omega arith)) (w .filled) in
-        reads-by (subst (λ (v : Verdict). Does v tape store (Counts x y) tape' store') (sym o) (subst (λ (f : Answer). Does (Ok m) tape store f tape' store') (sym (ap₂ (λ (i j : ℕ). Counts i j) ex ey)) d))
+        let z = walked-as m (w .reads) in
+        let n : r ≡ records m = its .counted ∙ ap records z in
+        let b : s ≡ bytes m = its .held ∙ ap bytes z in
+        let t : tape' ≡ laid (tapeOf m) tape = w .taped (omega arith) ∙ sets-front tape (tapeOf m) (omega (arith, tape-length m)) in
+        let u : store' ≡ laid (storeOf m) store = w .filled ∙ sets-front store (storeOf m) (omega arith) in
+        rw (t, u) (filled (subst (Text true text) z (its .text-means)) (omega arith) (omega arith) (ap₂ (λ (i j : ℕ). done (i, j)) ex ey))

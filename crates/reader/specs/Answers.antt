@@ -1,68 +1,45 @@
--- What `measure` and `read` promise (document 01, "The calls"). Assumes nothing.
+-- What `measure` and `read` promise (document 01, "The calls"), by the grammar alone. Assumes nothing.
 use mathlib.Core.Path.{_≡_}
-use mathlib.Core.Bool.{cond}
-use mathlib.Core.List.{List, _++_}
-use Prim.Native.Nat.{ℕ, _*_, _≤_}
-use lib.Dec.{ltb}
-use lib.ListN.{length, drop}
-use lib.Seq.{sets}
+use mathlib.Core.Bool.{true}
+use mathlib.Core.List.{List}
+use Prim.Native.Nat.{ℕ, _*_, _≤_, _<_}
+use lib.ListN.{length}
+use Rattle.rules.specs.Paper.{Said, done, refused}
 use Rattle.meaning.specs.declared.Refusal.{Refusal}
-use Rattle.meaning.specs.declared.Refusal.the-variants.{TapeTooShort, StoreTooShort}
+use Rattle.meaning.specs.Bytes.{laid}
 use Rattle.meaning.specs.Meaning.{Meaning}
+use Rattle.meaning.specs.Paper.{refusalSaid}
 use Rattle.meaning.specs.Tape.{records, bytes, tapeOf, storeOf}
-use Rattle.machine.specs.Machine.{Verdict, Ok, No, reading}
-use Rattle.machine.specs.Verdict.{verdict}
+use Rattle.grammar.specs.Values.{Text}
+use Rattle.grammar.specs.Refused.{Text-refused}
 use Rattle.reader.specs.declared.Answer.{Answer}
-use Rattle.reader.specs.declared.Answer.the-variants.{Counts, Refused}
 
--- the number of records and of store bytes, or the refusal
-unfoldable pub measured : Verdict → Answer
-measured (Ok m) = Counts (records m) (bytes m)
-measured (No why) = Refused why
+-- in document 01's terms: the number of records and of store bytes, or a refusal
+abbrev pub answerSaid : Answer → Said (ℕ × ℕ)
+answerSaid (Answer.Counts recordCount byteCount) = done (recordCount, byteCount)
+answerSaid (Answer.Refused why) = refusalSaid why
+
+-- what `measure` may answer for this text
+pub data Measures (text : List ℕ) (a : Answer) : Type 0 where
+  -- the sizes of its meaning
+  sizes : {m : Meaning} → Text true text m → answerSaid a ≡ done (records m, bytes m) → Measures text a
+  -- 1 to 7
+  no-text : {why : Refusal} → Text-refused text why → answerSaid a ≡ refusalSaid why → Measures text a
 
 -- the tape bytes that a meaning needs
 abbrev pub tapeBytes : Meaning → ℕ
 tapeBytes m = records m * 16
 
--- 8, tape too short; then 9, store too short; a tape and a store of these lengths
-unfoldable pub answered : Verdict → ℕ → ℕ → Answer
-answered (No why) tape store = Refused why
-answered (Ok m) tape store =
-    cond (ltb tape (tapeBytes m)) (Refused (TapeTooShort (tapeBytes m)))
-    (cond (ltb store (bytes m)) (Refused (StoreTooShort (bytes m))) (Counts (records m) (bytes m)))
-
--- x over the start of the bytes, where the answer is no refusal; what lies past it is unchanged
-unfoldable pub unless : Answer → List ℕ → List ℕ → List ℕ
-unless (Refused why) x entry = entry
-unless (Counts r s) x entry = x ++ drop (length x) entry
-
--- the tape, and the store, after `read`
-unfoldable pub tapeAfter : Verdict → List ℕ → List ℕ → List ℕ
-tapeAfter (No why) tape store = tape
-tapeAfter (Ok m) tape store = unless (answered (Ok m) (length tape) (length store)) (tapeOf m) tape
-
-unfoldable pub storeAfter : Verdict → List ℕ → List ℕ → List ℕ
-storeAfter (No why) tape store = store
-storeAfter (Ok m) tape store = unless (answered (Ok m) (length tape) (length store)) (storeOf m) store
-
--- one walk over a text
-pub record Walked (text tape tape' store store' : List ℕ) (m : Meaning) : Type 0 where
-  pub reads : reading text ≡ Ok m
-  pub taped : tapeBytes m ≤ length tape → tape' ≡ sets tape 0 (tapeOf m)
-  pub filled : store' ≡ sets store 0 (storeOf m)
-  pub few : records m ≤ length text
-  pub short : bytes m ≤ length text
-
-abbrev pub WalkSays : List ℕ → List ℕ → List ℕ → List ℕ → List ℕ → Answer → Type 0
-WalkSays text tape tape' store store' (Counts r s) = (m : Meaning) × Walked text tape tape' store store' m × (r ≡ records m) × (s ≡ bytes m)
-WalkSays text tape tape' store store' (Refused why) = reading text ≡ No why
-
--- what `measure` may answer for this text
-abbrev pub Measures : List ℕ → Answer → Type 0
-Measures text a = a ≡ measured (verdict text)
-
--- what `read` may answer, and leave in what it was lent
-pub record Reads (text tape store : List ℕ) (a : Answer) (tape' store' : List ℕ) : Type 0 where
-  pub answers : a ≡ answered (verdict text) (length tape) (length store)
-  pub taped : tape' ≡ tapeAfter (verdict text) tape store
-  pub stored : store' ≡ storeAfter (verdict text) tape store
+-- what `read` may answer, and leave in the tape and the store that it was lent
+pub data Reads (text tape store : List ℕ) (a : Answer) : List ℕ → List ℕ → Type 0 where
+  -- the tape and the store of the text's meaning from their start; what lies past them is unchanged
+  filled : {m : Meaning} → Text true text m → tapeBytes m ≤ length tape → bytes m ≤ length store
+      → answerSaid a ≡ done (records m, bytes m)
+      → Reads text tape store a (laid (tapeOf m) tape) (laid (storeOf m) store)
+  -- 8, with the tape bytes needed; then 9, with the store bytes needed
+  tape-short : {m : Meaning} → Text true text m → length tape < tapeBytes m
+      → answerSaid a ≡ refused 8 (tapeBytes m) → Reads text tape store a tape store
+  store-short : {m : Meaning} → Text true text m → tapeBytes m ≤ length tape → length store < bytes m
+      → answerSaid a ≡ refused 9 (bytes m) → Reads text tape store a tape store
+  -- 1 to 7
+  no-text : {why : Refusal} → Text-refused text why → answerSaid a ≡ refusalSaid why → Reads text tape store a tape store

@@ -12,3 +12,5 @@ pub mod Binaries
 pub mod Cursors
 -- Answers: what `measure` and `read` promise
 pub mod Answers
+-- Walk: what one walk over a text promises them
+pub mod Walk

@@ -3,10 +3,7 @@ use mathlib.Core.Path.{_≡_}
 use mathlib.Core.List.{List, _++_}
 use Prim.Native.Nat.{ℕ, _+_}
 use lib.ListN.{length, take, drop}
-
--- t over the start of o: what lies past it is unchanged
-abbrev pub laid : List ℕ → List ℕ → List ℕ
-laid t o = t ++ drop (length t) o
+pub use Rattle.meaning.specs.Bytes.{laid}
 
 -- t over o from the place `at` on
 abbrev pub laidAt : List ℕ → ℕ → List ℕ → List ℕ

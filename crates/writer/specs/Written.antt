@@ -6,13 +6,13 @@ use mathlib.Core.Option.{none, some}
 use Prim.Native.Nat.{ℕ, _≤_, _<_}
 use lib.ListN.{length}
 use Rattle.rules.specs.Paper.{done, refused}
+use Rattle.meaning.specs.Bytes.{laid}
 use Rattle.meaning.specs.Limits.{textLimit}
 use Rattle.meaning.specs.Tape.{WellFormed}
 use Rattle.meaning.specs.Canonical.{canonical}
 use Rattle.meaning.specs.Json.{noJson, json}
 use Rattle.writer.specs.declared.Written.{Written}
 use Rattle.writer.specs.Paper.{writeSaid}
-use Rattle.writer.specs.Laid.{laid}
 
 -- a text t over an output o
 pub data Writes (t o : List ℕ) (a : Written) : List ℕ → Type 0 where

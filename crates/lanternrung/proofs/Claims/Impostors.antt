@@ -341,7 +341,7 @@ all-utf8 f r k =
 
 no-utf8 : (f : List ℕ → Utf8Answer) → ((s : List ℕ) → (k : ℕ) × (f s ≡ Utf8Answer.IllFormed k)) → KeepsUtf8 f → ⊥
 no-utf8 f r k =
-    let e = one-outcome-utf8 (Judged.done Octets.none) (k [] (record { each = tt; few = lit< tt })) in
+    let e = one-outcome-utf8 (Judged.done Octets.none refl) (k [] (record { each = tt; few = lit< tt })) in
     let q = r [] .1 in
     let z : _≡_ {A = ℕ} 0 1 = cc in
     omega arith
@@ -355,7 +355,7 @@ february-30 d =
 
 long-months : (f : Calendar) → ((y m d : ℕ) → y ≤ 9999 → 1 ≤ m → m ≤ 12 → 1 ≤ d → d ≤ 31 → f y m d ≡ DateAnswer.Done) → KeepsDate f → ⊥
 long-months f r k =
-    let e = one-outcome-date (Dated.none february-30) (k 2000 2 30 (lit< tt) (lit< tt) (lit< tt)) in
+    let e = one-outcome-date (Dated.none february-30 refl) (k 2000 2 30 (lit< tt) (lit< tt) (lit< tt)) in
     let q = r 2000 2 30 (lit≤ tt) (lit≤ tt) (lit≤ tt) (lit≤ tt) (lit≤ tt) in
     let z : _≡_ {A = ℕ} 0 1 = cc in
     omega arith
@@ -363,7 +363,7 @@ long-months f r k =
 no-date : (f : Calendar) → ((y m d : ℕ) → f y m d ≡ DateAnswer.NoDate) → KeepsDate f → ⊥
 unfolding isDate isLeap
 no-date f r k =
-    let e = one-outcome-date (Dated.done (is-date {y = 2000} {m = 2} {d = 29} refl)) (k 2000 2 29 (lit< tt) (lit< tt) (lit< tt)) in
+    let e = one-outcome-date (Dated.done (is-date {y = 2000} {m = 2} {d = 29} refl) refl) (k 2000 2 29 (lit< tt) (lit< tt) (lit< tt)) in
     let q = r 2000 2 29 in
     let z : _≡_ {A = ℕ} 0 1 = cc in
     omega arith

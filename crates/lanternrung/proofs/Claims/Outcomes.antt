@@ -28,7 +28,7 @@ pub record Untouched : Type 0 where
 pub untouched : Untouched
 untouched =
     record {
-      read = λ {text} {tape} {store} {why} {tape'} {store'} p. reader.read-untouched text tape store 0 0 tape' store' why p;
+      read = λ {text} {tape} {store} {why} {tape'} {store'} p. reader.read-untouched text tape store tape' store' why p;
       write-jaxn = λ p. writer.untouched-jaxn p refl;
       write-json = λ p. writer.untouched-json p refl;
     }

@@ -15,16 +15,17 @@ use Rattle.meaning.specs.Limits.{depthLimit}
 use Rattle.meaning.specs.Meaning.{Meaning}
 use Rattle.meaning.specs.Paper.{numberOf, placeOf}
 use Rattle.meaning.specs.Canonical.{decimalIn, decimal, fixed, trimmed, escaped, escapes, quoted, hexPairs, binaryText, powerText, numberText, dateText, fractionText, clockText, timeText, canonical, elementsText}
+use Rattle.grammar.specs.Refused.{Text-refused}
 use Rattle.machine.specs.Numeric.{strip, settle}
 use Rattle.machine.specs.Strings as S
 use Rattle.machine.specs.Binaries as B
 use Rattle.machine.specs.Names as N
 use Rattle.machine.specs.Machine.{Verdict, Ok, No, read, reading}
 use Rattle.machine.specs.Verdict.{decoded, verdict}
-use Rattle.machine.proofs.Whole.{complete, sound, unambiguous}
+use Rattle.machine.proofs.Whole.{sound, unambiguous}
+use Rattle.machine.proofs.Refusals.Whole.{text-refusals, not-refused}
 use Rattle.reader.specs.declared.Answer.{Answer}
-use Rattle.reader.specs.Answers.{answered}
-use Rattle.reader.specs.Answers as reader
+use Rattle.reader.proofs.Claims.{measure-refuses, read-refuses}
 use Rattle.lanternrung.specs.Samples.{samples, slips, IsTaken, Says, IsRefused, All, done, _&_}
 use Rattle.lanternrung.proofs.Claims.Reading.{accepted, measured}
 
@@ -42,12 +43,12 @@ takes text m printed e p =
     }
 
 refuses : (text : List ℕ) (why : Refusal) → verdict text ≡ No why → IsRefused text (numberOf why) (placeOf why)
-unfolding reader.measured answered
 refuses text why e =
+    let x : Text-refused text why = text-refusals text why .0 e in
     record {
-      meaningless = λ m x. let f = complete x in let z : _≡_ {A = ℕ} 0 1 = cc in omega arith;
-      measured = λ a q. said a (q ∙ ap reader.measured e);
-      read = λ tape store a tape' store' q. said a (q .answers ∙ ap (λ (v : Verdict). answered v (length tape) (length store)) e);
+      meaningless = λ m y. not-refused y x;
+      measured = λ a q. said a (measure-refuses x q);
+      read = λ tape store a tape' store' q. said a (read-refuses x q);
     }
   where
     said : (a : Answer) → a ≡ Answer.Refused why → Says (numberOf why) (placeOf why) a

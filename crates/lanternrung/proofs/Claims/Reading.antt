@@ -1,17 +1,26 @@
--- accepted, measured, bounded, unambiguous: what `measure` and `read` answer, by the grammar. Assumes nothing.
-use mathlib.Core.Path.{_≡_, refl, subst}
+-- accepted, measured, refusals, one-refusal, bounded, unambiguous: what `measure` and `read` answer, by the grammar. Assumes nothing.
+use mathlib.Core.Path.{_≡_, refl, sym, ap, _∙_, subst}
 use mathlib.Core.Logic.{_↔_}
 use mathlib.Core.Bool.{true}
 use mathlib.Core.List.{List, _++_}
 use Prim.Native.Nat.{ℕ, _*_, _≤_}
 use native.Mathlib.Omega.{arith}
 use lib.ListN.{length, drop}
+use Rattle.rules.specs.Paper.{numberSaid}
+use Rattle.rules.specs.Rfc3629.{Octets}
+use Rattle.rules.proofs.Outcomes.{done-apart}
+use Rattle.meaning.specs.declared.Refusal.{Refusal}
+use Rattle.meaning.specs.Paper.{numberOf, placeOf, refusalSaid}
+use Rattle.meaning.proofs.Paper.{same-refusal}
 use Rattle.meaning.specs.Meaning.{Meaning}
 use Rattle.meaning.specs.Tape.{records, bytes, tapeOf, storeOf}
 use Rattle.meaning.proofs.Whole.{tape-length}
 use Rattle.grammar.specs.Values.{Text}
+use Rattle.grammar.specs.Refused.{Refused, Text-refused}
 use Rattle.grammar.proofs.Sizes.{text-fits}
+use Rattle.machine.specs.Machine.{No, reading}
 use Rattle.machine.proofs.Whole as machine
+use Rattle.machine.proofs.Refusals.Whole as machine-refusals
 use Rattle.reader.specs.declared.Answer.{Answer}
 use Rattle.reader.specs.Answers.{tapeBytes, Measures, Reads}
 use Rattle.reader.proofs.Claims as reader
@@ -54,7 +63,7 @@ accepted {text} {tape} {store} {a} {tape'} {store'} p = record { exactly = (only
 
     held : (m : Meaning) → Takes text tape store m → Holds m tape store a tape' store'
     held m w =
-        let e = reader.accepts-read text tape store 0 0 tape' store' a m (w .means) (w .tape-room) (w .store-room) p in
+        let e = reader.accepts-read text tape store tape' store' a m (w .means) (w .tape-room) (w .store-room) p in
         let h = by-counts e in
         let q = unambiguous (h .text-means) (w .means) in
         record { answer = e; taped = rw q at (h .taped); stored = rw q at (h .stored) }
@@ -79,6 +88,38 @@ measured {text} {a} p = record { exactly = (only, λ w. (records (w .0), bytes (
 
     sized : (m : Meaning) → Text true text m → Sizes m a
     sized m x = record { answer = reader.one-outcome-measure text a (Answer.Counts (records m) (bytes m)) p (reader.accepts-measure x); tape-size = tape-length m; store-size = refl }
+
+-- ---- refusals: which of 1 to 7 is given, and where
+
+pub record Refusals : Type 0 where
+  -- the machine, of UTF-8: 3 to 7
+  pub machine : (text : List ℕ) → Octets text → (why : Refusal) → (reading text ≡ No why) ↔ Refused text why
+  pub measure : {text : List ℕ} {a : Answer} {why : Refusal} → Measures text a → (a ≡ Answer.Refused why) ↔ Text-refused text why
+  -- whatever is lent
+  pub read : {text tape store : List ℕ} {a : Answer} {tape' store' : List ℕ} {why : Refusal} → Reads text tape store a tape' store' → numberOf why ≤ 7
+      → (a ≡ Answer.Refused why) ↔ Text-refused text why
+
+measure-why : {text : List ℕ} {why : Refusal} → Measures text (Answer.Refused why) → Text-refused text why
+measure-why (Measures.sizes x e) = absurd (done-apart (sym e))
+measure-why {text} {why} (Measures.no-text {why = w} x e) = subst (Text-refused text) (same-refusal w why (sym e)) x
+
+read-why : {text tape store : List ℕ} {tape' store' : List ℕ} {why : Refusal} → Reads text tape store (Answer.Refused why) tape' store' → numberOf why ≤ 7 → Text-refused text why
+read-why (Reads.filled x h k e) n = absurd (done-apart (sym e))
+read-why (Reads.tape-short x h e) n = absurd (let z = ap numberSaid e in omega arith)
+read-why (Reads.store-short x h k e) n = absurd (let z = ap numberSaid e in omega arith)
+read-why {text} {why = why} (Reads.no-text {why = w} x e) n = subst (Text-refused text) (same-refusal w why (sym e)) x
+
+pub refusals : Refusals
+refusals =
+    record {
+      machine = machine-refusals.refusals;
+      measure = λ {text} p. (λ e. measure-why (subst (Measures text) e p), λ x. reader.measure-refuses x p);
+      read = λ {text} {tape} {store} {a} {tape'} {store'} p n. (λ e. read-why (subst (λ (x : Answer). Reads text tape store x tape' store') e p) n, λ x. reader.read-refuses x p);
+    }
+
+-- two refusals that the grammar gives a text are one
+pub one-refusal : {text : List ℕ} {v w : Refusal} → Text-refused text v → Text-refused text w → v ≡ w
+one-refusal = machine-refusals.one-text-refusal
 
 -- ---- bounded: for every accepted text, records and store bytes are each at most its length
 

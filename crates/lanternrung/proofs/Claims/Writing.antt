@@ -19,11 +19,10 @@ use Rattle.grammar.specs.Values.{Text}
 use Rattle.grammar.proofs.Good.{text-good}
 use Rattle.grammar.proofs.Sizes.{text-fits}
 use Rattle.grammar.proofs.Canonical.{text-derived}
-use Rattle.machine.specs.Verdict.{verdict}
-use Rattle.machine.proofs.Whole.{complete, canonical-reads, same-canonical}
+use Rattle.machine.proofs.Whole.{same-canonical}
 use Rattle.reader.specs.declared.Answer.{Answer}
 use Rattle.reader.specs.Answers.{tapeBytes, Reads}
-use Rattle.reader.proofs.Claims.{one-outcome-read, read-accepts}
+use Rattle.reader.proofs.Claims.{one-outcome-read, reads-as, read-accepts}
 use Rattle.writer.specs.declared.Written.{Written}
 use Rattle.writer.specs.Written.{Writes, too-long, too-short, WritesJaxn, WritesJson}
 use Rattle.writer.proofs.Outcomes as writer
@@ -63,24 +62,24 @@ pub record IsWritten : Type 0 where
 
 -- from the text to the output
 printed : {t out out' : List ℕ} {a : Written} → Room t out → Writes t out a out' → Prints t out a out'
-printed r (too-long h) = absurd (omega (arith, r .short))
-printed r (too-short h g) = absurd (omega (arith, r .fits))
-printed r (Writes.written h g) = record { answer = refl; holds = refl }
+printed r (too-long h s) = absurd (omega (arith, r .short))
+printed r (too-short h g s) = absurd (omega (arith, r .fits))
+printed {t} {a = a} r (Writes.written h g s) = record { answer = writer.same-written a (Written.Wrote (length t)) s; holds = refl }
 
 -- done: then within the limit, and with room
 roomy : {t out out' : List ℕ} {a : Written} {n : ℕ} → Writes t out a out' → a ≡ Written.Wrote n → Room t out
-roomy (too-long h) e = let z : _≡_ {A = ℕ} 0 1 = cc in absurd (omega arith)
-roomy (too-short h g) e = let z : _≡_ {A = ℕ} 0 1 = cc in absurd (omega arith)
-roomy (Writes.written h g) e = record { short = h; fits = g }
+roomy (too-long h s) e = absurd (writer.wrote-apart s e)
+roomy (too-short h g s) e = absurd (writer.wrote-apart s e)
+roomy (Writes.written h g s) e = record { short = h; fits = g }
 
 module _ {tape store out : List ℕ} where
   jaxn-done : {a : Written} {out' : List ℕ} {n : ℕ} → WritesJaxn tape store out a out' → a ≡ Written.Wrote n → (w : WellFormed tape store) × Room (canonical (w .meaning)) out
-  jaxn-done (WritesJaxn.ill n) e = let z : _≡_ {A = ℕ} 0 1 = cc in absurd (omega arith)
+  jaxn-done (WritesJaxn.ill n s) e = absurd (writer.wrote-apart s e)
   jaxn-done (WritesJaxn.text w p) e = (w, roomy p e)
 
   json-done : {a : Written} {out' : List ℕ} {n : ℕ} → WritesJson tape store out a out' → a ≡ Written.Wrote n → (w : WellFormed tape store) × (noJson (w .meaning) ≡ none) × Room (canonical (w .meaning)) out
-  json-done (WritesJson.ill n) e = let z : _≡_ {A = ℕ} 0 1 = cc in absurd (omega arith)
-  json-done (WritesJson.formless w f) e = let z : _≡_ {A = ℕ} 0 1 = cc in absurd (omega arith)
+  json-done (WritesJson.ill n s) e = absurd (writer.wrote-apart s e)
+  json-done (WritesJson.formless w f s) e = absurd (writer.wrote-apart s e)
   json-done (WritesJson.text w f p) e = (w, f, roomy p e)
 
   jaxn-written : {a : Written} {out' : List ℕ} → WritesJaxn tape store out a out' → WrittenJaxn tape store out a out'
@@ -160,9 +159,7 @@ back-meaning {m} g l h k p = accepted p .then m (record { means = text-derived m
 
 back-text : {text : List ℕ} {m : Meaning} {tape store : List ℕ} {a b : Answer} {t u s v : List ℕ} → Text true text m → length (canonical m) ≤ textLimit
     → Reads text tape store a t s → Reads (canonical m) tape store b u v → (a ≡ b) × (t ≡ u) × (s ≡ v)
-back-text {text} {m} {tape} {store} {a} {b} {t} {u} {s} {v} x l p q =
-    let e : verdict text ≡ verdict (canonical m) = complete x ∙ sym (canonical-reads m (text-good x) l) in
-    one-outcome-read p (record { answers = rw e (q .answers); taped = rw e (q .taped); stored = rw e (q .stored) })
+back-text x l p q = one-outcome-read p (reads-as (text-derived _ (text-good x) l) x q)
 
 -- over a buffer that is no longer
 all-of : (x t : List ℕ) → length t ≤ length x → x ++ drop (length x) t ≡ x
