@@ -35,6 +35,7 @@ use Rattle.meaning.proofs.Fitting.{octets-bytes, store-bytes}
 use Rattle.meaning.proofs.Quotes.{ascii-octets}
 use Rattle.meaning.proofs.Whole.{tape-length, tape-bytes}
 use Rattle.grammar.specs.Values.{Text}
+use Rattle.grammar.specs.Refused.{Text-refused}
 use Rattle.grammar.proofs.Utf8.{text-octets}
 use Rattle.grammar.proofs.Good.{text-good}
 use Rattle.grammar.proofs.Sizes.{text-fits}
@@ -44,6 +45,7 @@ use Rattle.tape.specs.Looking.{Looks}
 use Rattle.tape.proofs.Outcomes.{look-well-formed}
 use Rattle.reader.specs.declared.Answer.{Answer}
 use Rattle.reader.specs.Answers.{tapeBytes, Measures, Reads}
+use Rattle.reader.proofs.Claims.{measure-refuses, read-refuses}
 use Rattle.writer.specs.declared.Written.{Written}
 use Rattle.writer.specs.Written.{WritesJaxn, WritesJson}
 use Rattle.lanternrung.specs.Samples.{Outcome, Says, IsTaken, Case, All, _&_}
@@ -121,6 +123,9 @@ pub record Impostors : Type 0 where
   pub invents : (f : Measurer) {text : List ℕ} {m : Meaning} → Text true text m → (f text ≡ Answer.Counts (records m) (bytes m) → ⊥) → KeepsMeasure f → ⊥
   pub one-count : (f : Measurer) (r s : ℕ) → ((text : List ℕ) → Done (f text) → f text ≡ Answer.Counts r s) → KeepsMeasure f → ⊥
   pub counts-all : (f : Measurer) → ((text : List ℕ) → Done (f text)) → KeepsMeasure f → ⊥
+  -- a measure, and a reader, that refuses some text with another number or at another place than the grammar
+  pub misplaces : (f : Measurer) {text : List ℕ} {why : Refusal} → Lent text → Text-refused text why → (f text ≡ Answer.Refused why → ⊥) → KeepsMeasure f → ⊥
+  pub misplaces-reading : (f : Reader) {text : List ℕ} {why : Refusal} → Lent text → Text-refused text why → (f text [] [] .0 ≡ Answer.Refused why → ⊥) → KeepsRead f → ⊥
   -- a look that answers `null` for all, or refuses all
   pub looks-null : (f : Looker) → ((tape store : List ℕ) (index : ℕ) → index < wholeRecords tape → f tape store index ≡ Looked.Record Record.Null) → KeepsLook f → ⊥
   pub looks-nowhere : (f : Looker) → ((tape store : List ℕ) (index : ℕ) → (why : Refusal) × (f tape store index ≡ Looked.Refused why)) → KeepsLook f → ⊥
@@ -314,6 +319,12 @@ counts-all f g k =
 looked : {m : Meaning} (s : Small m) (f : Looker) → KeepsLook f → 0 < records m → f (tapeOf m) (storeOf m) 0 ≡ Looked.Record (getD (recordsOf m 0 0) 0 Record.Null)
 looked {m} s f k h = look-well-formed (well-formed s) h (k (tapeOf m) (storeOf m) 0 (tape-lent s) (store-lent s) (lit< tt))
 
+misplaces : (f : Measurer) {text : List ℕ} {why : Refusal} → Lent text → Text-refused text why → (f text ≡ Answer.Refused why → ⊥) → KeepsMeasure f → ⊥
+misplaces f {text} l x n k = n (measure-refuses x (k text l))
+
+misplaces-reading : (f : Reader) {text : List ℕ} {why : Refusal} → Lent text → Text-refused text why → (f text [] [] .0 ≡ Answer.Refused why → ⊥) → KeepsRead f → ⊥
+misplaces-reading f {text} l x n k = let nothing : Lent [] = record { each = tt; few = lit< tt } in n (read-refuses x (k text [] [] l nothing nothing))
+
 looks-null : (f : Looker) → ((tape store : List ℕ) (index : ℕ) → index < wholeRecords tape → f tape store index ≡ Looked.Record Record.Null) → KeepsLook f → ⊥
 unfolding records recordsOf
 looks-null f r k =
@@ -341,7 +352,7 @@ all-utf8 f r k =
 
 no-utf8 : (f : List ℕ → Utf8Answer) → ((s : List ℕ) → (k : ℕ) × (f s ≡ Utf8Answer.IllFormed k)) → KeepsUtf8 f → ⊥
 no-utf8 f r k =
-    let e = one-outcome-utf8 (Judged.done Octets.none refl) (k [] (record { each = tt; few = lit< tt })) in
+    let e : Utf8Answer.Done ≡ f [] = one-outcome-utf8 (Judged.done Octets.none refl) (k [] (record { each = tt; few = lit< tt })) in
     let q = r [] .1 in
     let z : _≡_ {A = ℕ} 0 1 = cc in
     omega arith
@@ -355,7 +366,7 @@ february-30 d =
 
 long-months : (f : Calendar) → ((y m d : ℕ) → y ≤ 9999 → 1 ≤ m → m ≤ 12 → 1 ≤ d → d ≤ 31 → f y m d ≡ DateAnswer.Done) → KeepsDate f → ⊥
 long-months f r k =
-    let e = one-outcome-date (Dated.none february-30 refl) (k 2000 2 30 (lit< tt) (lit< tt) (lit< tt)) in
+    let e : DateAnswer.NoDate ≡ f 2000 2 30 = one-outcome-date (Dated.none february-30 refl) (k 2000 2 30 (lit< tt) (lit< tt) (lit< tt)) in
     let q = r 2000 2 30 (lit≤ tt) (lit≤ tt) (lit≤ tt) (lit≤ tt) (lit≤ tt) in
     let z : _≡_ {A = ℕ} 0 1 = cc in
     omega arith
@@ -363,7 +374,7 @@ long-months f r k =
 no-date : (f : Calendar) → ((y m d : ℕ) → f y m d ≡ DateAnswer.NoDate) → KeepsDate f → ⊥
 unfolding isDate isLeap
 no-date f r k =
-    let e = one-outcome-date (Dated.done (is-date {y = 2000} {m = 2} {d = 29} refl) refl) (k 2000 2 29 (lit< tt) (lit< tt) (lit< tt)) in
+    let e : DateAnswer.Done ≡ f 2000 2 29 = one-outcome-date (Dated.done (is-date {y = 2000} {m = 2} {d = 29} refl) refl) (k 2000 2 29 (lit< tt) (lit< tt) (lit< tt)) in
     let q = r 2000 2 29 in
     let z : _≡_ {A = ℕ} 0 1 = cc in
     omega arith
@@ -382,6 +393,8 @@ impostors =
       invents = invents;
       one-count = one-count;
       counts-all = counts-all;
+      misplaces = misplaces;
+      misplaces-reading = misplaces-reading;
       looks-null = looks-null;
       looks-nowhere = looks-nowhere;
       all-utf8 = all-utf8;
