@@ -1,4 +1,4 @@
--- Document 002, "Binary Data". Assumes nothing.
+-- Binary: a dollar with nothing, a quoted form or hex pairs (docs/FORMAT.md, 4). Assumes nothing.
 use Prim.Native.Nat.{ℕ}
 use mathlib.Core.List.{List, [], _∷_, _++_}
 use Rattle.meaning.specs.Letters.{letters, ch}

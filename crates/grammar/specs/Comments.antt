@@ -1,4 +1,4 @@
--- Document 002, "Comments". Assumes nothing.
+-- Layout: comments and blanks (docs/FORMAT.md, 2). Assumes nothing.
 use Prim.Native.Nat.{ℕ}
 use mathlib.Core.List.{List, [], _∷_, _++_}
 use Rattle.meaning.specs.Letters.{letters, ch}

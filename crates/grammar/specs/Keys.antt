@@ -1,4 +1,4 @@
--- Document 002, "Unquoted Object Keys". Assumes nothing.
+-- Keys: strings and identifiers (docs/FORMAT.md, 7.2). Assumes nothing.
 use Prim.Native.Nat.{ℕ}
 use mathlib.Core.Bool.{Bool}
 use mathlib.Core.List.{List, [], _∷_, _++_}

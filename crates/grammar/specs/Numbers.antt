@@ -1,4 +1,4 @@
--- Document 002, "Numbers"; document 01, "Meanings". Assumes nothing.
+-- Numbers, and the sign, coefficient and power that each means (docs/FORMAT.md, 5). Assumes nothing.
 use Prim.Native.Nat.{ℕ, zero, suc, _+_, _*_, _-_, _≤_, _<_, _%_, _^_}
 use mathlib.Core.Path.{_≡_}
 use mathlib.Core.Bool.{Bool, true, false}

@@ -1,4 +1,4 @@
--- Document 002, "Strings"; document 01, "Text rules". Assumes nothing.
+-- Strings: their parts, their escapes, and how parts are joined (docs/FORMAT.md, 3). Assumes nothing.
 use Prim.Native.Nat.{ℕ, zero, suc, _+_, _*_, _-_}
 use mathlib.Core.Path.{_≡_}
 use mathlib.Core.Bool.{Bool}

@@ -1,4 +1,4 @@
--- Document 002, "Date / Time"; document 01, "Meanings". Assumes nothing.
+-- Dates and times, and the fields that each means (docs/FORMAT.md, 6). Assumes nothing.
 use Prim.Native.Nat.{ℕ, zero, suc, _+_, _*_, _≤_, _^_}
 use mathlib.Core.Bool.{Bool, true, false}
 use mathlib.Core.List.{List, [], _∷_, _++_}

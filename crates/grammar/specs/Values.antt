@@ -1,4 +1,4 @@
--- Document 002, "Trailing Comma"; RFC 8259's value; document 01's text. Assumes nothing.
+-- Values, arrays and objects, and the whole text (docs/FORMAT.md, 1.2 and 7). Assumes nothing.
 use Prim.Native.Nat.{ℕ, _≤_}
 use mathlib.Core.Bool.{Bool, true, false}
 use mathlib.Core.List.{List, [], _∷_, _++_}

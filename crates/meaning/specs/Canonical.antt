@@ -1,4 +1,4 @@
--- The canonical text of a meaning (document 01, "Canonical text"). Assumes nothing.
+-- The canonical text of a meaning (docs/FORMAT.md, 12). Assumes nothing.
 use mathlib.Core.Bool.{Bool, true, false, cond}
 use mathlib.Core.List.{List, [], _∷_, _++_}
 use Prim.Native.Nat.{ℕ, zero, suc, _+_, _-_, _*_, _/_, _%_}

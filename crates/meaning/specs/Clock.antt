@@ -1,4 +1,4 @@
--- Time of day (document 01, "Meanings"). Assumes nothing.
+-- Time of day (docs/FORMAT.md, 6). Assumes nothing.
 use Prim.Native.Nat.{ℕ, _+_, _*_}
 use Rattle.meaning.specs.Limits.{second}
 

@@ -1,4 +1,4 @@
--- A meaning within the limits (document 01, "Meanings"): its parts one by one, and its depth. Assumes nothing.
+-- A meaning within the limits (docs/FORMAT.md, 8 and 9): its parts one by one, and its depth. Assumes nothing.
 use mathlib.Core.Path.{_≡_}
 use mathlib.Core.Bool.{cond}
 use mathlib.Core.List.{List, [], _∷_}

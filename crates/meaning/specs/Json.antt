@@ -1,4 +1,4 @@
--- JSON text (document 01, refusal 11 and "Canonical text"). Assumes nothing.
+-- JSON text, and which records have none (docs/FORMAT.md, 12). Assumes nothing.
 use mathlib.Core.Bool.{Bool, true, false, cond}
 use mathlib.Core.List.{List, [], _∷_}
 use mathlib.Core.Option.{Option, none, some}

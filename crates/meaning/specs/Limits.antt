@@ -1,4 +1,4 @@
--- The limits of document 01, each named once. Assumes nothing.
+-- The limits (docs/FORMAT.md, 8), each named once. Assumes nothing.
 use Prim.Native.Nat.{ℕ, _*_, _^_}
 
 -- the bytes of a text, read or written

@@ -1,4 +1,4 @@
--- What one record must be by itself (document 01, "The tape": "Look judges one record only"). Assumes nothing.
+-- What one record must be by itself (docs/FORMAT.md, 11.4). Assumes nothing.
 use mathlib.Core.Path.{_≡_}
 use mathlib.Core.List.{List}
 use Prim.Native.Nat.{ℕ, _+_, _*_, _/_, _≤_, _<_}

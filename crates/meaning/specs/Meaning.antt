@@ -1,4 +1,4 @@
--- What a text means (document 01, "Meanings"). Assumes nothing.
+-- What a text means (docs/FORMAT.md, 9). Assumes nothing.
 use mathlib.Core.Bool.{Bool}
 use mathlib.Core.List.{List}
 use Prim.Native.Nat.{ℕ}

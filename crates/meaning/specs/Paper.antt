@@ -1,4 +1,4 @@
--- Document 01's table of refusals: the number and the place of each. Assumes nothing.
+-- The table of refusals (docs/FORMAT.md, 10.1): the number and the place of each. Assumes nothing.
 use Prim.Native.Nat.{ℕ}
 use Rattle.meaning.specs.declared.Refusal.{Refusal}
 use Rattle.meaning.specs.declared.Refusal.the-variants.{TextTooLong, NotUtf8, NotGrammar, BadEscape, BadTime}

@@ -1,4 +1,4 @@
--- The tape and the store (document 01, "The tape"). Assumes nothing.
+-- The tape and the store (docs/FORMAT.md, 11). Assumes nothing.
 use mathlib.Core.Path.{_≡_}
 use mathlib.Core.Bool.{true, false}
 use mathlib.Core.List.{List, [], _∷_, _++_}
