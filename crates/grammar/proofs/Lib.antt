@@ -16,3 +16,5 @@ pub mod Bytewise
 pub mod Canonical
 -- The examples of documents 002 and 01 are derived.
 pub mod Examples
+-- A fault of 4 to 7 comes before any 3.
+pub mod Refused

@@ -1,6 +1,8 @@
--- The checks beside the grammar: number range, calendar and clock, surrogates and 10FFFF, depth, the text's length. A rule that has one takes
--- a Bool: with `true` the rules are JAXN as accepted; with `false` they are the bare grammar, where a text whose checks fail
--- means what the same formulas give (a surrogate by itself is encoded as if it were a character, and so a pair has two meanings). Assumes nothing.
+-- The checks beside the grammar: number range, calendar and clock, surrogates and 10FFFF, depth, the text's length
+-- (docs/FORMAT.md, 8). A rule that has one takes a Bool. With `true` the rules are JAXN as accepted. With `false`
+-- they are the bare grammar, by which Refused says where a text stops being grammar; there a text whose checks fail
+-- means what the same formulas give (a surrogate by itself is encoded as if it were a character, and so a pair has
+-- two meanings), and nothing rests on such a meaning. Assumes nothing.
 use Prim.Native.Nat.{ℕ, suc}
 use mathlib.Core.Bool.{Bool, true, false}
 

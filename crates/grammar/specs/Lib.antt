@@ -1,5 +1,6 @@
--- JAXN's grammar: document 002's ABNF as rules, a module for each of its sections, in its order. A rule's type is 002's name for it with a
--- capital, a class of characters is 002's name as it is; where 002 prints two rules that differ only in the kind of quote, one rule takes the kind. Assumes nothing.
+-- JAXN's grammar: its ABNF as rules, a module for each section of the JAXN specification, in its order. A rule's type
+-- is JAXN's name for it with a capital, a class of characters is JAXN's name as it is; where JAXN prints two rules
+-- that differ only in the kind of quote, one rule takes the kind. Assumes nothing.
 
 -- what holds only where the checks are on
 pub mod Checks

@@ -12,12 +12,14 @@ use Rattle.meaning.specs.Letters.{letters, ch}
 use Rattle.grammar.specs.Checks.{Checked}
 use Rattle.grammar.specs.Characters.{Digit, Decimal, Hexadecimal}
 
--- m × 10 ^ up / 10 ^ dn as a sign, a coefficient that does not end in the digit 0 and a power of ten, nothing rounded; zero has
--- coefficient 0 and power 0. The coefficient is below 2^64; the power lies from -9,999 to 9,999.
+-- m × 10 ^ up / 10 ^ dn as a sign, a coefficient that does not end in the digit 0 and a power of ten, nothing
+-- rounded; zero has coefficient 0 and power 0. The coefficient is below 2^64; the power lies from -9,999 to 9,999.
 pub data Finite (k minus : Bool) (m up dn : ℕ) : M.Number → Type 0 where
   nought : m ≡ 0 → Finite k minus m up dn (FiniteNumber minus 0 (pos 0))
-  whole : {c n : ℕ} → m * 10 ^ up ≡ c * 10 ^ n * 10 ^ dn → (c % 10 ≡ 0 → ⊥) → Checked k (c < coefficientLimit) → Checked k (n ≤ powerLimit) → Finite k minus m up dn (FiniteNumber minus c (pos n))
-  part : {c n : ℕ} → m * 10 ^ up * 10 ^ suc n ≡ c * 10 ^ dn → (c % 10 ≡ 0 → ⊥) → Checked k (c < coefficientLimit) → Checked k (suc n ≤ powerLimit) → Finite k minus m up dn (FiniteNumber minus c (negsuc n))
+  whole : {c n : ℕ} → m * 10 ^ up ≡ c * 10 ^ n * 10 ^ dn → (c % 10 ≡ 0 → ⊥) → Checked k (c < coefficientLimit)
+      → Checked k (n ≤ powerLimit) → Finite k minus m up dn (FiniteNumber minus c (pos n))
+  part : {c n : ℕ} → m * 10 ^ up * 10 ^ suc n ≡ c * 10 ^ dn → (c % 10 ≡ 0 → ⊥) → Checked k (c < coefficientLimit)
+      → Checked k (suc n ≤ powerLimit) → Finite k minus m up dn (FiniteNumber minus c (negsuc n))
 
 -- [ plus / minus ]
 pub data Sign : List ℕ → Bool → Type 0 where
@@ -58,7 +60,8 @@ lowered true e = e
 -- exp = e [ plus / minus ] 1*DIGIT
 pub data Exp : List ℕ → ℕ → ℕ → Type 0 where
   absent : Exp [] 0 0
-  given : {b n e : ℕ} {s a : List ℕ} {minus : Bool} → E b → Sign s minus → Decimal (suc n) 0 a e → Exp (b ∷ (s ++ a)) (raised minus e) (lowered minus e)
+  given : {b n e : ℕ} {s a : List ℕ} {minus : Bool} → E b → Sign s minus → Decimal (suc n) 0 a e
+      → Exp (b ∷ (s ++ a)) (raised minus e) (lowered minus e)
 
 -- dec = ( int [ frac0 ] / frac1 ) [ exp ]
 pub data Dec : List ℕ → ℕ → ℕ → ℕ → Type 0 where
@@ -77,7 +80,8 @@ pub data X : ℕ → Type 0 where
 pub data Unsigned (k minus : Bool) : List ℕ → M.Number → Type 0 where
   nan : Unsigned k minus (letters "NaN") NotANumber
   inf : Unsigned k minus (letters "Infinity") (Infinite minus)
-  hex : {x n v : ℕ} {a : List ℕ} {m : M.Number} → X x → Hexadecimal (suc n) a v → Checked k (v < coefficientLimit) → Finite k minus v 0 0 m → Unsigned k minus (ch "0" ∷ x ∷ a) m
+  hex : {x n v : ℕ} {a : List ℕ} {m : M.Number} → X x → Hexadecimal (suc n) a v → Checked k (v < coefficientLimit)
+      → Finite k minus v 0 0 m → Unsigned k minus (ch "0" ∷ x ∷ a) m
   dec : {a : List ℕ} {v up dn : ℕ} {m : M.Number} → Dec a v up dn → Finite k minus v up dn m → Unsigned k minus a m
 
 -- number = [ plus / minus ] ( nan / inf / hex / dec )

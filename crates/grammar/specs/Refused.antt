@@ -1,4 +1,4 @@
--- Which refusal of 1 to 7 a text is given, and where, by the grammar alone (document 01, "Refusal numbers"). The bare grammar is
+-- Which refusal of 1 to 7 a text is given, and where, by the grammar alone (docs/FORMAT.md, 10). The bare grammar is
 -- the grammar with its checks left out (Checks). Assumes nothing.
 use Prim.Native.Nat.{ℕ, zero, suc, _+_, _≤_, _<_}
 use mathlib.Core.Path.{_≡_}
@@ -41,7 +41,8 @@ pub data Spot : Type 0 where
   value part : Spot
   among : Inside → Spot
 
--- `Left d s l`: left of s stand the bytes l, each item in them whole and within its checks; d more arrays and objects may open
+-- `Left d s l`: left of s stand the bytes l, each item in them whole and within its checks; d more arrays and objects
+-- may open
 pub data Left : ℕ → Spot → List ℕ → Type 0 where
   text : {w : List ℕ} → Ws w → Left depthLimit value w
   array : {d : ℕ} {l w : List ℕ} → Left (suc d) value l → Ws w
@@ -61,7 +62,8 @@ pub data Numeric : List ℕ → Type 0 where
   number : {a : List ℕ} {n : N.Number} → Number false a n → Numeric a
   time-value : {a : List ℕ} {t : T.Time} → Time-value false a t → Numeric a
 
--- `Ends x r`: of the bytes r the item x takes none. No rule lets it take the next; a space is taken only with the byte after it
+-- `Ends x r`: of the bytes r the item x takes none. No rule lets it take the next; a space is taken only with the
+-- byte after it
 pub data Ends : List ℕ → List ℕ → Type 0 where
   over : {x : List ℕ} → Ends x []
   byte : {x : List ℕ} {b : ℕ} {r : List ℕ} → ((y : List ℕ) → Numeric (x ++ (b ∷ y)) → ⊥) → Ends x (b ∷ r)
@@ -84,7 +86,8 @@ pub data Item-fault : List ℕ → Refusal → Type 0 where
   number : {d : ℕ} {l x r : List ℕ} {n : N.Number} → Left d value l → Number false x n
       → ((m : N.Number) → Number true x m → ⊥) → Ends x r → Item-fault (l ++ (x ++ r)) (BadNumber (length l))
   -- a bracket where none may open any more
-  depth : {b : ℕ} {l : List ℕ} (r : List ℕ) → Left zero value l → Opening b → Item-fault (l ++ (b ∷ r)) (TooDeep (length l))
+  depth : {b : ℕ} {l : List ℕ} (r : List ℕ) → Left zero value l → Opening b
+      → Item-fault (l ++ (b ∷ r)) (TooDeep (length l))
 
 -- ---- 3 to 7. All up to the end of a faulty item is grammar, so a fault comes before any 3.
 pub data Refused (t : List ℕ) : Refusal → Type 0 where

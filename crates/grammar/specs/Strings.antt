@@ -63,8 +63,10 @@ joined high low = 0x10000 + (high - 0xD800) * 0x400 + (low - 0xDC00)
 pub data Escape (k : Bool) : List ℕ → List ℕ → Type 0 where
   short : {b c : ℕ} → Short b c → Escape k (b ∷ []) (c ∷ [])
   unit : {a : List ℕ} {n : ℕ} → Hexadecimal 4 a n → Checked k (Scalar n) → Escape k (ch "u" ∷ a) (encode n)
-  pair : {a b : List ℕ} {high low : ℕ} → Hexadecimal 4 a high → In 0xD800 0xDBFF high → Hexadecimal 4 b low → In 0xDC00 0xDFFF low → Escape k (ch "u" ∷ (a ++ (letters "\\u" ++ b))) (encode (joined high low))
-  braced : {a : List ℕ} {d n : ℕ} → Hexadecimal (suc d) a n → Checked k (Scalar n) → Escape k (letters "u{" ++ (a ++ letters "}")) (encode n)
+  pair : {a b : List ℕ} {high low : ℕ} → Hexadecimal 4 a high → In 0xD800 0xDBFF high → Hexadecimal 4 b low
+      → In 0xDC00 0xDFFF low → Escape k (ch "u" ∷ (a ++ (letters "\\u" ++ b))) (encode (joined high low))
+  braced : {a : List ℕ} {d n : ℕ} → Hexadecimal (suc d) a n → Checked k (Scalar n)
+      → Escape k (letters "u{" ++ (a ++ letters "}")) (encode n)
 
 -- unescaped = %x20-21 / %x23-26 / %x28-5B / %x5D-10FFFF
 abbrev pub unescaped : List Range
@@ -104,12 +106,14 @@ pub data No-newline : List ℕ → Type 0 where
 pub data String-part (k : Bool) : List ℕ → List ℕ → Type 0 where
   one-line : {a u : List ℕ} → Quoted (Among unescaped) (Escape k) a u → String-part k a u
   multiline : {a : List ℕ} (q : Quote) → Many (M-char q) a → No-newline a → String-part k (three q ++ (a ++ three q)) a
-  trimmed : {n a : List ℕ} (q : Quote) → Newline n → Many (M-char q) a → String-part k (three q ++ (n ++ (a ++ three q))) a
+  trimmed : {n a : List ℕ} (q : Quote) → Newline n → Many (M-char q) a
+      → String-part k (three q ++ (n ++ (a ++ three q))) a
 
 -- P *( value-concat P ); value-concat is `+` with layout allowed on both sides
 pub data Concat (P : List ℕ → List ℕ → Type 0) : List ℕ → List ℕ → Type 0 where
   part : {a u : List ℕ} → P a u → Concat P a u
-  plus : {a u v w b t : List ℕ} → P a u → Ws v → Ws w → Concat P b t → Concat P (a ++ (v ++ (ch "+" ∷ (w ++ b)))) (u ++ t)
+  plus : {a u v w b t : List ℕ} → P a u → Ws v → Ws w → Concat P b t
+      → Concat P (a ++ (v ++ (ch "+" ∷ (w ++ b)))) (u ++ t)
 
 -- string = string-part *( value-concat string-part )
 abbrev pub String : Bool → List ℕ → List ℕ → Type 0

@@ -36,12 +36,15 @@ pub data Time-minute (k : Bool) : List ℕ → ℕ → Type 0 where
 
 -- local-time = time-hour ":" time-minute ":" time-second [ time-secfrac ]
 pub data Local-time (k : Bool) : List ℕ → ℕ → Type 0 where
-  local-time : {a b c f : List ℕ} {h m s n : ℕ} → Time-hour k a h → Time-minute k b m → Time-minute k c s → Time-secfrac f n → Local-time k (a ++ (ch ":" ∷ (b ++ (ch ":" ∷ (c ++ f))))) (timeOfDay h m s n)
+  local-time : {a b c f : List ℕ} {h m s n : ℕ} → Time-hour k a h → Time-minute k b m → Time-minute k c s
+      → Time-secfrac f n → Local-time k (a ++ (ch ":" ∷ (b ++ (ch ":" ∷ (c ++ f))))) (timeOfDay h m s n)
 
 -- local-date = date-fullyear "-" date-month "-" date-mday
 -- date-fullyear = 4DIGIT ; date-month = 2DIGIT ; date-mday = 2DIGIT
 pub data Local-date (k : Bool) : List ℕ → D.Date → Type 0 where
-  local-date : {a b c : List ℕ} {y m d : ℕ} → Decimal 4 0 a y → Decimal 2 0 b m → Decimal 2 0 c d → Checked k (Calendar.Date y m d) → Local-date k (a ++ (ch "-" ∷ (b ++ (ch "-" ∷ c)))) (record { year = y; month = m; day = d })
+  local-date : {a b c : List ℕ} {y m d : ℕ} → Decimal 4 0 a y → Decimal 2 0 b m → Decimal 2 0 c d
+      → Checked k (Calendar.Date y m d)
+      → Local-date k (a ++ (ch "-" ∷ (b ++ (ch "-" ∷ c)))) (record { year = y; month = m; day = d })
 
 -- ( "T" / " " )
 pub data Separator : ℕ → Type 0 where
@@ -65,7 +68,8 @@ pub data Plus-minus : ℕ → Bool → Type 0 where
 -- time-numoffset = ( plus / minus ) time-hour ":" time-minute
 pub data Time-offset (k : Bool) : List ℕ → ℤ → Type 0 where
   zulu : {b : ℕ} → Zulu b → Time-offset k (b ∷ []) (pos 0)
-  numoffset : {x h m : ℕ} {negative : Bool} {a b : List ℕ} → Plus-minus x negative → Time-hour k a h → Time-minute k b m → Time-offset k (x ∷ (a ++ (ch ":" ∷ b))) (signed negative (h * 60 + m))
+  numoffset : {x h m : ℕ} {negative : Bool} {a b : List ℕ} → Plus-minus x negative → Time-hour k a h → Time-minute k b m
+      → Time-offset k (x ∷ (a ++ (ch ":" ∷ b))) (signed negative (h * 60 + m))
 
 -- time-value = local-date / local-time / local-date-time / offset-date-time
 -- local-date-time = local-date ( "T" / " " ) local-time
@@ -73,5 +77,7 @@ pub data Time-offset (k : Bool) : List ℕ → ℤ → Type 0 where
 pub data Time-value (k : Bool) : List ℕ → M.Time → Type 0 where
   local-date : {a : List ℕ} {d : D.Date} → Local-date k a d → Time-value k a (LocalDate d)
   local-time : {a : List ℕ} {n : ℕ} → Local-time k a n → Time-value k a (LocalTime n)
-  local-date-time : {a b : List ℕ} {d : D.Date} {x n : ℕ} → Local-date k a d → Separator x → Local-time k b n → Time-value k (a ++ (x ∷ b)) (LocalDateTime d n)
-  offset-date-time : {a b c : List ℕ} {d : D.Date} {x n : ℕ} {o : ℤ} → Local-date k a d → Separator x → Local-time k b n → Time-offset k c o → Time-value k (a ++ (x ∷ (b ++ c))) (OffsetDateTime d n o)
+  local-date-time : {a b : List ℕ} {d : D.Date} {x n : ℕ} → Local-date k a d → Separator x → Local-time k b n
+      → Time-value k (a ++ (x ∷ b)) (LocalDateTime d n)
+  offset-date-time : {a b c : List ℕ} {d : D.Date} {x n : ℕ} {o : ℤ} → Local-date k a d → Separator x → Local-time k b n
+      → Time-offset k c o → Time-value k (a ++ (x ∷ (b ++ c))) (OffsetDateTime d n o)

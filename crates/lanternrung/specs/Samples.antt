@@ -79,7 +79,8 @@ pub record IsTaken (text : List ℕ) (m : Meaning) (printed : List ℕ) : Type 0
   pub only : (n : Meaning) → Text true text n → n ≡ m
   pub prints : canonical m ≡ printed
   pub measured : (a : Answer) → Measures text a → a ≡ Answer.Counts (records m) (bytes m)
-  pub read : (tape store : List ℕ) (a : Answer) (tape' store' : List ℕ) → tapeBytes m ≤ length tape → bytes m ≤ length store → Reads text tape store a tape' store' → a ≡ Answer.Counts (records m) (bytes m)
+  pub read : (tape store : List ℕ) (a : Answer) (tape' store' : List ℕ) → tapeBytes m ≤ length tape
+      → bytes m ≤ length store → Reads text tape store a tape' store' → a ≡ Answer.Counts (records m) (bytes m)
 
 -- a refusal with the number n, at the place p
 abbrev pub Says : ℕ → ℕ → Answer → Type 0
@@ -90,7 +91,8 @@ Says n p (Answer.Refused why) = (numberOf why ≡ n) × (placeOf why ≡ p)
 pub record IsRefused (text : List ℕ) (n p : ℕ) : Type 0 where
   pub meaningless : (m : Meaning) → Text true text m → ⊥
   pub measured : (a : Answer) → Measures text a → Says n p a
-  pub read : (tape store : List ℕ) (a : Answer) (tape' store' : List ℕ) → Reads text tape store a tape' store' → Says n p a
+  pub read : (tape store : List ℕ) (a : Answer) (tape' store' : List ℕ) → Reads text tape store a tape' store'
+      → Says n p a
 
 abbrev pub Case : List ℕ → Outcome → Type 0
 Case text (taken m printed) = IsTaken text m printed
@@ -100,4 +102,5 @@ infixr 20 _&_
 -- each case of a list holds
 pub data All : List (List ℕ × Outcome) → Type 0 where
   done : All []
-  _&_ : {text : List ℕ} {outcome : Outcome} {rest : List (List ℕ × Outcome)} → Case text outcome → All rest → All ((text, outcome) ∷ rest)
+  _&_ : {text : List ℕ} {outcome : Outcome} {rest : List (List ℕ × Outcome)} → Case text outcome → All rest
+      → All ((text, outcome) ∷ rest)

@@ -473,6 +473,11 @@ last-run (Last.ended {a = a} w) p d m = rw (← append-nil a) (layout-run w (got
 last-run (Last.unended {a = a} {c = c} w l) p d m =
     layout-run w (got (gotOf m)) p d [] c ∙ rw (← append-nil c) (line-run l (got (gotOf m)) (adv p a) d [] [] ∙ rw (valued m))
 
+-- a value by itself, of any length
+pub value-reads : {a : List ℕ} {m : Meaning} → Value true depthLimit a m → reading a ≡ Ok m
+unfolding reading
+value-reads {a} {m} x = rw (← append-nil a) (value-run x 0 [] [] (last-follows (Last.ended Ws.none)) ∙ last-run (Last.ended Ws.none) (adv 0 a) depthLimit m)
+
 pub reads : {t : List ℕ} {m : Meaning} → Text true t m → reading t ≡ Ok m
 unfolding reading
 reads (Text.text {w = w} {a = a} {v = v} {m = m} l x y h) =

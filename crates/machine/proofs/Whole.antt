@@ -12,21 +12,21 @@ use Rattle.rules.specs.declared.Utf8Answer.{Utf8Answer}
 use Rattle.rules.specs.declared.Utf8Answer.the-variants.{Done, IllFormed}
 use Rattle.rules.specs.Decided.{judged}
 use Rattle.rules.proofs.Decided.{judged-done, done-judged}
-use Rattle.meaning.specs.Limits.{textLimit}
+use Rattle.meaning.specs.Limits.{textLimit, depthLimit}
 use Rattle.meaning.specs.Meaning.{Meaning}
 use Rattle.meaning.specs.declared.Refusal.{Refusal}
 use Rattle.meaning.specs.declared.Refusal.the-variants.{TextTooLong, NotUtf8}
-use Rattle.grammar.specs.Values.{Text}
+use Rattle.grammar.specs.Values.{Value, Text}
 use Rattle.meaning.specs.Good.{Good}
 use Rattle.meaning.specs.Canonical.{canonical}
 use Rattle.grammar.proofs.Utf8.{text-octets}
 use Rattle.grammar.proofs.Good.{text-good}
 use Rattle.grammar.proofs.Sizes.{Fits, text-fits}
-use Rattle.grammar.proofs.Canonical.{text-derived}
+use Rattle.grammar.proofs.Canonical.{value-derived, text-derived}
 use Rattle.machine.specs.Machine.{Verdict, Ok, No, reading, Conf, fail, step, read, finish}
 use Rattle.machine.specs.Verdict.{decoded, verdict}
 use Rattle.machine.proofs.Runs.{adv}
-use Rattle.machine.proofs.Complete.{reads}
+use Rattle.machine.proofs.Complete.{value-reads, reads}
 use Rattle.machine.proofs.Sound.{derives}
 
 text-length : {t : List ℕ} {m : Meaning} → Text true t m → length t ≤ textLimit
@@ -61,11 +61,12 @@ unambiguous x y = let e = complete x in let f = complete y in cc
 pub canonical-reads : (m : Meaning) → Good m → length (canonical m) ≤ textLimit → verdict (canonical m) ≡ Ok m
 canonical-reads m g l = complete (text-derived m g l)
 
--- two good meanings with one canonical text are one
-pub same-canonical : (m n : Meaning) → Good m → Good n → length (canonical m) ≤ textLimit → canonical m ≡ canonical n → m ≡ n
-same-canonical m n g h l e =
-    unambiguous (text-derived m g l)
-    (subst (λ (t : List ℕ). Text true t n) (sym e) (text-derived n h (subst (λ (t : List ℕ). length t ≤ textLimit) e l)))
+-- two good meanings with one canonical text are one, however long it is
+pub same-canonical : (m n : Meaning) → Good m → Good n → canonical m ≡ canonical n → m ≡ n
+same-canonical m n g h e = let x = value-reads (canonical-value m g) in let y = value-reads (canonical-value n h) in cc
+  where
+    canonical-value : (k : Meaning) → Good k → Value true depthLimit (canonical k) k
+    canonical-value k good = value-derived k (good .parts) depthLimit (good .shallow)
 
 -- what the machine accepts is good, and no longer on the tape and in the store than as text
 pub accepted-good : (t : List ℕ) (m : Meaning) → verdict t ≡ Ok m → Good m

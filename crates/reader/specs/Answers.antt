@@ -42,4 +42,5 @@ pub data Reads (text tape store : List ℕ) (a : Answer) : List ℕ → List ℕ
   store-short : {m : Meaning} → Text true text m → tapeBytes m ≤ length tape → length store < bytes m
       → answerSaid a ≡ refused 9 (bytes m) → Reads text tape store a tape store
   -- 1 to 7
-  no-text : {why : Refusal} → Text-refused text why → answerSaid a ≡ refusalSaid why → Reads text tape store a tape store
+  no-text : {why : Refusal} → Text-refused text why → answerSaid a ≡ refusalSaid why
+      → Reads text tape store a tape store

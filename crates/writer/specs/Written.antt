@@ -26,7 +26,8 @@ pub data Writes (t o : List ℕ) (a : Written) : List ℕ → Type 0 where
 pub data WritesJaxn (tape store o : List ℕ) (a : Written) : List ℕ → Type 0 where
   -- 10 at 0
   ill : (WellFormed tape store → ⊥) → writeSaid a ≡ refused 10 0 → WritesJaxn tape store o a o
-  text : {out : List ℕ} (w : WellFormed tape store) → Writes (canonical (w .meaning)) o a out → WritesJaxn tape store o a out
+  text : {out : List ℕ} (w : WellFormed tape store) → Writes (canonical (w .meaning)) o a out
+      → WritesJaxn tape store o a out
 
 pub data WritesJson (tape store o : List ℕ) (a : Written) : List ℕ → Type 0 where
   ill : (WellFormed tape store → ⊥) → writeSaid a ≡ refused 10 0 → WritesJson tape store o a o

@@ -118,19 +118,19 @@ filled {text} {tape} {store} {r} {s} {tape'} {store'} p =
 pub written : IsWritten
 written = record { one-meaning = λ {tape} {store}. one-meaning tape store; jaxn = jaxn-written; json = json-written; filled = filled }
 
--- ---- same-text: the canonical texts are the same bytes exactly when the meanings are the same (that one of them is within the limit suffices)
+-- ---- same-text: the canonical texts are the same bytes exactly when the meanings are the same
 
 pub record SameText : Type 0 where
   -- of two accepted texts
-  pub texts : {s t : List ℕ} {m n : Meaning} → Text true s m → Text true t n → length (canonical m) ≤ textLimit → (canonical m ≡ canonical n) ↔ (m ≡ n)
+  pub texts : {s t : List ℕ} {m n : Meaning} → Text true s m → Text true t n → (canonical m ≡ canonical n) ↔ (m ≡ n)
   -- of two meanings within the limits
-  pub meanings : {m n : Meaning} → Good m → Good n → length (canonical m) ≤ textLimit → (canonical m ≡ canonical n) ↔ (m ≡ n)
+  pub meanings : {m n : Meaning} → Good m → Good n → (canonical m ≡ canonical n) ↔ (m ≡ n)
 
 pub same-text : SameText
 same-text = record { texts = λ x y. same (text-good x) (text-good y); meanings = same }
   where
-    same : {m n : Meaning} → Good m → Good n → length (canonical m) ≤ textLimit → (canonical m ≡ canonical n) ↔ (m ≡ n)
-    same {m} {n} g h l = (same-canonical m n g h l, ap canonical)
+    same : {m n : Meaning} → Good m → Good n → (canonical m ≡ canonical n) ↔ (m ≡ n)
+    same {m} {n} g h = (same-canonical m n g h, ap canonical)
 
 -- ---- read-back: the canonical text of a meaning within the limits is accepted, and gives the same tape and store
 
