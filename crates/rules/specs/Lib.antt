@@ -7,5 +7,7 @@ pub mod Rfc3339
 pub mod Paper
 -- Posts: what the functions below the two public calls promise.
 pub mod Posts
+-- Beside: what a byte may be beside the three before it, for the functions over blocks.
+pub mod Beside
 -- Decided: the first fault, as a function that computes.
 pub mod Decided
