@@ -13,7 +13,8 @@ use Rattle.rules.specs.Rfc3339.{Dated}
 use Rattle.rules.proofs.Outcomes.{date-done, date-none}
 use Rattle.rules.specs.declared.DateAnswer.{DateAnswer}
 use Rattle.rules.specs.declared.DateAnswer.the-variants.{Done, NoDate}
-use Rattle.rules.proofs.Months.{isDate, date-is, is-date}
+use Rattle.rules.specs.Decided.{isDate}
+use Rattle.rules.proofs.Months.{date-is, is-date}
 use Rattle.meaning.specs.Letters.{ch}
 use Rattle.meaning.specs.Limits.{fractionDigits}
 use Rattle.meaning.specs.Limits as Limits

@@ -8,7 +8,7 @@ use lib.Count.{leadingZeros}
 use Rattle.rules.specs.Posts.{lowOf, highOf}
 use Rattle.rules.specs.Rfc3629.{encode}
 use Rattle.rules.specs.Decided.{isWide, lengthAt, faultFrom, judged}
-use Rattle.rules.proofs.Months.{isLeap, isDate}
+use Rattle.rules.specs.Decided.{isLeap, isDate}
 use Rattle.meaning.specs.Letters.{letters}
 use Rattle.meaning.specs.Limits.{depthLimit}
 use Rattle.meaning.specs.Paper.{numberOf, placeOf}

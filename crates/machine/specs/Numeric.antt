@@ -5,7 +5,7 @@ use mathlib.Core.Bool.{Bool, true, false, cond, _&&_}
 use mathlib.Core.List.{List, [], _∷_}
 use lib.Dec.{ltb, leb, eqb}
 use lib.IntN.{ℤ, pos, negsuc}
-use Rattle.rules.proofs.Months.{isDate}
+use Rattle.rules.specs.Decided.{isDate}
 use Rattle.meaning.specs.declared.Number.{Number}
 use Rattle.meaning.specs.declared.Number.the-variants.{Finite, NotANumber, Infinite}
 use Rattle.meaning.specs.declared.Date.{Date}

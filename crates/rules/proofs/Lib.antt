@@ -8,6 +8,8 @@ pub mod Numbers
 pub mod Runs
 -- A character as bounds on the bytes at a place, for `char_at`.
 pub mod Places
+-- Bytes that may follow each other, one after the other, are UTF-8: the law behind the blocks.
+pub mod Opens
 -- The first fault as a function that computes.
 pub mod Decided
 -- Leap years and the days of a month.

@@ -1,4 +1,4 @@
--- Leap years, the days of a month, and a test of a date that computes. Assumes nothing.
+-- Leap years, the days of a month, and that the test of a date that computes is right. Assumes nothing.
 use mathlib.Core.Path.{_≡_, refl, sym, ap, _∙_, subst}
 use mathlib.Core.Bool.{Bool, true, false, cond, not}
 use mathlib.Core.List.{List, [], _∷_}
@@ -10,6 +10,7 @@ use lib.ListN.{getD, List·getD-eq-default}
 use borrow.Author.Tests.{eq-eqb, ne-eqb, le-leb, leb-true}
 use Rattle.rules.specs.Rfc3339.{Leap, fourth, fourth-hundred, Days, january, february-normal, february-leap, march, april, may, june, july, august, september, october, november, december, Date, Dated, done, Lasts, month, no-month}
 use Rattle.rules.specs.Rfc3339
+use Rattle.rules.specs.Decided.{table, isLeap, daysOf, isDate}
 use Rattle.rules.specs.Posts.{IsLeap, leap, common}
 use Rattle.rules.specs.declared.DateAnswer.{DateAnswer}
 use Rattle.rules.specs.declared.DateAnswer.the-variants.{Done, NoDate}
@@ -64,10 +65,6 @@ february y false (common f) = month (february-normal f)
 pub february-is : (y m : ℕ) {k l : Bool} → m ≡ 2 → k ≡ l → IsLeap y k → Lasts y m (cond l 29 28)
 february-is y m {k} {l} e f i = rw (e, ← f) (february y k i)
 
--- the list of the code
-abbrev pub table : List ℕ
-table = 0 ∷ 31 ∷ 28 ∷ 31 ∷ 30 ∷ 31 ∷ 30 ∷ 31 ∷ 31 ∷ 30 ∷ 31 ∷ 30 ∷ 31 ∷ []
-
 -- each row but February's
 pub row : (y m : ℕ) → m ≤ 12 → (m ≡ 2 → ⊥) → Lasts y m (getD table m 0)
 row y zero h f = no-month (λ n x. omega (arith, is-month x))
@@ -87,10 +84,6 @@ row y (suc (suc (suc (suc (suc (suc (suc (suc (suc (suc (suc (suc (suc m))))))))
 
 -- ---- one answer
 
--- the days of a month, as a number
-abbrev daysOf : Bool → ℕ → ℕ
-daysOf l m = cond (eqb m 2) (cond l 29 28) (getD table m 0)
-
 days-are : {y m n : ℕ} {l : Bool} → IsLeap y l → Days y m n → n ≡ daysOf l m
 days-are i january = refl
 days-are (leap x) (february-normal f) = absurd (f x)
@@ -107,10 +100,6 @@ days-are i september = refl
 days-are i october = refl
 days-are i november = refl
 days-are i december = refl
-
--- whether a year is a leap year, as a test that computes
-unfoldable pub isLeap : ℕ → Bool
-isLeap y = cond (eqb (y % 4) 0) (cond (eqb (y % 100) 0) (eqb (y % 400) 0) true) false
 
 pub leap-is : (y : ℕ) → IsLeap y (isLeap y)
 unfolding isLeap
@@ -134,9 +123,6 @@ a-date y m d n a b (month x) h = done (record { year = a; days = n; month = x; f
 a-date y m d n a b (no-month f) h = absurd (omega arith)
 
 -- ---- whether three numbers are a date, as a test that computes
-
-unfoldable pub isDate : ℕ → ℕ → ℕ → Bool
-isDate y m d = cond (leb y 9999) (cond (leb 1 d) (leb d (daysOf (isLeap y) m)) false) false
 
 pub date-is : {y m d : ℕ} → Date y m d → isDate y m d ≡ true
 unfolding isDate

@@ -30,10 +30,10 @@ unfolding reach
 step k t w = record { same = λ a h. agreed _ _ (below (reach k t) 256 w a h) }
 
 module _ {k t : ℕ} (p : Step k t) (a : ℕ) (h : a < 256) where
-  up : t ≤ a → k ≤ ones a
+  pub up : t ≤ a → k ≤ ones a
   up l = leb-true k (ones a) (p .same a h ∙ le-leb t a l)
 
-  down : a < t → ones a < k
+  pub down : a < t → ones a < k
   down l = leb-false k (ones a) (p .same a h ∙ lt-leb t a l)
 
   up⁻ : k ≤ ones a → t ≤ a
@@ -46,19 +46,19 @@ pub step1 : Step 1 128
 unfolding reach leadingZeros
 step1 = step 1 128 tt
 
-step2 : Step 2 192
+pub step2 : Step 2 192
 unfolding reach leadingZeros
 step2 = step 2 192 tt
 
-step3 : Step 3 224
+pub step3 : Step 3 224
 unfolding reach leadingZeros
 step3 = step 3 224 tt
 
-step4 : Step 4 240
+pub step4 : Step 4 240
 unfolding reach leadingZeros
 step4 = step 4 240 tt
 
-step5 : Step 5 248
+pub step5 : Step 5 248
 unfolding reach leadingZeros
 step5 = step 5 248 tt
 
@@ -89,7 +89,7 @@ unfolding highOf
 high-else a p q = simp (ne-eqb a 0xED p, ne-eqb a 0xF4 q)
 
 -- a first byte after which any tail may stand
-plain : (a : ℕ) → (a ≡ 0xE0 → ⊥) → (a ≡ 0xF0 → ⊥) → (a ≡ 0xED → ⊥) → (a ≡ 0xF4 → ⊥) → (lowOf a ≡ 0x80) × (highOf a ≡ 0xBF)
+pub plain : (a : ℕ) → (a ≡ 0xE0 → ⊥) → (a ≡ 0xF0 → ⊥) → (a ≡ 0xED → ⊥) → (a ≡ 0xF4 → ⊥) → (lowOf a ≡ 0x80) × (highOf a ≡ 0xBF)
 plain a p q r t = (low-else a p q, high-else a r t)
 
 -- ---- the rules for two bytes and more as bounds: n is also the count of leading ones
@@ -108,7 +108,7 @@ pub record Wide (s : List ℕ) (i n : ℕ) : Type 0 where
 
 -- the bytes at a place, by what stands there
 module _ (s : List ℕ) (i : ℕ) where
-  at-first : (t : List ℕ) → drop i s ≡ t → getD s i 0 ≡ getD t 0 0
+  pub at-first : (t : List ℕ) → drop i s ≡ t → getD s i 0 ≡ getD t 0 0
   at-first t e = let z : i + 0 ≡ i = omega arith in ap (λ (k : ℕ). getD s k 0) (sym z) ∙ sym (getD-drop i s 0 0) ∙ ap (λ (l : List ℕ). getD l 0 0) e
 
   at-next : (t : List ℕ) (k : ℕ) → drop i s ≡ t → getD s (i + k) 0 ≡ getD t k 0
@@ -118,7 +118,7 @@ module _ (s : List ℕ) (i : ℕ) where
   room t e h = omega (arith, sym (length-drop i s) ∙ ap length e)
 
   -- each rule but the first gives the bounds
-  wide : {c : List ℕ} → Char c → (r : List ℕ) → drop i s ≡ c ++ r → (length c ≡ 1 → ⊥) → Wide s i (length c)
+  pub wide : {c : List ℕ} → Char c → (r : List ℕ) → drop i s ≡ c ++ r → (length c ≡ 1 → ⊥) → Wide s i (length c)
   wide (utf8-1 x) r e h = absurd (h refl)
   wide (utf8-2 {a = a} {b = b} x y) r e h =
       let t : List ℕ = a ∷ b ∷ r in

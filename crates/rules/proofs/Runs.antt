@@ -11,7 +11,7 @@ use lib.ListN.{length, getD, take, drop, take-append-drop, length-drop}
 use lib.Seq.{take-suc, take-add, take-length, length-take-le}
 use Rattle.rules.specs.Rfc3629.{In, Char, utf8-1, NoChar, Octets, none, more, Fault, Judged, done, ill}
 use Rattle.rules.specs.declared.Utf8Answer.the-variants.{Done, IllFormed}
-use Rattle.rules.specs.Posts.{AtMost, Ascii, CharAt, char, gap}
+use Rattle.rules.specs.Posts.{AtMost, Ascii, Passed, CharAt, char, gap}
 use Rattle.rules.proofs.Characters.{join, one}
 
 pub at-most-none : (s : List ℕ) (at r : ℕ) → AtMost s at 0 r
@@ -72,20 +72,15 @@ octets-run s from to o a =
     let e : from + (to - from) ≡ to = omega arith in
     rw e at (octets-bytes s (to - from) from o (λ k l m. a .each k l (omega arith)) (omega arith))
 
--- what `utf8` has passed at the place i
-pub record Passed (s : List ℕ) (i : ℕ) : Type 0 where
-  pub within : i ≤ length s
-  pub good : Octets (take i s)
-
 pub passed-none : (s : List ℕ) → Passed s 0
 passed-none s = record { within = omega arith; good = none }
 
+-- ASCII after what has been passed
+pub passed-ascii : (s : List ℕ) (i to : ℕ) → Passed s i → Ascii s i to → Passed s to
+passed-ascii s i to p a = record { within = a .within; good = octets-run s i to (p .good) a }
+
 pub passed-run : (s : List ℕ) (i to : ℕ) → Passed s i → i < length s → getD s i 0 < 0x80 → Ascii s (i + 1) to → Passed s to
-passed-run s i to p h b a =
-    record {
-      within = a .within;
-      good = octets-run s i to (p .good) (ascii-join s i (i + 1) to (ascii-more s i i (ascii-none s i (p .within)) h b) a);
-    }
+passed-run s i to p h b a = passed-ascii s i to p (ascii-join s i (i + 1) to (ascii-more s i i (ascii-none s i (p .within)) h b) a)
 
 pub char-room : {s : List ℕ} {i n : ℕ} → CharAt s i n → (n ≡ 0 → ⊥) → (0 < n) × (i + n ≤ length s)
 char-room (char p f x) h = (p, f)

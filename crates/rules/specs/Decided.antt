@@ -1,8 +1,9 @@
--- The first fault of any bytes, as a function that computes. That its answer is the one that Rfc3629 allows is proved
--- (`judged-is` of proofs/Decided.antt). Assumes nothing.
+-- The first fault of any bytes, and whether three numbers are a date, as functions that compute. That they answer what
+-- Rfc3629 and Rfc3339 allow is proved (`judged-is` of proofs/Decided.antt; `date-is`, `is-date` of proofs/Months.antt).
+-- Assumes nothing.
 use mathlib.Core.Bool.{Bool, true, false, cond}
 use mathlib.Core.List.{List, [], _∷_}
-use Prim.Native.Nat.{ℕ, zero, suc, _+_, _-_}
+use Prim.Native.Nat.{ℕ, zero, suc, _+_, _-_, _%_}
 use lib.Count.{leadingZeros}
 use lib.Dec.{eqb, leb, ltb}
 use lib.ListN.{length, getD}
@@ -45,3 +46,19 @@ faultFrom (suc f) s i =
 -- what `utf8` answers
 unfoldable pub judged : List ℕ → Utf8Answer
 judged s = faultFrom (length s) s 0
+
+-- ---- a date
+
+unfoldable pub isLeap : ℕ → Bool
+isLeap y = cond (eqb (y % 4) 0) (cond (eqb (y % 100) 0) (eqb (y % 400) 0) true) false
+
+-- the list of the code
+abbrev pub table : List ℕ
+table = 0 ∷ 31 ∷ 28 ∷ 31 ∷ 30 ∷ 31 ∷ 30 ∷ 31 ∷ 31 ∷ 30 ∷ 31 ∷ 30 ∷ 31 ∷ []
+
+-- the days of a month, in a leap year or not
+abbrev pub daysOf : Bool → ℕ → ℕ
+daysOf leap m = cond (eqb m 2) (cond leap 29 28) (getD table m 0)
+
+unfoldable pub isDate : ℕ → ℕ → ℕ → Bool
+isDate y m d = cond (leb y 9999) (cond (leb 1 d) (leb d (daysOf (isLeap y) m)) false) false

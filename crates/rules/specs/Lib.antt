@@ -9,5 +9,7 @@ pub mod Paper
 pub mod Told
 -- Posts: what the functions below the two public calls promise.
 pub mod Posts
--- Decided: the first fault, as a function that computes.
+-- Beside: what a byte may be beside the three before it, for the functions over blocks.
+pub mod Beside
+-- Decided: the first fault, and a date, as functions that compute.
 pub mod Decided

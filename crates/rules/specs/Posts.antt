@@ -4,7 +4,7 @@ use mathlib.Core.List.{List}
 use Prim.Native.Nat.{ℕ, _+_, _≤_, _<_}
 use lib.Dec.{eqb}
 use lib.ListN.{length, getD, take, drop}
-use Rattle.rules.specs.Rfc3629.{Char, NoChar}
+use Rattle.rules.specs.Rfc3629.{Char, NoChar, Octets}
 use Rattle.rules.specs.Rfc3339.{Leap}
 
 -- each of the n bytes at the place `at` is at most r
@@ -16,6 +16,11 @@ pub record Ascii (s : List ℕ) (from to : ℕ) : Type 0 where
   pub behind : from ≤ to
   pub within : to ≤ length s
   pub each : (k : ℕ) → from ≤ k → k < to → getD s k 0 < 0x80
+
+-- the bytes before the place i are UTF-8
+pub record Passed (s : List ℕ) (i : ℕ) : Type 0 where
+  pub within : i ≤ length s
+  pub good : Octets (take i s)
 
 -- the character at the place i has n bytes, or none stands there and n is 0
 pub data CharAt (s : List ℕ) (i : ℕ) : ℕ → Type 0 where

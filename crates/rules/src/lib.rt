@@ -1,4 +1,5 @@
 // UTF-8 and the calendar, by themselves: the metrology group links this crate alone.
+mod blocks;
 mod calendar;
 pub mod exports;
 mod octets;
@@ -18,11 +19,11 @@ pub enum DateAnswer {
     NoDate,
 }
 
-// Whether the bytes are UTF-8; any length, empty too. A run of ASCII, the hot path of every text, is passed in blocks.
+// Whether the bytes are UTF-8; any length, empty too. Blocks are passed first; what is left, and the place of a fault, character by character.
 pub fn utf8(s: &[u8]) -> Utf8Answer
     ensures { λ r. ⌜ Judged (now (s .entry)) r ⌝ }
 {
-    let mut i = 0;
+    let mut i = blocks::passed(s);
     while i < s.len() {
         if s[i] < 0x80 {
             i = octets::ascii_run(s, i + 1);

@@ -5,7 +5,7 @@ ghost use lib.ListN.{length};
 ghost use Rattle.rules.specs.Posts.{AtMost, Ascii, CharAt, lowOf, highOf};
 
 // The greatest of the 32 bytes at `at`. There is no early exit, so that it is compiled to vector instructions.
-fn greatest(s: &[u8], at: usize) -> u8
+pub(crate) fn greatest(s: &[u8], at: usize) -> u8
     requires { ⌜ at + 32 ≤ length (now s) ⌝ }
     ensures { λ r. ⌜ AtMost (now (s .entry)) at 32 r ⌝ }
 {
@@ -49,6 +49,21 @@ pub(crate) fn ascii_run(s: &[u8], from: usize) -> usize
         i += 32;
     }
     ascii_bytes(s, i)
+}
+
+// The place after the blocks of 32 bytes from `from` on that are ASCII, no byte alone.
+pub(crate) fn ascii_blocks(s: &[u8], from: usize) -> usize
+    requires { ⌜ from ≤ length (now s) ⌝ }
+    ensures { λ r. ⌜ Ascii (now (s .entry)) from r ⌝ }
+{
+    let mut i = from;
+    while s.len() - i >= 32 {
+        if greatest(s, i) >= 0x80 {
+            return i;
+        }
+        i += 32;
+    }
+    i
 }
 
 // The least second byte after the first byte a: no overlong form of three or four bytes.

@@ -16,7 +16,8 @@ use Rattle.rules.specs.Rfc3629.{Octets, Judged}
 use Rattle.rules.specs.Rfc3339.{Date, Dated}
 use Rattle.rules.specs.Decided.{isWide, lengthAt, faultFrom, judged}
 use Rattle.rules.proofs.Decided.{judged-is}
-use Rattle.rules.proofs.Months.{isLeap, isDate, date-is, is-date}
+use Rattle.rules.specs.Decided.{isLeap, isDate}
+use Rattle.rules.proofs.Months.{date-is, is-date}
 use Rattle.rules.proofs.Outcomes.{one-outcome-utf8, one-outcome-date}
 use Rattle.meaning.specs.declared.Number.the-variants.{Finite}
 use Rattle.meaning.specs.declared.Record.{Record}
