@@ -1,4 +1,8 @@
 -- The examples of documents 002 and 01 are derived. Assumes nothing.
+
+-- the texts with their meanings
+pub mod Texts
+
 use Prim.Native.Nat.{ℕ, zero, suc, _+_, _*_, _-_, _≤_, _<_, _^_, _%_}
 use mathlib.Core.Path.{_≡_, refl, sym, ap, _∙_, subst}
 use mathlib.Core.Bool.{Bool, true, false, cond}
@@ -25,7 +29,7 @@ use Rattle.grammar.specs.Times.{Fraction, Time-secfrac, Time-hour, Time-
 use Rattle.grammar.specs.Binary.{B-escape, b-unescaped, B-part, B-direct, B-value, Binary}
 use Rattle.grammar.specs.Keys.{i-begin, i-continue, Identifier, Key}
 use Rattle.grammar.specs.Values.{Inside, elements, members, Closes, Value, Rest, After, Item, Text}
-use Rattle.grammar.specs.Examples.{plus, date, examples, Derived}
+use Rattle.grammar.proofs.Examples.Texts.{plus, date, examples, Derived}
 use Rattle.grammar.proofs.Utf8.{both}
 
 -- ---- classes by tests that antt computes

@@ -22,5 +22,3 @@ pub mod Keys
 pub mod Values
 -- which refusal a text is given, and where
 pub mod Refused
--- examples of documents 002 and 01 with their meanings, and the claim that they are derived
-pub mod Examples
