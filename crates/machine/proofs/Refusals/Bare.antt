@@ -5,6 +5,7 @@ use mathlib.Core.Bool.{Bool, true, false}
 use mathlib.Core.Option.{Option, none, some}
 use mathlib.Core.List.{List, [], _∷_, _++_, append-assoc, append-nil}
 use native.Mathlib.Omega.{arith}
+use Rattle.meaning.specs.Paper.{numberOf}
 use Rattle.meaning.specs.Letters.{letters, ch}
 use Rattle.meaning.specs.Limits.{depthLimit}
 use Rattle.meaning.specs.Meaning.{Meaning, Meanings, Members}
@@ -25,12 +26,10 @@ use Rattle.machine.proofs.Layouts.{adv-join, stepped, layout-run, line-
 use Rattle.machine.proofs.Complete.{NoDigitFirst, Follows, widen, begun, StartsString, starts-string, Quoted, part-begins, binary-run, StartsNumeric, digit-starts, lead-starts, word-run, key-run, closes-end, after-layout, part-after-layout, one-more, last-follows}
 use Rattle.machine.proofs.Numeric as N
 use Rattle.machine.proofs.Whole.{absorbing}
-use Rattle.machine.proofs.Refusals.Items.{EndsOr, IsNumber, IsTime, IsEscape, number-ends, time-ends, part-ends}
+use Rattle.machine.proofs.Refusals.Reason.{Other}
+use Rattle.machine.proofs.Refusals.Items.{Ended, number-ends, time-ends, part-ends}
 
 -- no 3
-abbrev pub Other : Refusal → Type 0
-Other r = (q : ℕ) → r ≡ NotGrammar q → ⊥
-
 abbrev pub Mild : Verdict → Type 0
 Mild v = (q : ℕ) → v ≡ No (NotGrammar q) → ⊥
 
@@ -38,31 +37,31 @@ mild-by : {v w : Verdict} → v ≡ w → Mild w → Mild v
 mild-by e h q f = h q (sym e ∙ f)
 
 mild-no : {r : Refusal} → Other r → Mild (No r)
-mild-no h q e = h q cc
+mild-no {r} h q e = let f : r ≡ NotGrammar q = cc in h (ap numberOf f)
 
 mild-fail : (p : ℕ) (r : Refusal) (t : List ℕ) → Other r → Mild (read p (fail r) t)
 mild-fail p r t h = mild-by (absorbing p r t) (mild-no h)
 
 -- ---- an item
 
-module _ (R : Refusal → Type 0) (other : (r : Refusal) → R r → Other r) {S M : Type 0} (run : ℕ → S → ℕ → Out S M) (f : S → Machine.Item) (g : M → Got) (same : (p : ℕ) (s : S) (b : ℕ) → scan p (f s) b ≡ lift f g (run p s b)) where
-  out-byte : (p d : ℕ) (k : List Frame) (b : ℕ) (r : List ℕ) (o : Out S M) → EndsOr R o → ((v : M) → Mild (read p (at (base (got (g v))) d k) (b ∷ r))) → Mild (read (suc p) (onOut p d k b (lift f g o)) r)
+module _ {S M : Type 0} (run : ℕ → S → ℕ → Out S M) (f : S → Machine.Item) (g : M → Got) (same : (p : ℕ) (s : S) (b : ℕ) → scan p (f s) b ≡ lift f g (run p s b)) where
+  out-byte : (p d : ℕ) (k : List Frame) (b : ℕ) (r : List ℕ) (o : Out S M) → Ended o → ((v : M) → Mild (read p (at (base (got (g v))) d k) (b ∷ r))) → Mild (read (suc p) (onOut p d k b (lift f g o)) r)
   unfolding read
   out-byte p d k b r (takes s) e h = absurd e
   out-byte p d k b r (stops v) e h = h v
-  out-byte p d k b r (breaks x) e h = mild-fail (suc p) x r (other x e)
+  out-byte p d k b r (breaks x) e h = mild-fail (suc p) x r e
 
-  out-end : (p d : ℕ) (k : List Frame) (o : Out S M) → EndsOr R o → ((v : M) → Mild (read p (at (base (got (g v))) d k) [])) → Mild (Machine.endOut p k (lift f g o))
+  out-end : (p d : ℕ) (k : List Frame) (o : Out S M) → Ended o → ((v : M) → Mild (read p (at (base (got (g v))) d k) [])) → Mild (Machine.endOut p k (lift f g o))
   unfolding read
   out-end p d k (takes s) e h = absurd e
   out-end p d k (stops v) e h = h v
-  out-end p d k (breaks x) e h = mild-no (other x e)
+  out-end p d k (breaks x) e h = mild-no e
 
-  at-byte : (p : ℕ) (s : S) (b d : ℕ) (k : List Frame) (r : List ℕ) → EndsOr R (run p s b) → ((v : M) → Mild (read p (at (base (got (g v))) d k) (b ∷ r))) → Mild (read p (at (item (f s)) d k) (b ∷ r))
+  at-byte : (p : ℕ) (s : S) (b d : ℕ) (k : List Frame) (r : List ℕ) → Ended (run p s b) → ((v : M) → Mild (read p (at (base (got (g v))) d k) (b ∷ r))) → Mild (read p (at (item (f s)) d k) (b ∷ r))
   unfolding read
   at-byte p s b d k r e h = mild-by (ap (λ (o : Out Machine.Item Got). read (suc p) (onOut p d k b o) r) (same p s b)) (out-byte p d k b r (run p s b) e h)
 
-  at-end : (p : ℕ) (s : S) (d : ℕ) (k : List Frame) → EndsOr R (run p s over) → ((v : M) → Mild (read p (at (base (got (g v))) d k) [])) → Mild (read p (at (item (f s)) d k) [])
+  at-end : (p : ℕ) (s : S) (d : ℕ) (k : List Frame) → Ended (run p s over) → ((v : M) → Mild (read p (at (base (got (g v))) d k) [])) → Mild (read p (at (item (f s)) d k) [])
   unfolding read
   at-end p s d k e h = mild-by (ap (Machine.endOut p k) (same p s over)) (out-end p d k (run p s over) e h)
 
@@ -70,7 +69,7 @@ module _ (R : Refusal → Type 0) (other : (r : Refusal) → R r → Other r) {S
   unfolding read
   taken p s s' b d k r e = ap (λ (o : Out Machine.Item Got). read (suc p) (onOut p d k b o) r) (same p s b ∙ ap (lift f g) e)
 
-  after-space : (p : ℕ) (s : S) (d : ℕ) (k : List Frame) (r : List ℕ) → ((q c : ℕ) → NoDigit c → EndsOr R (run q s c)) → NoDigitFirst r → ((v : M) → Mild (read p (at (base (got (g v))) d k) r)) → Mild (read p (at (item (f s)) d k) r)
+  after-space : (p : ℕ) (s : S) (d : ℕ) (k : List Frame) (r : List ℕ) → ((q c : ℕ) → NoDigit c → Ended (run q s c)) → NoDigitFirst r → ((v : M) → Mild (read p (at (base (got (g v))) d k) r)) → Mild (read p (at (item (f s)) d k) r)
   after-space p s d k [] e n h = at-end p s d k (e p over (NoDigit.past (omega arith))) h
   after-space p s d k (c ∷ r) e n h = at-byte p s c d k r (e p c n) h
 
@@ -78,15 +77,15 @@ module _ (R : Refusal → Type 0) (other : (r : Refusal) → R r → Other r) {S
   unfolding read
   spaced-got p d k v r = refl
 
-  halted : {p b : ℕ} {s : S} → HaltTo run (EndsOr R) p s b → (d : ℕ) (k : List Frame) (r : List ℕ) → (b ≡ ch " " → NoDigitFirst r) → ((v : M) → Mild (read p (at (base (got (g v))) d k) (b ∷ r))) → Mild (read p (at (item (f s)) d k) (b ∷ r))
+  halted : {p b : ℕ} {s : S} → HaltTo run Ended p s b → (d : ℕ) (k : List Frame) (r : List ℕ) → (b ≡ ch " " → NoDigitFirst r) → ((v : M) → Mild (read p (at (base (got (g v))) d k) (b ∷ r))) → Mild (read p (at (item (f s)) d k) (b ∷ r))
   halted {p} {b} {s} (HaltTo.here e) d k r n h = at-byte p s b d k r e h
   halted {p} {b} {s} (HaltTo.spaced {s' = s'} e j) d k r n h = mild-by (taken p s s' (ch " ") d k r e) (after-space (suc p) s' d k r j (n refl) (λ v. mild-by (sym (spaced-got p d k v r)) (h v)))
 
-  halted-end : {p b : ℕ} {s : S} → HaltTo run (EndsOr R) p s b → b ≡ over → (d : ℕ) (k : List Frame) → ((v : M) → Mild (read p (at (base (got (g v))) d k) [])) → Mild (read p (at (item (f s)) d k) [])
+  halted-end : {p b : ℕ} {s : S} → HaltTo run Ended p s b → b ≡ over → (d : ℕ) (k : List Frame) → ((v : M) → Mild (read p (at (base (got (g v))) d k) [])) → Mild (read p (at (item (f s)) d k) [])
   halted-end {p} {b} {s} (HaltTo.here e) w d k h = at-end p s d k (rw (← w) e) h
   halted-end (HaltTo.spaced e j) w d k h = absurd (omega arith)
 
-  item-mild : {F : ℕ → Type 0} {p : ℕ} {s : S} {a : List ℕ} → GoesTo run (EndsOr R) F p s a → (d : ℕ) (k : List Frame) (r : List ℕ) → Follows F r → ((v : M) → Mild (read (adv p a) (at (base (got (g v))) d k) r)) → Mild (read p (at (item (f s)) d k) (a ++ r))
+  item-mild : {F : ℕ → Type 0} {p : ℕ} {s : S} {a : List ℕ} → GoesTo run Ended F p s a → (d : ℕ) (k : List Frame) (r : List ℕ) → Follows F r → ((v : M) → Mild (read (adv p a) (at (base (got (g v))) d k) r)) → Mild (read p (at (item (f s)) d k) (a ++ r))
   item-mild (GoesTo.ends e) d k [] (Follows.nothing x) h = halted-end (e over x) refl d k h
   item-mild (GoesTo.ends e) d k (b ∷ r) (Follows.byte x n) h = halted (e b x) d k r n h
   item-mild (GoesTo.goes {p = p} {c = c} {s = s} {s' = s'} {a = a} x e) d k r w h = mild-by (taken p s s' c d k (a ++ r) e) (item-mild x d k r w h)
@@ -104,31 +103,19 @@ abbrev ValueMild : List ℕ → Type 0
 ValueMild a = (p d : ℕ) (k : List Frame) (r : List ℕ) → Follows Ends r → ((g : Got) → IsValue g → Then p a d k r g) → Mild (read p (at (base want) d k) (a ++ r))
 
 -- a number or a time value
-numeric-mild : (R : Refusal → Type 0) → ((r : Refusal) → R r → Other r) → {a : List ℕ} → N.Begins a → (p d : ℕ) (k : List Frame) (r : List ℕ) → GoesTo Numeric.scan (EndsOr R) Ends p Numeric.begin a → Follows Ends r → ((m : Meaning) → Then p a d k r (Got.value m)) → Mild (read p (at (base want) d k) (a ++ r))
-numeric-mild R o (N.Begins.begins {b = b} {a = t} y) p d k r w h c =
-    mild-by (begun p d k want b (t ++ r) _ (lead-starts y p d k)) (item-mild R o Numeric.scan Machine.numeric Got.value (λ p s b. refl) w d k r h c)
-
-number-other : (q : ℕ) (r : Refusal) → IsNumber q r → Other r
-number-other q r e p f = let z : _≡_ {A = ℕ} 0 1 = cc in omega arith
-
-time-other : (q : ℕ) (r : Refusal) → IsTime q r → Other r
-time-other q r e p f = let z : _≡_ {A = ℕ} 0 1 = cc in omega arith
-
-escape-other : (r : Refusal) → IsEscape r → Other r
-escape-other r (x, e) p f = let z : _≡_ {A = ℕ} 0 1 = cc in omega arith
-
-deep-other : (q : ℕ) → Other (TooDeep q)
-deep-other q p f = let z : _≡_ {A = ℕ} 0 1 = cc in omega arith
+numeric-mild : {a : List ℕ} → N.Begins a → (p d : ℕ) (k : List Frame) (r : List ℕ) → GoesTo Numeric.scan Ended Ends p Numeric.begin a → Follows Ends r → ((m : Meaning) → Then p a d k r (Got.value m)) → Mild (read p (at (base want) d k) (a ++ r))
+numeric-mild (N.Begins.begins {b = b} {a = t} y) p d k r w h c =
+    mild-by (begun p d k want b (t ++ r) _ (lead-starts y p d k)) (item-mild Numeric.scan Machine.numeric Got.value (λ p s b. refl) w d k r h c)
 
 -- ---- strings
 
 part-mild : (z : Use) {a u : List ℕ} → String-part false a u → (s : Base) (v : List ℕ) → StartsString z s v → (p d : ℕ) (k : List Frame) (r : List ℕ) → Follows PartEnds r → ((w : List ℕ) → Then p a d k r (Got.string z w)) → Mild (read p (at (base s) d k) (a ++ r))
 part-mild z {a} {u} x s v y p d k r h c = go a (part-begins x) (part-ends x p) c
   where
-    go : (l : List ℕ) → Quoted l → GoesTo Strings.scan (EndsOr IsEscape) PartEnds p Strings.begin l → ((w : List ℕ) → Then p l d k r (Got.string z w)) → Mild (read p (at (base s) d k) (l ++ r))
+    go : (l : List ℕ) → Quoted l → GoesTo Strings.scan Ended PartEnds p Strings.begin l → ((w : List ℕ) → Then p l d k r (Got.string z w)) → Mild (read p (at (base s) d k) (l ++ r))
     go l (Quoted.quote {b = b} {a = t} e) w c =
         mild-by (begun p d k s b (t ++ r) _ (starts-string y p d k b e))
-        (item-mild IsEscape escape-other Strings.scan (Machine.string-part z v) (λ q. Got.string z (v ++ q)) (λ p s b. refl) w d k r h (λ q. c (v ++ q)))
+        (item-mild Strings.scan (Machine.string-part z v) (λ q. Got.string z (v ++ q)) (λ p s b. refl) w d k r h (λ q. c (v ++ q)))
 
 string-mild : (z : Use) {a u : List ℕ} → String false a u → (s : Base) (v : List ℕ) → StartsString z s v → (p d : ℕ) (k : List Frame) (r : List ℕ) → Follows PartEnds r → ((w : List ℕ) → Then p a d k r (Got.string z w)) → Mild (read p (at (base s) d k) (a ++ r))
 string-mild z (Concat.part x) s v b p d k r h c = part-mild z x s v b p d k r h c
@@ -216,7 +203,7 @@ member-mild x z c u v w a y l j t (members b) Alike.objects p d k r h e =
 
 opened-mild : (c : Machine.Bracket) (b : ℕ) → classOf b ≡ Machine.openC c → (a : List ℕ) (x : Inside) → Alike x (bareOf c) → RestMild x a → ValueMild (b ∷ a)
 unfolding read
-opened-mild c b e a x s t p zero k r h f = mild-by (stepped p (at (base want) zero k) b (a ++ r) (fail (TooDeep p)) (rw e) refl) (mild-fail (suc p) (TooDeep p) (a ++ r) (deep-other p))
+opened-mild c b e a x s t p zero k r h f = mild-by (stepped p (at (base want) zero k) b (a ++ r) (fail (TooDeep p)) (rw e) refl) (mild-fail (suc p) (TooDeep p) (a ++ r) (omega arith))
 opened-mild c b e a x s t p (suc d) k r h f =
     mild-by (stepped p (at (base want) (suc d) k) b (a ++ r) (at (base (wanted (bareOf c))) d (inside (bareOf c) ∷ k)) (rw e) refl) (t (bareOf c) s (suc p) d k r (λ m. f (Got.value m) (m, refl)))
 
@@ -225,10 +212,10 @@ value-mild x = elim x as (λ d a m _. ValueMild a) (λ d x a y _. RestMild x a) 
   | Value.null-word ↦ λ p d k r h c. mild-by (word-run (ch "n") (letters "ull") Meaning.null (λ p d k. refl) p d k r h) (c _ (Meaning.null, refl))
   | Value.true-word ↦ λ p d k r h c. mild-by (word-run (ch "t") (letters "rue") (Meaning.bool true) (λ p d k. refl) p d k r h) (c _ (Meaning.bool true, refl))
   | Value.false-word ↦ λ p d k r h c. mild-by (word-run (ch "f") (letters "alse") (Meaning.bool false) (λ p d k. refl) p d k r h) (c _ (Meaning.bool false, refl))
-  | Value.number y ↦ λ p d k r h c. numeric-mild (IsNumber p) (number-other p) (N.number-begins y) p d k r (number-ends y p) h (λ m. c (Got.value m) (m, refl))
+  | Value.number y ↦ λ p d k r h c. numeric-mild (N.number-begins y) p d k r (number-ends y p) h (λ m. c (Got.value m) (m, refl))
   | Value.string y ↦ λ p d k r h c. string-mild as-value y want [] StartsString.first-value p d k r (widen (λ b e. PartEnds.ends e) h) (λ u. c (Got.string as-value u) (Meaning.string u, refl))
   | Value.binary {u = u} y ↦ λ p d k r h c. mild-by (binary-run y p d k r (widen (λ b e. PartEnds.ends e) h)) (c (Got.binary u) (Meaning.binary u, refl))
-  | Value.time-value y ↦ λ p d k r h c. numeric-mild (IsTime p) (time-other p) (N.time-begins y) p d k r (time-ends y p) h (λ m. c (Got.value m) (m, refl))
+  | Value.time-value y ↦ λ p d k r h c. numeric-mild (N.time-begins y) p d k r (time-ends y p) h (λ m. c (Got.value m) (m, refl))
   | Value.array {a = a} y (z → ih) ↦ opened-mild Machine.square (ch "[") refl a (elements Meanings.none) Alike.arrays ih
   | Value.object {a = a} y (z → ih) ↦ opened-mild Machine.curly (ch "{") refl a (members Members.bare) Alike.objects ih
   | Rest.close {b = b} {x = x} {w = w} y c ↦ close-mild b x w y c

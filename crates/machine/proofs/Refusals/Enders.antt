@@ -1,22 +1,29 @@
--- What a number or a time value does at a byte that it does not take is the same for every such byte. Assumes nothing.
+-- What a number or a time value does at a byte that it does not take is the same for every such byte (`ender`). Assumes nothing.
 use Prim.Native.Nat.{ℕ, zero, suc, _+_, _*_, _^_}
-use mathlib.Core.Path.{_≡_, refl}
+use mathlib.Core.Path.{_≡_, refl, sym, _∙_, subst}
 use mathlib.Core.Bool.{Bool, true, false, cond, _&&_}
 use mathlib.Core.Logic.{_⊎_, inl, inr}
-use mathlib.Core.List.{List, [], _∷_}
+use mathlib.Core.List.{List, [], _∷_, _++_}
+use native.Mathlib.Omega.{arith}
 use lib.Dec.{eqb, leb}
 use lib.IntN.{pos}
 use Rattle.meaning.specs.declared.Date as D
 use Rattle.meaning.specs.declared.Time.the-variants.{OffsetDateTime}
+use Rattle.meaning.specs.declared.Refusal.{Refusal}
 use Rattle.meaning.specs.declared.Refusal.the-variants.{NotGrammar}
 use Rattle.meaning.specs.Clock.{timeOfDay}
-use Rattle.meaning.specs.Letters.{ch}
+use Rattle.meaning.specs.Letters.{letters, ch}
 use Rattle.meaning.specs.Meaning.{Meaning}
+use Rattle.grammar.specs.Comments.{Blank}
 use Rattle.grammar.specs.Times.{signed}
-use Rattle.machine.specs.Scan.{Out, takes, stops, breaks}
+use Rattle.machine.specs.Scan.{Out, takes, stops, breaks, over}
 use Rattle.machine.specs.Numeric
 use Rattle.machine.specs.Numeric.{St, Res, begin, sign, word, nought, int, point, frac, exp, expSign, expDigits, hexMark, hex, both, field, spaced, secPoint, nanos, zulu, Len, d1, d2, d3, d4, When, alone, on, Slot, month, day, hour, minute, second, offsetHour, offsetMinute, scan, settle, scaled, dated, tested, dateDone, clockDone, okDate, okClock, Dg, digit, other, Num, digitN, pointN, eN, xN, colonN, minusN, otherN, Sec, digitS, pointS, zuluS, plusS, minusS, otherS, Fst, noughtF, digitF, plusF, minusF, pointF, nF, iF, otherF}
+use Rattle.machine.proofs.Runs as Runs
+use Rattle.machine.proofs.Runs.{GoesTo, HaltTo, Steps, adv, taken-once, goes-end, end-out}
+use Rattle.machine.proofs.Layouts.{adv-join}
 use Rattle.machine.proofs.Numeric.Complete.{settleHex}
+use Rattle.machine.proofs.Refusals.Items.{Outcome}
 
 abbrev stuckAt : ℕ → Res
 stuckAt p = breaks (NotGrammar p)
@@ -254,3 +261,56 @@ taken-or-ender p (spaced q d) b = spaced-or q d b (Numeric.dgOf b)
 taken-or-ender p (secPoint q w h m s) b = sec-point-or p q w h m s b (Numeric.dgOf b)
 taken-or-ender p (nanos q w h m s k v) b = nanos-or q w h m s k v b (Numeric.secOf b)
 taken-or-ender p (zulu q d h m s n) b = inr refl
+
+-- ---- the outcome at a byte that is not taken
+
+-- the bytes of a run in two
+pub split-steps : (a : List ℕ) {c : List ℕ} {p : ℕ} {s s' : St} → Steps scan p s (a ++ c) s' → (t : St) × Steps scan p s a t × Steps scan (adv p a) t c s'
+split-steps [] {s = s} x = (s, Steps.stay, x)
+split-steps (b ∷ a) (Steps.eat x e) = let h = split-steps a x in (h .0, Steps.eat (h .1) e, h .2)
+
+-- what an item comes to before a comma it comes to at every byte that it does not take
+module _ (P : Meaning → Type 0) (R : Refusal → Type 0) where
+  abbrev Q : Res → Type 0
+  Q = Outcome P R
+
+  pub no-takes : (o : Res) → Q o → Takes o → ⊥
+  no-takes (takes s) h t = h
+  no-takes (stops m) h t = t
+  no-takes (breaks r) h t = t
+
+  so-ends : (p : ℕ) (s : St) (b : ℕ) → Q (scan p s b) → Q (ender p s)
+  so-ends p s b h = go (taken-or-ender p s b)
+    where
+      go : Or (scan p s b) (ender p s) → Q (ender p s)
+      go (inl t) = absurd (no-takes (scan p s b) h t)
+      go (inr e) = subst Q e h
+
+  pub ends-so : {p : ℕ} {s : St} → GoesTo scan Q Runs.Ends p s [] → Q (ender p s)
+  ends-so {p} {s} g = so-ends p s over (end-out scan Runs.Ends.end g)
+
+  untaken-out : (p : ℕ) (s : St) (b : ℕ) → Q (ender p s) → (Takes (scan p s b) → ⊥) → Q (scan p s b)
+  untaken-out p s b h n = go (taken-or-ender p s b)
+    where
+      go : Or (scan p s b) (ender p s) → Q (scan p s b)
+      go (inl t) = absurd (n t)
+      go (inr e) = subst Q (sym e) h
+
+  pub any-byte : {p : ℕ} {s s' : St} {a : List ℕ} → GoesTo scan Q Runs.Ends p s a → Steps scan p s a s' → (b : ℕ) → (Takes (scan (adv p a) s' b) → ⊥)
+      → Q (scan (adv p a) s' b)
+  any-byte {p} {s' = s'} {a = a} g x b n = untaken-out (adv p a) s' b (ends-so (goes-end scan x g)) n
+
+  -- behind a date and a space that is taken, what is no digit ends it
+  spaced-out : {p b : ℕ} {s u : St} → HaltTo scan Q p s b → b ≡ ch " " → scan p s (ch " ") ≡ takes u → (c : ℕ) → Runs.NoDigit c → Q (scan (suc p) u c)
+  spaced-out {p} {b} {s} (HaltTo.here h) e f c n = absurd (subst Q f (subst (λ (x : ℕ). Q (scan p s x)) e h))
+  spaced-out {p} (HaltTo.spaced g k) e f c n = subst (λ (x : St). Q (scan (suc p) x c)) (taken-once scan (sym g ∙ f)) (k (suc p) c n)
+
+  space-out : {p : ℕ} {s u : St} → GoesTo scan Q Runs.Ends p s [] → Steps scan p s (letters " ") u → (c : ℕ) → Runs.NoDigit c → Q (scan (suc p) u c)
+  space-out (GoesTo.ends h) (Steps.eat Steps.stay e) c n = spaced-out (h (ch " ") (Runs.Ends.blank Blank.space)) refl e c n
+
+  module _ {p : ℕ} {s u : St} {a : List ℕ} (g : GoesTo scan Q Runs.Ends p s a) (x : Steps scan p s (a ++ letters " ") u) where
+    pub space-digitless : (c : ℕ) → Runs.NoDigit c → Q (scan (adv p (a ++ letters " ")) u c)
+    space-digitless c n = let h = split-steps a x in rw (adv-join p a (letters " ")) (space-out (goes-end scan (h .1) g) (h .2) c n)
+
+    pub after-space : (b : ℕ) → (Takes (scan (adv p (a ++ letters " ")) u b) → ⊥) → Q (scan (adv p (a ++ letters " ")) u b)
+    after-space b n = let q = adv p (a ++ letters " ") in untaken-out q u b (so-ends q u over (space-digitless over (Runs.NoDigit.past (omega arith)))) n

@@ -1,112 +1,37 @@
 -- 4, from the grammar to the machine: a part that closes, good up to a backslash behind which no good escape stands, is refused there.
--- What a string part's state is after characters of the bare grammar; its first bad escape stays. Assumes nothing.
+-- Assumes nothing.
 use Prim.Native.Nat.{ℕ, suc, _+_, _≤_, _<_}
 use mathlib.Core.Path.{_≡_, refl, sym, ap, _∙_, subst}
 use mathlib.Core.Bool.{Bool, true, false}
-use mathlib.Core.Logic.{inl, inr}
-use mathlib.Core.List.{List, [], _∷_, _++_, append-assoc, append-nil}
+use mathlib.Core.Logic.{_⊎_, inl, inr}
+use mathlib.Core.List.{List, [], _∷_, _++_, append-assoc}
 use native.Mathlib.Omega.{arith}
 use native.Mathlib.Decide.{decLt}
 use lib.Dec.{ltb, leb}
 use lib.ListN.{length}
-use borrow.Author.Tests.{eq-eqb, ne-eqb, lt-ltb, le-ltb}
-use Rattle.rules.specs.Rfc3629.{In, Scalar, encode}
-use Rattle.rules.proofs.Characters.{Each, all-none, all-more}
+use borrow.Author.Tests.{lt-ltb, le-ltb}
+use Rattle.rules.specs.Rfc3629.{In, Scalar}
+use Rattle.rules.proofs.Characters.{same-head}
 use Rattle.meaning.specs.declared.Refusal.the-variants.{BadEscape}
 use Rattle.meaning.specs.Letters.{letters, ch}
-use Rattle.grammar.specs.Characters.{Among, Digits, Hexadecimal}
-use Rattle.grammar.specs.Strings.{Quote, mark, other, Chars, Escape, unescaped}
+use Rattle.grammar.specs.Characters.{Among, Hexadecimal}
+use Rattle.grammar.specs.Strings.{Quote, mark, other, Chars, Escape}
 use Rattle.grammar.specs.Values.{elements, members}
-use Rattle.machine.specs.Scan.{Out, takes}
+use Rattle.machine.specs.Scan.{Out}
 use Rattle.machine.specs.Machine
 use Rattle.machine.specs.Machine.{Use, Got, Base, base, item, Frame, inside, read, lift, onOut, No, reading}
 use Rattle.machine.specs.Strings as S
-use Rattle.machine.specs.Strings.{St, Ctx, Half, Bad, mk, give, wait, blame, badNow, lost, first, scan, begin, one, body, esc, done, fine, spoilt, whole, half}
-use Rattle.grammar.specs.Refused.{Spot, value, part, among}
-use Rattle.machine.proofs.Runs.{adv, Steps, eats, steps-join}
+use Rattle.machine.specs.Strings.{St, Ctx, Half, Bad, give, wait, blame, badNow, lost, first, scan, begin, done, spoilt, fine, whole, half}
+use Rattle.grammar.specs.Refused.{Spot, value, part, among, Left}
+use Rattle.machine.proofs.Runs.{adv, Steps}
 use Rattle.machine.proofs.Complete.{begun, StartsString, starts-string, quote-class}
 use Rattle.machine.proofs.Whole.{absorbing}
-use Rattle.machine.proofs.Strings.Raw.{Plain}
-use Rattle.machine.proofs.Strings.Quotes.{between-other}
-use Rattle.machine.proofs.Strings.Tests.{by-ltb, by-leb, short-of}
+use Rattle.machine.proofs.Strings.Tests.{either, by-ltb, by-leb}
 use Rattle.machine.proofs.Strings.Back.{four-small}
-use Rattle.machine.proofs.Strings.Forward.{First, first-of, encode-some, uni-steps, brace-step, brace-steps, back-step, plain-each, chars-steps, one-step, no-slash, start-step, clear}
-use Rattle.machine.proofs.Refusals.Items.{either, unit-quote, braces-quote, plain-bare}
+use Rattle.machine.proofs.Strings.Forward.{first-of, encode-some, plain-each, no-slash, clear}
+use Rattle.machine.proofs.Refusals.Chars.{CharsOf, escape-ctx, chars-ctx, first-char, Not-first, part-run}
 use Rattle.machine.proofs.Refusals.Lead.{Stood, left-stood}
 use Rattle.machine.proofs.Refusals.Split.{init, adv-length}
-use Rattle.machine.proofs.Refusals.Faulty.{Escape-given}
-
--- the characters of a part of one line, with the checks or without
-abbrev pub CharsOf : Bool → Quote → List ℕ → List ℕ → Type 0
-CharsOf k q a u = Chars (Among unescaped) (Escape k) q a u
-
--- ---- the state after characters of the bare grammar
-
--- after an escape whose backslash stands at this place
-abbrev pub escape-ctx : {k : Bool} {e v : List ℕ} → Escape k e v → ℕ → Ctx → Ctx
-escape-ctx (Escape.short {c = x} y) at c = give c (encode x)
-escape-ctx (Escape.unit {n = n} x s) at c = S.unit c at n (c .high)
-escape-ctx (Escape.pair {a = a} {high = h} {low = l} x i y j) at c = let d = S.unit c at h (c .high) in S.unit d (adv (suc (suc at)) a) l (d .high)
-escape-ctx (Escape.braced {n = n} x s) at c = S.inBraces c at n
-
--- after characters the first of which stands at this place
-abbrev pub chars-ctx : {k : Bool} {q : Quote} {a u : List ℕ} → CharsOf k q a u → ℕ → Ctx → Ctx
-chars-ctx Chars.none p c = c
-chars-ctx (Chars.plain {c = b} x y) p c = chars-ctx y (adv p b) (give c b)
-chars-ctx (Chars.escaped {e = e} x y) p c = chars-ctx y (adv (suc p) e) (escape-ctx x p c)
-chars-ctx {q = q} (Chars.other-quote y) p c = chars-ctx y (suc p) (give c (mark (other q) ∷ []))
-
-pub escape-ctx-quote : {k : Bool} {e v : List ℕ} (x : Escape k e v) (at : ℕ) (c : Ctx) → escape-ctx x at c .quote ≡ c .quote
-escape-ctx-quote (Escape.short y) at c = refl
-escape-ctx-quote (Escape.unit {n = n} x s) at c = unit-quote c at n (c .high)
-escape-ctx-quote (Escape.pair {a = a} {high = h} {low = l} x i y j) at c =
-    let d = S.unit c at h (c .high) in unit-quote d (adv (suc (suc at)) a) l (d .high) ∙ unit-quote c at h (c .high)
-escape-ctx-quote (Escape.braced {n = n} x s) at c = braces-quote c at n
-
-pub chars-ctx-quote : {k : Bool} {q : Quote} {a u : List ℕ} (x : CharsOf k q a u) (p : ℕ) (c : Ctx) → chars-ctx x p c .quote ≡ c .quote
-chars-ctx-quote Chars.none p c = refl
-chars-ctx-quote (Chars.plain {c = b} x y) p c = chars-ctx-quote y (adv p b) (give c b)
-chars-ctx-quote (Chars.escaped {e = e} x y) p c = chars-ctx-quote y (adv (suc p) e) (escape-ctx x p c) ∙ escape-ctx-quote x p c
-chars-ctx-quote {q = q} (Chars.other-quote y) p c = chars-ctx-quote y (suc p) (give c (mark (other q) ∷ []))
-
--- ---- the machine comes to it
-
-pub escape-run : {k : Bool} {e v : List ℕ} (x : Escape k e v) (at : ℕ) (c : Ctx) → Steps scan (suc at) (esc c at) e (body (escape-ctx x at c))
-unfolding scan S.onShort
-escape-run (Escape.short {b = b} {c = x} y) at c =
-    let u = short-of y in eats scan Steps.stay (rw (ne-eqb b 0x75 (u .1 .no-u), u .0, lt-ltb x 256 (omega arith)))
-escape-run (Escape.unit x s) at c = eats scan (uni-steps x (suc (suc at)) c at _ refl) refl
-escape-run (Escape.pair {a = a} {high = h} x i y j) at c =
-    let q = adv (suc (suc at)) a in
-    let d = S.unit c at h (c .high) in
-    let low = eats scan (eats scan (uni-steps y (suc (suc q)) d q _ refl) refl) (back-step q d) in
-    eats scan (steps-join scan (uni-steps x (suc (suc at)) c at d refl) low) refl
-escape-run (Escape.braced (Digits.next h x) s) at c =
-    let p = suc (suc (suc at)) in
-    eats scan (eats scan (eats scan (steps-join scan (brace-steps x (suc p) c at) (eats scan Steps.stay refl)) (brace-step h p c at 0)) refl) refl
-
--- plain bytes where no high surrogate waits
-plains-run : {q : ℕ} {a : List ℕ} → Each (Plain q) a → (p j : ℕ) (z : Bad) (acc : List ℕ) → j ≡ q
-    → Steps scan p (body (mk j z whole acc)) a (body (mk j z whole (acc ++ a)))
-plains-run all-none p j z acc e = rw append-nil Steps.stay
-plains-run (all-more {b = b} x y) p j z acc e =
-    eats scan (rw append-assoc at (plains-run y (suc p) j z (acc ++ (b ∷ [])) e)) (plain-bare x p (mk j z whole acc) e)
-
--- the bytes of a plain character, from any state
-plain-run : {q : ℕ} {a : List ℕ} → First (Plain q) a → (p : ℕ) (c : Ctx) → c .quote ≡ q → Steps scan p (body c) a (body (give c a))
-plain-run f p c e =
-    let more = plains-run (f .all) (suc p) (c .quote) (badNow c) (c .acc ++ (f .byte ∷ [])) e in
-    rw (f .is) (eats scan (rw append-assoc at more) (plain-bare (f .has) p c e))
-
-pub chars-run : {k : Bool} {q : Quote} {a u : List ℕ} (x : CharsOf k q a u) (p : ℕ) (c : Ctx) → c .quote ≡ mark q
-    → Steps scan p (body c) a (body (chars-ctx x p c))
-chars-run Chars.none p c e = Steps.stay
-chars-run {q = q} (Chars.plain (Among.character {n = n} s o) y) p c e =
-    steps-join scan (plain-run (first-of (plain-each q n s o) (encode-some n s)) p c e) (chars-run y (adv p (encode n)) (give c (encode n)) e)
-chars-run (Chars.escaped {e = b} x y) p c e =
-    eats scan (steps-join scan (escape-run x p c) (chars-run y (adv (suc p) b) (escape-ctx x p c) (escape-ctx-quote x p c ∙ e))) (back-step p c)
-chars-run {q = q} (Chars.other-quote y) p c e =
-    eats scan (chars-run y (suc p) (give c (mark (other q) ∷ [])) e) (plain-bare (between-other q 0xFF (omega arith)) p c e)
 
 -- ---- a bad escape stays
 
@@ -244,46 +169,20 @@ pub chars-bad : {q : Quote} {x v : List ℕ} (y : CharsOf false q x v) (b : List
 chars-bad Chars.none b e lacks p j acc = absurd (let z : _≡_ {A = ℕ} 0 1 = cc in omega arith)
 chars-bad {q = q} (Chars.plain {a = a} (Among.character {n = n} s o) y) b e lacks p j acc =
     let f = first-of (plain-each q n s o) (encode-some n s) in
-    absurd (f .has .no-back (head (ap (λ (z : List ℕ). z ++ a) (sym (f .is)) ∙ e)))
-  where
-    head : {m n : ℕ} {x y : List ℕ} → m ∷ x ≡ n ∷ y → m ≡ n
-    head h = cc
+    absurd (f .has .no-back (same-head (ap (λ (z : List ℕ). z ++ a) (sym (f .is)) ∙ e)))
 chars-bad (Chars.escaped {e = d} {a = a} x y) b e lacks p j acc =
     let i : b ≡ d ++ a = cc in
     spoilt-stays p y (adv (suc p) d) (escape-ctx x p (clear j acc)) (first-bad x a (subst No-escape i lacks) p j acc)
 chars-bad {q = q} (Chars.other-quote y) b e lacks p j acc = absurd (no-slash (other q) (let i : mark (other q) ≡ ch "\\" = cc in sym i))
 
--- ---- the part
-
--- the first byte is there, and is another
-abbrev pub Not-first : ℕ → List ℕ → Type 0
-Not-first q [] = ⊥
-Not-first q (b ∷ l) = b ≡ q → ⊥
-
-not-closed : {k : Bool} {q : Quote} {a u : List ℕ} → CharsOf k q a u → (b : List ℕ) → Not-first (mark q) (a ++ (ch "\\" ∷ b))
-not-closed {q = q} Chars.none b = no-slash q
-not-closed {q = q} (Chars.plain (Among.character {n = n} s o) y) b = let f = first-of (plain-each q n s o) (encode-some n s) in rw (f .is) (f .has .no-end)
-not-closed {q = q} (Chars.escaped x y) b = no-slash q
-not-closed {q = q} (Chars.other-quote y) b = between-other q 0xFF (omega arith) .no-end
-
-one-run : {q p : ℕ} {t : St} (l : List ℕ) → Not-first q l → Steps scan p (body (clear q [])) l t → Steps scan p (one q) l t
-one-run [] h x = absurd h
-one-run {p = p} (b ∷ l) h (Steps.eat x e) = eats scan x (one-step h p ∙ e)
-
-shut-step : (q : Quote) (p : ℕ) (c : Ctx) → c .quote ≡ mark q → scan p (body c) (mark q) ≡ takes (done c)
-unfolding scan S.onBody
-shut-step q p c e = rw (e, ne-eqb (mark q) 0x5C (λ f. no-slash q (sym f)), eq-eqb (mark q) (mark q) refl)
-
--- good characters, then bare ones: the state where the part closes
-pub part-run : {q : Quote} {a u x v : List ℕ} → CharsOf true q a u → (y : CharsOf false q x v) → Not-first (mark q) (a ++ x)
-    → (p : ℕ) → Steps scan p begin (mark q ∷ ((a ++ x) ++ (mark q ∷ []))) (done (chars-ctx y (adv (suc p) a) (clear (mark q) u)))
-part-run {q} {a} {u} {x} w y n p =
-    let i = adv (suc p) a in
-    let c = clear (mark q) u in
-    eats scan (steps-join scan (one-run (a ++ x) n (steps-join scan (chars-steps w (suc p) []) (chars-run y i c refl)))
-    (eats scan Steps.stay (shut-step q (adv (suc p) (a ++ x)) (chars-ctx y i c) (chars-ctx-quote y i c)))) (start-step q p)
-
 -- ---- the run
+
+not-closed : {q : Quote} {a u : List ℕ} → CharsOf true q a u → (b : List ℕ) → Not-first (mark q) (a ++ (ch "\\" ∷ b))
+not-closed {q} {a} x b = go (first-char x)
+  where
+    go : (a ≡ []) ⊎ ((b : List ℕ) → Not-first (mark q) (a ++ b)) → Not-first (mark q) (a ++ (ch "\\" ∷ b))
+    go (inl e) = rw e (no-slash q)
+    go (inr f) = f (ch "\\" ∷ b)
 
 -- the bytes of a string part that lead from one state to another
 pub part-read : {p : ℕ} {s s' : St} {a : List ℕ} → Steps scan p s a s' → (z : Use) (v : List ℕ) (d : ℕ) (k : List Frame) (r : List ℕ)
@@ -310,14 +209,15 @@ bad-part {z} {s} {w} i {a} {u} {b} q x y lacks p d k r =
     let c = chars-ctx y j (clear (mark q) u) in
     begun p d k s (mark q) _ _ (starts-string i p d k (mark q) (quote-class q))
     ∙ ap (λ (t : List ℕ). read p (Machine.at (item (Machine.string-part z w begin)) d k) (mark q ∷ t)) (respelt a b (mark q ∷ []) r)
-    ∙ part-read (part-run x y (not-closed x b) p) z w d k r
-    ∙ done-read j c (chars-bad y b refl lacks j (mark q) u) (adv (suc p) ((a ++ (ch "\\" ∷ b)) ++ (mark q ∷ []))) z w d k r
+    ∙ part-read (part-run x y (not-closed x (b ++ (mark q ∷ []))) p) z w d k r
+    ∙ done-read j c (chars-bad y b refl lacks j (mark q) u) (adv (suc p) (a ++ (ch "\\" ∷ (b ++ (mark q ∷ []))))) z w d k r
   where
-    respelt : (a b m r : List ℕ) → a ++ (ch "\\" ∷ (b ++ (m ++ r))) ≡ ((a ++ (ch "\\" ∷ b)) ++ m) ++ r
-    respelt a b m r = sym (append-assoc (a ++ (ch "\\" ∷ b)) m r ∙ append-assoc a (ch "\\" ∷ b) (m ++ r))
+    respelt : (a b m r : List ℕ) → a ++ (ch "\\" ∷ (b ++ (m ++ r))) ≡ (a ++ (ch "\\" ∷ (b ++ m))) ++ r
+    respelt a b m r = simp append-assoc
 
 -- 4 is given at that backslash
-pub escape-given : Escape-given
+pub escape-given : (d : ℕ) (s : Spot) (l a u b v : List ℕ) (q : Quote) (r : List ℕ) → Left d s l → CharsOf true q a u → CharsOf false q (ch "\\" ∷ b) v → No-escape b
+    → reading (l ++ (mark q ∷ (a ++ (ch "\\" ∷ (b ++ (mark q ∷ r)))))) ≡ No (BadEscape (length l + 1 + length a))
 unfolding reading
 escape-given d s l a u b v q r h x y lacks =
     go s (left-stood h) ∙ ap (λ (p : ℕ). No (BadEscape p)) (adv-length a (suc (adv 0 l)) ∙ place (adv 0 l) (adv-length l 0))

@@ -8,10 +8,12 @@ use native.Mathlib.Omega.{arith}
 use lib.Dec.{ltb}
 use lib.ListN.{replicate}
 use borrow.Author.Tests.{ne-eqb, le-ltb, lt-ltb}
-use Rattle.rules.proofs.Characters.{Each, all-none, all-more, each-join}
+use Rattle.rules.specs.Rfc3629.{Octets}
+use Rattle.rules.proofs.Characters.{Each, all-none, all-more, each-join, after, split-ascii}
+use Rattle.meaning.specs.declared.Refusal.the-variants.{NotGrammar}
 use Rattle.meaning.specs.Letters.{letters, ch}
 use Rattle.grammar.specs.Characters.{Hexdig, Digits, Hexadecimal}
-use Rattle.grammar.specs.Strings.{Quote, double, single, mark, three, Short, Escape, Up-to-two, Newline, No-newline}
+use Rattle.grammar.specs.Strings.{Quote, double, single, mark, three, Short, Escape, Up-to-two, Newline, No-newline, String-part}
 use Rattle.machine.specs.Scan.{Out, takes, stops, breaks}
 use Rattle.machine.specs.Strings as S
 use Rattle.machine.specs.Strings.{St, Ctx, Bad, Half, mk, badNow, give, scan, start, one, two, lines0, linesCR, lines, body, esc, uni, hex, brace0, brace, done, fine, spoilt, whole, half, hexOf, shortOf, begin}
@@ -20,9 +22,11 @@ use Rattle.machine.proofs.Strings.Raw.{Plain, Body, Inner, Lines, Raw-p
 use Rattle.machine.proofs.Strings.Tests.{by-bool, by-eqb, by-ltb, by-leb, hex-is, hex-ascii, short-is}
 use Rattle.machine.proofs.Strings.Quotes.{mark-ascii}
 use Rattle.machine.proofs.Strings.Ascii.{Ascii}
+use Rattle.machine.proofs.Strings.Whole.{part-of, part-cut}
 use Rattle.machine.proofs.Strings.Back.{plain-may, one-more, up-to-two, inner-return}
 use Rattle.machine.proofs.Strings.Forward.{no-return}
-use Rattle.machine.proofs.Refusals.Items.{unit-quote, braces-quote}
+use Rattle.machine.proofs.Refusals.Reason.{Three}
+use Rattle.machine.proofs.Refusals.Chars.{unit-quote, braces-quote}
 
 -- ---- what may still come, without checks; v, the value, does not matter
 
@@ -142,63 +146,108 @@ Sane (brace0 k at) = IsMark (k .quote)
 Sane (brace k at x) = IsMark (k .quote)
 Sane (done k) = Unit {0}
 
-abbrev SaneOut : Out St (List ℕ) → Type 0
-SaneOut (takes s) = Sane s
-SaneOut (stops v) = Unit {0}
-SaneOut (breaks r) = Unit {0}
+-- no byte of a longer character leads here
+abbrev pub Clean : St → Type 0
+Clean (body k) = ⊥
+Clean (lines q n acc) = ⊥
+Clean start = Unit {0}
+Clean (one q) = Unit {0}
+Clean (two q) = Unit {0}
+Clean (lines0 q) = Unit {0}
+Clean (linesCR q) = Unit {0}
+Clean (esc k at) = Unit {0}
+Clean (uni k at) = Unit {0}
+Clean (hex k at n x) = Unit {0}
+Clean (brace0 k at) = Unit {0}
+Clean (brace k at x) = Unit {0}
+Clean (done k) = Unit {0}
 
-sane-body : (p : ℕ) (k : Ctx) (b : ℕ) → IsMark (k .quote) → SaneOut (S.onBody p k b)
-unfolding S.onBody
-sane-body p k b h = by-eqb SaneOut b 0x5C _ _ (λ e. h) λ n. by-eqb SaneOut b (k .quote) _ _ (λ e. tt) λ m. by-bool SaneOut (S.plainByte b) _ _ (λ e. h) (λ e. tt)
+-- a part that has closed with a bad escape in it
+abbrev pub Closed : St → Type 0
+Closed s = (c : Ctx) × (q : ℕ) × (s ≡ done c) × (badNow c ≡ spoilt q)
 
-sane-lines : (p q n : ℕ) (acc : List ℕ) (b : ℕ) → IsMark q → n ≤ 2 → SaneOut (S.onLines p q n acc b)
-unfolding S.onLines
-sane-lines p q n acc b h l =
-    by-eqb SaneOut b q _ _ (λ e. by-eqb (λ t. SaneOut (takes t)) n 2 _ _ (λ m. tt) (λ m. (h, omega arith))) λ n. by-bool SaneOut (S.lineByte b) _ _ (λ e. (h, omega arith)) (λ e. tt)
+-- what each byte does: it leads to a sane state, by ASCII to a clean one; what breaks does so with 3, or has closed
+abbrev pub Kept : ℕ → St → Out St (List ℕ) → Type 0
+Kept b s (takes t) = Sane t × (Clean t → Ascii b)
+Kept b s (stops v) = Unit {0}
+Kept b s (breaks r) = Three r ⊎ Closed s
+
+low : {q : ℕ} → IsMark q → Ascii q
+low h = rw (h .1) (mark-ascii (h .0))
+
+digit-low : (b : ℕ) → hexOf b < 16 → Ascii b
+digit-low b l = let i = hex-ascii (hex-is b l) in omega arith
 
 mark-by : (q q' : ℕ) → q' ≡ q → IsMark q → IsMark q'
 mark-by q q' e h = (h .0, e ∙ h .1)
 
-sane-hex : (p : ℕ) (k : Ctx) (at n v x : ℕ) → IsMark (k .quote) → SaneOut (S.onHex p k at n v x)
-unfolding S.onHex S.hexed
-sane-hex p k at zero v x h = by-ltb SaneOut x 16 _ _ (λ l. mark-by (k .quote) _ (unit-quote k at (16 * v + x) (k .high)) h) (λ l. tt)
-sane-hex p k at (suc n) v x h = by-ltb SaneOut x 16 _ _ (λ l. h) (λ l. tt)
+module _ (p b : ℕ) (s : St) where
+  -- the outcome has it
+  abbrev Has : Out St (List ℕ) → Type 0
+  Has = Kept b s
 
-sane-brace : (p : ℕ) (k : Ctx) (at v x : ℕ) → IsMark (k .quote) → SaneOut (S.onBrace p k at v x)
-unfolding S.onBrace
-sane-brace p k at v x h = by-ltb SaneOut x 16 _ _ (λ l. h) (λ l. tt)
+  quits : Has (breaks (NotGrammar p))
+  quits = inl (p, refl)
 
-sane-close : (acc : List ℕ) (z : Bad) → SaneOut (S.close acc z)
-sane-close acc fine = tt
-sane-close acc (spoilt at) = tt
+  kept-body : (k : Ctx) → IsMark (k .quote) → Has (S.onBody p k b)
+  unfolding S.onBody
+  kept-body k h =
+      by-eqb Has b 0x5C _ _ (λ e. (h, λ c. omega arith)) λ n.
+      by-eqb Has b (k .quote) _ _ (λ e. (tt, λ c. rw e (low h))) λ m.
+      by-bool Has (S.plainByte b) _ _ (λ e. (h, λ c. absurd c)) (λ e. quits)
 
-sane-on : (p : ℕ) (s : St) (b : ℕ) → Sane s → SaneOut (scan p s b)
+  kept-lines : (q n : ℕ) (acc : List ℕ) → IsMark q → n ≤ 2 → Has (S.onLines p q n acc b)
+  unfolding S.onLines
+  kept-lines q n acc h l =
+      by-eqb Has b q _ _ (λ e. by-eqb (λ t. Has (takes t)) n 2 _ _ (λ m. (tt, λ c. rw e (low h))) (λ m. ((h, omega arith), λ c. absurd c))) λ n.
+      by-bool Has (S.lineByte b) _ _ (λ e. ((h, omega arith), λ c. absurd c)) (λ e. quits)
+
+  kept-hex : (k : Ctx) (at n v : ℕ) → IsMark (k .quote) → Has (S.onHex p k at n v (hexOf b))
+  unfolding S.onHex S.hexed
+  kept-hex k at zero v h =
+      by-ltb Has (hexOf b) 16 _ _ (λ l. (mark-by (k .quote) _ (unit-quote k at (16 * v + hexOf b) (k .high)) h, λ c. absurd c)) (λ l. quits)
+  kept-hex k at (suc n) v h = by-ltb Has (hexOf b) 16 _ _ (λ l. (h, λ c. digit-low b l)) (λ l. quits)
+
+  kept-brace : (k : Ctx) (at v : ℕ) → IsMark (k .quote) → Has (S.onBrace p k at v (hexOf b))
+  unfolding S.onBrace
+  kept-brace k at v h = by-ltb Has (hexOf b) 16 _ _ (λ l. (h, λ c. digit-low b l)) (λ l. quits)
+
+  kept-close : (k : Ctx) (z : Bad) → s ≡ done k → badNow k ≡ z → Has (S.close (k .acc) z)
+  kept-close k fine e f = tt
+  kept-close k (spoilt q) e f = inr (k, q, e, f)
+
+pub kept : (p : ℕ) (s : St) (b : ℕ) → Sane s → Kept b s (scan p s b)
 unfolding scan S.onShort
-sane-on p start b h = by-eqb SaneOut b 0x22 _ _ (λ e. (double, e)) λ n. by-eqb SaneOut b 0x27 _ _ (λ e. (single, e)) (λ m. tt)
-sane-on p (one q) b h = by-eqb SaneOut b q _ _ (λ e. h) (λ n. sane-body p (mk q fine whole []) b h)
-sane-on p (two q) b h = by-eqb SaneOut b q _ _ (λ e. h) (λ n. tt)
-sane-on p (lines0 q) b h = by-eqb SaneOut b 10 _ _ (λ e. (h, omega arith)) λ n. by-eqb SaneOut b 13 _ _ (λ e. h) (λ m. sane-lines p q 0 [] b h (omega arith))
-sane-on p (linesCR q) b h = by-eqb SaneOut b 10 _ _ (λ e. (h, omega arith)) (λ n. sane-lines p q 0 (letters "\r") b h (omega arith))
-sane-on p (lines q n acc) b h = sane-lines p q n acc b (h .0) (h .1)
-sane-on p (body k) b h = sane-body p k b h
-sane-on p (esc k at) b h = by-eqb SaneOut b 0x75 _ _ (λ e. h) (λ n. by-ltb SaneOut (shortOf b) 256 _ _ (λ l. h) (λ l. tt))
-sane-on p (uni k at) b h = by-eqb SaneOut b 0x7B _ _ (λ e. h) (λ n. sane-hex p k at 3 0 (hexOf b) h)
-sane-on p (hex k at n x) b h = sane-hex p k at n x (hexOf b) h
-sane-on p (brace0 k at) b h = sane-brace p k at 0 (hexOf b) h
-sane-on p (brace k at x) b h = by-eqb SaneOut b 0x7D _ _ (λ e. mark-by (k .quote) _ (braces-quote k at x) h) (λ n. sane-brace p k at x (hexOf b) h)
-sane-on p (done k) b h = sane-close (k .acc) (badNow k)
+kept p start b h =
+    by-eqb (Kept b start) b 0x22 _ _ (λ e. ((double, e), λ c. omega arith)) λ n.
+    by-eqb (Kept b start) b 0x27 _ _ (λ e. ((single, e), λ c. omega arith)) (λ m. quits p b start)
+kept p (one q) b h = by-eqb (Kept b (one q)) b q _ _ (λ e. (h, λ c. rw e (low h))) (λ n. kept-body p b (one q) (mk q fine whole []) h)
+kept p (two q) b h = by-eqb (Kept b (two q)) b q _ _ (λ e. (h, λ c. rw e (low h))) (λ n. tt)
+kept p (lines0 q) b h =
+    by-eqb (Kept b (lines0 q)) b 10 _ _ (λ e. ((h, omega arith), λ c. absurd c)) λ n.
+    by-eqb (Kept b (lines0 q)) b 13 _ _ (λ e. (h, λ c. omega arith)) (λ m. kept-lines p b (lines0 q) q 0 [] h (omega arith))
+kept p (linesCR q) b h =
+    by-eqb (Kept b (linesCR q)) b 10 _ _ (λ e. ((h, omega arith), λ c. absurd c)) (λ n. kept-lines p b (linesCR q) q 0 (letters "\r") h (omega arith))
+kept p (lines q n acc) b h = kept-lines p b (lines q n acc) q n acc (h .0) (h .1)
+kept p (body k) b h = kept-body p b (body k) k h
+kept p (esc k at) b h =
+    by-eqb (Kept b (esc k at)) b 0x75 _ _ (λ e. (h, λ c. omega arith))
+    (λ n. by-ltb (Kept b (esc k at)) (shortOf b) 256 _ _ (λ l. (h, λ c. absurd c)) (λ l. quits p b (esc k at)))
+kept p (uni k at) b h = by-eqb (Kept b (uni k at)) b 0x7B _ _ (λ e. (h, λ c. omega arith)) (λ n. kept-hex p b (uni k at) k at 3 0 h)
+kept p (hex k at n x) b h = kept-hex p b (hex k at n x) k at n x h
+kept p (brace0 k at) b h = kept-brace p b (brace0 k at) k at 0 h
+kept p (brace k at x) b h =
+    by-eqb (Kept b (brace k at x)) b 0x7D _ _ (λ e. (mark-by (k .quote) _ (braces-quote k at x) h, λ c. absurd c)) (λ n. kept-brace p b (brace k at x) k at x h)
+kept p (done k) b h = kept-close p b (done k) k (badNow k) refl refl
 
 pub steps-sane : {p : ℕ} {s s' : St} {a : List ℕ} → Steps scan p s a s' → Sane s → Sane s'
 steps-sane Steps.stay h = h
-steps-sane (Steps.eat {p = p} {b = b} {s = s} x e) h = steps-sane x (subst SaneOut e (sane-on p s b h))
+steps-sane (Steps.eat {p = p} {b = b} {s = s} x e) h = steps-sane x (subst (Kept b s) e (kept p s b h) .0)
 
 -- ---- some bytes, all ASCII, finish it
 
 abbrev Finish : St → Type 0
 Finish s = (a : List ℕ) × PartBare s a [] × Each Ascii a
-
-low : {q : ℕ} → IsMark q → Ascii q
-low h = rw (h .1) (mark-ascii (h .0))
 
 zeros : (n x : ℕ) → (ds : List ℕ) × (w : ℕ) × Digits Hexdig 16 n x ds w × Each Ascii ds
 zeros zero x = ([], x, Digits.over, all-none)
@@ -228,83 +277,18 @@ finish (done k) h = ([], refl, all-none)
 
 -- ---- where a character may be cut
 
--- no byte of a longer character leads here
-abbrev pub Clean : St → Type 0
-Clean (body k) = ⊥
-Clean (lines q n acc) = ⊥
-Clean start = Unit {0}
-Clean (one q) = Unit {0}
-Clean (two q) = Unit {0}
-Clean (lines0 q) = Unit {0}
-Clean (linesCR q) = Unit {0}
-Clean (esc k at) = Unit {0}
-Clean (uni k at) = Unit {0}
-Clean (hex k at n x) = Unit {0}
-Clean (brace0 k at) = Unit {0}
-Clean (brace k at x) = Unit {0}
-Clean (done k) = Unit {0}
-
-abbrev CleanOut : ℕ → Out St (List ℕ) → Type 0
-CleanOut b (takes s) = Clean s → Ascii b
-CleanOut b (stops v) = Unit {0}
-CleanOut b (breaks r) = Unit {0}
-
-clean-body : (p : ℕ) (k : Ctx) (b : ℕ) → IsMark (k .quote) → CleanOut b (S.onBody p k b)
-unfolding S.onBody
-clean-body p k b h = by-eqb (CleanOut b) b 0x5C _ _ (λ e c. omega arith) λ n. by-eqb (CleanOut b) b (k .quote) _ _ (λ e c. rw e (low h)) λ m. by-bool (CleanOut b) (S.plainByte b) _ _ (λ e c. absurd c) (λ e. tt)
-
-clean-lines : (p q n : ℕ) (acc : List ℕ) (b : ℕ) → IsMark q → CleanOut b (S.onLines p q n acc b)
-unfolding S.onLines
-clean-lines p q n acc b h =
-    by-eqb (CleanOut b) b q _ _ (λ e. by-eqb (λ t. CleanOut b (takes t)) n 2 _ _ (λ m c. rw e (low h)) (λ m c. absurd c)) λ n. by-bool (CleanOut b) (S.lineByte b) _ _ (λ e c. absurd c) (λ e. tt)
-
-digit-low : (b : ℕ) → hexOf b < 16 → Ascii b
-digit-low b l = let i = hex-ascii (hex-is b l) in omega arith
-
-clean-hex : (p : ℕ) (k : Ctx) (at n v b : ℕ) → CleanOut b (S.onHex p k at n v (hexOf b))
-unfolding S.onHex S.hexed
-clean-hex p k at zero v b = by-ltb (CleanOut b) (hexOf b) 16 _ _ (λ l c. absurd c) (λ l. tt)
-clean-hex p k at (suc n) v b = by-ltb (CleanOut b) (hexOf b) 16 _ _ (λ l c. digit-low b l) (λ l. tt)
-
-clean-brace : (p : ℕ) (k : Ctx) (at v b : ℕ) → CleanOut b (S.onBrace p k at v (hexOf b))
-unfolding S.onBrace
-clean-brace p k at v b = by-ltb (CleanOut b) (hexOf b) 16 _ _ (λ l c. digit-low b l) (λ l. tt)
-
-clean-close : (acc : List ℕ) (b : ℕ) (z : Bad) → CleanOut b (S.close acc z)
-clean-close acc b fine = tt
-clean-close acc b (spoilt at) = tt
-
-clean-on : (p : ℕ) (s : St) (b : ℕ) → Sane s → CleanOut b (scan p s b)
-unfolding scan S.onShort
-clean-on p start b h = by-eqb (CleanOut b) b 0x22 _ _ (λ e c. omega arith) λ n. by-eqb (CleanOut b) b 0x27 _ _ (λ e c. omega arith) (λ m. tt)
-clean-on p (one q) b h = by-eqb (CleanOut b) b q _ _ (λ e c. rw e (low h)) (λ n. clean-body p (mk q fine whole []) b h)
-clean-on p (two q) b h = by-eqb (CleanOut b) b q _ _ (λ e c. rw e (low h)) (λ n. tt)
-clean-on p (lines0 q) b h = by-eqb (CleanOut b) b 10 _ _ (λ e c. absurd c) λ n. by-eqb (CleanOut b) b 13 _ _ (λ e c. omega arith) (λ m. clean-lines p q 0 [] b h)
-clean-on p (linesCR q) b h = by-eqb (CleanOut b) b 10 _ _ (λ e c. absurd c) (λ n. clean-lines p q 0 (letters "\r") b h)
-clean-on p (lines q n acc) b h = clean-lines p q n acc b (h .0)
-clean-on p (body k) b h = clean-body p k b h
-clean-on p (esc k at) b h = by-eqb (CleanOut b) b 0x75 _ _ (λ e c. omega arith) (λ n. by-ltb (CleanOut b) (shortOf b) 256 _ _ (λ l c. absurd c) (λ l. tt))
-clean-on p (uni k at) b h = by-eqb (CleanOut b) b 0x7B _ _ (λ e c. omega arith) (λ n. clean-hex p k at 3 0 b)
-clean-on p (hex k at n x) b h = clean-hex p k at n x b
-clean-on p (brace0 k at) b h = clean-brace p k at 0 b
-clean-on p (brace k at x) b h = by-eqb (CleanOut b) b 0x7D _ _ (λ e c. absurd c) (λ n. clean-brace p k at x b)
-clean-on p (done k) b h = clean-close (k .acc) b (badNow k)
-
 -- the last byte
 abbrev Last-low : List ℕ → Type 0
 Last-low a = (x : List ℕ) × (b : ℕ) × (a ≡ x ++ (b ∷ [])) × Ascii b
 
-further : (b : ℕ) {a : List ℕ} → (a ≡ []) ⊎ Last-low a → (a ≡ [] → Ascii b) → (b ∷ a ≡ []) ⊎ Last-low (b ∷ a)
-further b (inl e) f = inr ([], b, ap {B = List ℕ} (λ (x : List ℕ). b ∷ x) e, f e)
-further b (inr h) f = inr (b ∷ h .0, h .1, ap {B = List ℕ} (λ (x : List ℕ). b ∷ x) (h .2), h .3)
+further : (b : ℕ) {c : ℕ} {a : List ℕ} → (c ∷ a ≡ []) ⊎ Last-low (c ∷ a) → (b ∷ c ∷ a ≡ []) ⊎ Last-low (b ∷ c ∷ a)
+further b (inl e) = absurd (let z : _≡_ {A = ℕ} 0 1 = cc in omega arith)
+further b (inr h) = inr (b ∷ h .0, h .1, ap {B = List ℕ} (λ (x : List ℕ). b ∷ x) (h .2), h .3)
 
 pub steps-last : {p : ℕ} {s s' : St} {a : List ℕ} → Steps scan p s a s' → Sane s → Clean s' → (a ≡ []) ⊎ Last-low a
 steps-last Steps.stay h c = inl refl
-steps-last (Steps.eat {p = p} {b = b} {s = s} Steps.stay e) h c = inr ([], b, refl, subst (CleanOut b) e (clean-on p s b h) c)
-steps-last (Steps.eat {p = p} {b = b} {s = s} (Steps.eat {b = b'} {a = a'} x e') e) h c = further b (steps-last (Steps.eat x e') (subst SaneOut e (sane-on p s b h)) c) (λ z. absurd (cons-not z))
-  where
-    cons-not : b' ∷ a' ≡ [] → ⊥
-    cons-not z = let y : _≡_ {A = ℕ} 0 1 = cc in omega arith
+steps-last (Steps.eat {p = p} {b = b} {s = s} Steps.stay e) h c = inr ([], b, refl, subst (Kept b s) e (kept p s b h) .1 c)
+steps-last (Steps.eat {p = p} {b = b} {s = s} (Steps.eat x f) e) h c = further b (steps-last (Steps.eat x f) (subst (Kept b s) e (kept p s b h) .0) c)
 
 -- a byte of a longer character is taken in the body and between lines
 abbrev pub HighOut : Out St (List ℕ) → Type 0
@@ -342,3 +326,17 @@ clean-or (hex k at n x) = inl tt
 clean-or (brace0 k at) = inl tt
 clean-or (brace k at x) = inl tt
 clean-or (done k) = inl tt
+
+-- ---- a raw part in UTF-8 is a part
+
+raw-begins : {k : Bool} {a u : List ℕ} → Raw-part k a u → (q : Quote) × (r : List ℕ) × (a ≡ mark q ∷ r)
+raw-begins (Raw-part.one-line {a = a} q x) = (q, a, refl)
+raw-begins (Raw-part.multiline {a = a} q x n) = (q, mark q ∷ mark q ∷ a, refl)
+raw-begins (Raw-part.trimmed {n = n} {a = a} q x y) = (q, mark q ∷ mark q ∷ (n ++ a), refl)
+
+pub raw-whole : {k : Bool} (f b r : List ℕ) {v : List ℕ} → Raw-part k b v → Octets (f ++ (b ++ r)) → String-part k b v
+raw-whole f b r y o =
+    let q = raw-begins y in
+    let i = mark-ascii (q .0) in
+    let u : Octets f = split-ascii o f (mark (q .0)) (q .1 ++ r) (omega arith) (ap (λ (x : List ℕ). f ++ (x ++ r)) (q .2)) in
+    part-of y (part-cut y r (after u (b ++ r) o) .0)
