@@ -1,14 +1,12 @@
 -- The claims, a theorem for each row of the table in docs/CLAIMS.md. Each is about the promises of the public calls (the specs/ of rules,
 -- tape, reader and writer), so about any program that meets them. Assumes nothing.
 pub mod Reading
-pub mod Hopeless
 pub mod Writing
 pub mod Outcomes
 pub mod PList
 pub mod Impostors
 pub mod Exports
 pub use Reading.{accepted, measured, bounded, unambiguous}
-pub use Hopeless.{first-bad-byte}
 pub use Writing.{written, same-text, read-back}
 pub use Outcomes.{untouched, one-outcome-utf8, one-outcome-date, one-outcome-measure, one-outcome-read, one-outcome-look, one-outcome-write-jaxn, one-outcome-write-json}
 pub use PList.{P-list, slips-hold}
