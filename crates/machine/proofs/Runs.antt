@@ -1,7 +1,6 @@
 -- Runs of a scanner: complete forwards (`Goes`), sound backwards (`OutIs`, `accepted`). Assumes nothing.
 use Prim.Native.Nat.{ℕ, suc, _<_}
 use mathlib.Core.Path.{_≡_, refl, sym, _∙_, subst}
-use mathlib.Core.Logic.{_⊎_, inl, inr}
 use mathlib.Core.List.{List, [], _∷_, _++_, append-nil}
 use native.Mathlib.Omega.{arith}
 use Rattle.meaning.specs.Letters.{ch}

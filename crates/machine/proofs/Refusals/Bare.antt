@@ -1,8 +1,8 @@
 -- A text of the bare grammar, its checks left out, is never refused with 3. Assumes nothing.
 use Prim.Native.Nat.{ℕ, zero, suc}
-use mathlib.Core.Path.{_≡_, refl, sym, ap, _∙_, subst}
-use mathlib.Core.Bool.{Bool, true, false}
-use mathlib.Core.Option.{Option, none, some}
+use mathlib.Core.Path.{_≡_, refl, sym, ap, _∙_}
+use mathlib.Core.Bool.{true, false}
+use mathlib.Core.Option.{none, some}
 use mathlib.Core.List.{List, [], _∷_, _++_, append-assoc, append-nil}
 use native.Mathlib.Omega.{arith}
 use Rattle.meaning.specs.Paper.{numberOf}
@@ -10,27 +10,26 @@ use Rattle.meaning.specs.Letters.{letters, ch}
 use Rattle.meaning.specs.Limits.{depthLimit}
 use Rattle.meaning.specs.Meaning.{Meaning, Meanings, Members}
 use Rattle.meaning.specs.declared.Refusal.{Refusal}
-use Rattle.meaning.specs.declared.Refusal.the-variants.{NotGrammar, BadEscape, BadTime, BadNumber, TooDeep}
-use Rattle.grammar.specs.Checks.{Room}
+use Rattle.meaning.specs.declared.Refusal.the-variants.{NotGrammar, TooDeep}
 use Rattle.grammar.specs.Comments.{Ws, Last}
 use Rattle.grammar.specs.Strings.{String-part, Concat, String}
 use Rattle.grammar.specs.Keys.{Key}
 use Rattle.grammar.specs.Values.{Inside, elements, members, Closes, Value, Rest, After, Item, Text}
 use Rattle.machine.specs.Scan.{Out, takes, stops, breaks, over}
 use Rattle.machine.specs.Machine
-use Rattle.machine.specs.Machine.{Use, as-value, as-key, Got, Base, want, wantKey, wantString, wantBinary, got, base, line, item, Frame, inside, pair, Conf, at, fail, step, read, finish, reading, Verdict, Ok, No, classOf, lift, scan, asValue, wanted, shut, bareOf, onOut}
+use Rattle.machine.specs.Machine.{Use, as-value, as-key, Got, Base, want, wantKey, wantString, got, base, item, Frame, inside, pair, at, fail, step, read, reading, Verdict, Ok, No, classOf, lift, scan, asValue, wanted, shut, bareOf, onOut}
 use Rattle.machine.specs.Numeric
 use Rattle.machine.specs.Strings
 use Rattle.machine.proofs.Runs.{Ends, PartEnds, NoDigit, HaltTo, GoesTo, adv}
 use Rattle.machine.proofs.Layouts.{adv-join, stepped, layout-run, line-run}
-use Rattle.machine.proofs.Complete.{NoDigitFirst, Follows, widen, begun, StartsString, starts-string, Quoted, part-begins, binary-run, StartsNumeric, digit-starts, lead-starts, word-run, key-run, closes-end, after-layout, part-after-layout, one-more, last-follows}
+use Rattle.machine.proofs.Complete.{NoDigitFirst, Follows, widen, begun, StartsString, starts-string, Quoted, part-begins, binary-run, lead-starts, word-run, key-run, closes-end, after-layout, part-after-layout, one-more, last-follows}
 use Rattle.machine.proofs.Numeric as N
 use Rattle.machine.proofs.Whole.{absorbing}
 use Rattle.machine.proofs.Refusals.Reason.{Other}
 use Rattle.machine.proofs.Refusals.Items.{Ended, number-ends, time-ends, part-ends}
 
 -- no 3
-abbrev pub Mild : Verdict → Type 0
+abbrev Mild : Verdict → Type 0
 Mild v = (q : ℕ) → v ≡ No (NotGrammar q) → ⊥
 
 mild-by : {v w : Verdict} → v ≡ w → Mild w → Mild v

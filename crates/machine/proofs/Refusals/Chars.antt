@@ -1,8 +1,8 @@
 -- The state of a string part after characters, with the checks or without: a function of their derivation, and the run that leads to it.
 -- Assumes nothing.
-use Prim.Native.Nat.{ℕ, suc, _+_}
-use mathlib.Core.Path.{_≡_, refl, sym, ap, _∙_}
-use mathlib.Core.Bool.{Bool, true, false}
+use Prim.Native.Nat.{ℕ, suc}
+use mathlib.Core.Path.{_≡_, refl, sym, _∙_}
+use mathlib.Core.Bool.{Bool, true}
 use mathlib.Core.Logic.{_⊎_, inl, inr}
 use mathlib.Core.List.{List, [], _∷_, _++_, append-assoc, append-nil}
 use native.Mathlib.Omega.{arith}
@@ -10,7 +10,6 @@ use lib.Dec.{ltb, leb}
 use borrow.Author.Tests.{eq-eqb, ne-eqb, lt-ltb, le-ltb}
 use Rattle.rules.specs.Rfc3629.{encode}
 use Rattle.rules.proofs.Characters.{Each, all-none, all-more}
-use Rattle.meaning.specs.Letters.{ch}
 use Rattle.grammar.specs.Characters.{Among, Digits}
 use Rattle.grammar.specs.Strings.{Quote, mark, other, Chars, Escape, unescaped}
 use Rattle.machine.specs.Scan.{takes}

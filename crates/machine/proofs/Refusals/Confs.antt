@@ -1,6 +1,6 @@
 -- What the bytes so far are, by the grammar, at each configuration. Assumes nothing.
 use Prim.Native.Nat.{ℕ, suc}
-use mathlib.Core.Path.{_≡_, refl, sym, ap, _∙_}
+use mathlib.Core.Path.{_≡_, sym, ap, _∙_}
 use mathlib.Core.Bool.{true}
 use mathlib.Core.Logic.{_⊎_}
 use mathlib.Core.List.{List, [], _∷_, _++_, append-assoc, append-nil}
@@ -23,7 +23,7 @@ use Rattle.machine.specs.Names
 use Rattle.machine.proofs.Runs.{adv, Steps, steps-join}
 use Rattle.machine.proofs.Layouts.{adv-join}
 use Rattle.machine.proofs.Refusals.Reason.{Reason}
-use Rattle.machine.proofs.Refusals.Forward
+use Rattle.machine.proofs.Refusals.Bases
 
 -- ---- in layout
 
@@ -31,7 +31,7 @@ pub record Lined (k : List Frame) (d : ℕ) (s : Base) (l : List ℕ) : Type 0 w
   pub front : List ℕ
   pub begin : List ℕ
   pub body : List ℕ
-  pub stands : Forward.BaseAt k d s front
+  pub stands : Bases.BaseAt k d s front
   pub begins : C-begin-line begin
   pub chars : Many (Bytewise.Byte c-char) body
   pub split : l ≡ front ++ (begin ++ body)
@@ -39,7 +39,7 @@ pub record Lined (k : List Frame) (d : ℕ) (s : Base) (l : List ℕ) : Type 0 w
 pub record Blocked (k : List Frame) (d : ℕ) (s : Base) (l : List ℕ) : Type 0 where
   pub front : List ℕ
   pub body : List ℕ
-  pub stands : Forward.BaseAt k d s front
+  pub stands : Bases.BaseAt k d s front
   pub chars : Many Bytewise.Inner-byte body
   pub split : l ≡ front ++ (letters "/*" ++ body)
 
@@ -47,13 +47,13 @@ pub record Starred (k : List Frame) (d : ℕ) (s : Base) (l : List ℕ) : Type 0
   pub front : List ℕ
   pub body : List ℕ
   pub stars : List ℕ
-  pub stands : Forward.BaseAt k d s front
+  pub stands : Bases.BaseAt k d s front
   pub chars : Many Bytewise.Inner-byte body
   pub closing : Stars stars
   pub split : l ≡ front ++ (letters "/*" ++ (body ++ stars))
 
 abbrev pub Slashed : List Frame → ℕ → Base → List ℕ → Type 0
-Slashed k d s l = (f : List ℕ) × Forward.BaseAt k d s f × (l ≡ f ++ letters "/")
+Slashed k d s l = (f : List ℕ) × Bases.BaseAt k d s f × (l ≡ f ++ letters "/")
 
 -- ---- in an item
 
@@ -70,28 +70,28 @@ pub record Begun (S : List ℕ → Type 0) {X M : Type 0} (run : ℕ → X → �
 pub record Worded (k : List Frame) (d : ℕ) (w : List ℕ) (m : Meaning) (l : List ℕ) : Type 0 where
   pub front : List ℕ
   pub body : List ℕ
-  pub starts : Forward.ValAt k d front
+  pub starts : Bases.ValAt k d front
   pub is : Value true d (body ++ w) m
   pub split : l ≡ front ++ body
 
 -- where a part may begin, after parts of the bytes u
 abbrev pub PartStart : Use → List ℕ → List Frame → ℕ → List ℕ → Type 0
-PartStart z u k d l = (Forward.StartAt z k d l × (u ≡ [])) ⊎ Forward.Plus (Forward.StartAt z k d) (λ a. String true a u) l
+PartStart z u k d l = (Bases.StartAt z k d l × (u ≡ [])) ⊎ Bases.Plus (Bases.StartAt z k d) (λ a. String true a u) l
 
 abbrev pub BinaryStart : List ℕ → List Frame → ℕ → List ℕ → Type 0
-BinaryStart u k d l = (Forward.ValAt k d l × (u ≡ [])) ⊎ Forward.Plus (Forward.ValAt k d) (λ a. Binary a u) l
+BinaryStart u k d l = (Bases.ValAt k d l × (u ≡ [])) ⊎ Bases.Plus (Bases.ValAt k d) (λ a. Binary a u) l
 
 abbrev pub ItemAt : ℕ → List Frame → ℕ → Machine.Item → List ℕ → Type 0
 ItemAt p k d (Machine.word w m) l = Worded k d w m l
-ItemAt p k d (Machine.numeric s) l = Begun (Forward.ValAt k d) Numeric.scan Numeric.begin s p l
+ItemAt p k d (Machine.numeric s) l = Begun (Bases.ValAt k d) Numeric.scan Numeric.begin s p l
 ItemAt p k d (Machine.string-part z u s) l = Begun (PartStart z u k d) Strings.scan Strings.begin s p l
 ItemAt p k d (Machine.binary-part u s) l = Begun (BinaryStart u k d) Binaries.scan Binaries.begin s p l
-ItemAt p k d (Machine.identifier s) l = Begun (Forward.KeyAt k d) Names.scan Names.begin s p l
+ItemAt p k d (Machine.identifier s) l = Begun (Bases.KeyAt k d) Names.scan Names.begin s p l
 
 -- in the text t, where it fails: why
 abbrev pub ConfAt : List ℕ → ℕ → Conf → List ℕ → Type 0
 ConfAt t p (fail r) l = Reason t r
-ConfAt t p (at (base s) d k) l = Forward.BaseAt k d s l
+ConfAt t p (at (base s) d k) l = Bases.BaseAt k d s l
 ConfAt t p (at (Machine.slash s) d k) l = Slashed k d s l
 ConfAt t p (at (line s) d k) l = Lined k d s l
 ConfAt t p (at (Machine.block s) d k) l = Blocked k d s l

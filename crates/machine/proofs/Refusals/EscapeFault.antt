@@ -22,15 +22,14 @@ use Rattle.machine.specs.Machine.{Use, Frame}
 use Rattle.machine.specs.Strings as S
 use Rattle.machine.specs.Strings.{St, Ctx, Bad, badNow, scan, begin, done, spoilt, hexOf}
 use Rattle.machine.proofs.Runs.{Ends, PartEnds, Steps, value-goes, goes-end, end-out, steps-back}
-use Rattle.machine.proofs.Strings.Raw.{Plain}
 use Rattle.machine.proofs.Strings.Quotes.{between-other}
 use Rattle.machine.proofs.Strings.Tests.{hex-of, hex-ascii, short-of}
 use Rattle.machine.proofs.Strings.Back.{four-small}
-use Rattle.machine.proofs.Strings.Forward.{part-goes, First, first-of, encode-some, plain-each}
+use Rattle.machine.proofs.Strings.Forward.{part-goes, first-of, encode-some, plain-each}
 use Rattle.machine.proofs.Refusals.Reason.{Faulty, Reason}
 use Rattle.machine.proofs.Refusals.Chars.{CharsOf}
-use Rattle.machine.proofs.Refusals.Strings.{PartBare, bare-is, raw-whole, Closed, Kept, kept, steps-sane}
-use Rattle.machine.proofs.Refusals.Forward.{start-left}
+use Rattle.machine.proofs.Refusals.Parts.{PartBare, bare-is, raw-whole, Kept, kept, steps-sane}
+use Rattle.machine.proofs.Refusals.Bases.{start-left}
 use Rattle.machine.proofs.Refusals.Confs.{PartStart, ItemAt}
 
 -- ---- digits that begin one list

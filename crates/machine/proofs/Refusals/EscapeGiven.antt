@@ -30,23 +30,23 @@ use Rattle.machine.proofs.Strings.Tests.{either, by-ltb, by-leb}
 use Rattle.machine.proofs.Strings.Back.{four-small}
 use Rattle.machine.proofs.Strings.Forward.{first-of, encode-some, plain-each, no-slash, clear}
 use Rattle.machine.proofs.Refusals.Chars.{CharsOf, escape-ctx, chars-ctx, first-char, Not-first, part-run}
-use Rattle.machine.proofs.Refusals.Lead.{Stood, left-stood}
-use Rattle.machine.proofs.Refusals.Split.{init, adv-length}
+use Rattle.machine.proofs.Refusals.Left.{Stood, left-stood}
+use Rattle.machine.proofs.Refusals.Refuses.{init, adv-length}
 
 -- ---- a bad escape stays
 
 -- the escape of a low surrogate comes next
-pub data Low-next : List ℕ → Type 0 where
+data Low-next : List ℕ → Type 0 where
   low-next : {d : List ℕ} {w : ℕ} (r : List ℕ) → Hexadecimal 4 d w → In 0xDC00 0xDFFF w → Low-next (ch "\\" ∷ ((ch "u" ∷ d) ++ r))
 
 -- before the bytes a the first bad escape is the one at this backslash: it is known, or a high surrogate that its low one does not follow
-pub record Spoilt (at : ℕ) (c : Ctx) (a : List ℕ) : Type 0 where
-  pub now : badNow c ≡ spoilt at
-  pub known : Low-next a → c .bad ≡ spoilt at
+record Spoilt (at : ℕ) (c : Ctx) (a : List ℕ) : Type 0 where
+  now : badNow c ≡ spoilt at
+  known : Low-next a → c .bad ≡ spoilt at
 
 module _ (at : ℕ) where
   -- the bad escape that is known is the one at this backslash
-  abbrev pub Known : Ctx → Type 0
+  abbrev Known : Ctx → Type 0
   Known c = c .bad ≡ spoilt at
 
   first-stays : (p : ℕ) {z : Bad} → z ≡ spoilt at → first z p ≡ spoilt at
@@ -56,10 +56,10 @@ module _ (at : ℕ) where
   lost-stays whole e = e
   lost-stays (half p w) e = first-stays p e
 
-  pub known-now : (c : Ctx) → Known c → badNow c ≡ spoilt at
+  known-now : (c : Ctx) → Known c → badNow c ≡ spoilt at
   known-now c e = lost-stays (c .high) e
 
-  pub known-spoilt : (c : Ctx) → Known c → (a : List ℕ) → Spoilt at c a
+  known-spoilt : (c : Ctx) → Known c → (a : List ℕ) → Spoilt at c a
   known-spoilt c e a = record { now = known-now c e; known = λ l. e }
 
   alone-known : (c : Ctx) (p w : ℕ) → badNow c ≡ spoilt at → Known (S.alone c p w)
@@ -78,7 +78,7 @@ module _ (at : ℕ) where
       by-ltb Known w 0xDC00 _ _ (λ l. alone-known c p w e) λ l. by-ltb Known w 0xE000 _ _ (λ m. f (omega arith)) (λ m. alone-known c p w e)
 
   -- after an escape it is known
-  pub escape-known : {k : Bool} {e v : List ℕ} (x : Escape k e v) (a : List ℕ) (p : ℕ) (c : Ctx) → Spoilt at c (ch "\\" ∷ (e ++ a)) → Known (escape-ctx x p c)
+  escape-known : {k : Bool} {e v : List ℕ} (x : Escape k e v) (a : List ℕ) (p : ℕ) (c : Ctx) → Spoilt at c (ch "\\" ∷ (e ++ a)) → Known (escape-ctx x p c)
   escape-known (Escape.short y) a p c h = h .now
   escape-known (Escape.unit {n = n} x s) a p c h = unit-known c p n (c .high) (h .now) (λ i. h .known (Low-next.low-next a x i))
   escape-known (Escape.pair {a = b} {high = w} {low = l} x i y j) a p c h =
@@ -88,7 +88,7 @@ module _ (at : ℕ) where
   escape-known (Escape.braced {n = n} x s) a p c h = braces-known c p n (h .now)
 
   -- and what is known stays
-  pub known-stays : {k : Bool} {q : Quote} {a u : List ℕ} (x : CharsOf k q a u) (p : ℕ) (c : Ctx) → Known c → Known (chars-ctx x p c)
+  known-stays : {k : Bool} {q : Quote} {a u : List ℕ} (x : CharsOf k q a u) (p : ℕ) (c : Ctx) → Known c → Known (chars-ctx x p c)
   known-stays Chars.none p c h = h
   known-stays (Chars.plain {c = b} x y) p c h = known-stays y (adv p b) (give c b) (known-now c h)
   known-stays (Chars.escaped {e = e} {a = a} x y) p c h = known-stays y (adv (suc p) e) (escape-ctx x p c) (escape-known x a p c (known-spoilt c h _))
@@ -98,7 +98,7 @@ module _ (at : ℕ) where
   now-stays x p c h = known-now (chars-ctx x p c) (known-stays x p c h)
 
   -- characters that come after the first bad escape leave it so
-  pub spoilt-stays : {k : Bool} {q : Quote} {a u : List ℕ} (x : CharsOf k q a u) (p : ℕ) (c : Ctx) → Spoilt at c a → badNow (chars-ctx x p c) ≡ spoilt at
+  spoilt-stays : {k : Bool} {q : Quote} {a u : List ℕ} (x : CharsOf k q a u) (p : ℕ) (c : Ctx) → Spoilt at c a → badNow (chars-ctx x p c) ≡ spoilt at
   spoilt-stays Chars.none p c h = h .now
   spoilt-stays (Chars.plain {c = b} x y) p c h = now-stays y (adv p b) (give c b) (h .now)
   spoilt-stays (Chars.escaped {e = e} {a = a} x y) p c h = now-stays y (adv (suc p) e) (escape-ctx x p c) (escape-known x a p c h)
@@ -107,7 +107,7 @@ module _ (at : ℕ) where
 -- ---- the first bad escape
 
 -- no good escape begins these bytes
-abbrev pub No-escape : List ℕ → Type 0
+abbrev No-escape : List ℕ → Type 0
 No-escape b = (e c w : List ℕ) → b ≡ e ++ c → Escape true e w → ⊥
 
 surrogate : {n : ℕ} → n ≤ 0x10FFFF → (Scalar n → ⊥) → In 0xD800 0xDFFF n
@@ -153,7 +153,7 @@ unit-bad {n = n} x s a lacks at c e = go (decLt n 0xDC00)
     go (no h) = rw (alone-low {w = n} (omega arith) c at) (known-spoilt at (blame c at) (ap (λ (z : Bad). first z at) e) a)
 
 -- where no escape was bad before it, an escape of the bare grammar that is no good one is the first bad one
-pub first-bad : {e v : List ℕ} (x : Escape false e v) (a : List ℕ) → No-escape (e ++ a) → (at j : ℕ) (acc : List ℕ)
+first-bad : {e v : List ℕ} (x : Escape false e v) (a : List ℕ) → No-escape (e ++ a) → (at j : ℕ) (acc : List ℕ)
     → Spoilt at (escape-ctx x at (clear j acc)) a
 unfolding S.unit
 first-bad (Escape.short y) a lacks at j acc = absurd (lacks _ a _ refl (Escape.short y))
@@ -164,7 +164,7 @@ first-bad (Escape.braced x s) a lacks at j acc =
     rw (braces-bad (λ t. lacks _ a _ refl (Escape.braced x t)) (clear j acc) at) (known-spoilt at (blame (clear j acc) at) refl a)
 
 -- characters of the bare grammar that begin with a backslash, behind which no good escape stands
-pub chars-bad : {q : Quote} {x v : List ℕ} (y : CharsOf false q x v) (b : List ℕ) → x ≡ ch "\\" ∷ b → No-escape b → (p j : ℕ) (acc : List ℕ)
+chars-bad : {q : Quote} {x v : List ℕ} (y : CharsOf false q x v) (b : List ℕ) → x ≡ ch "\\" ∷ b → No-escape b → (p j : ℕ) (acc : List ℕ)
     → badNow (chars-ctx y p (clear j acc)) ≡ spoilt p
 chars-bad Chars.none b e lacks p j acc = absurd (let z : _≡_ {A = ℕ} 0 1 = cc in omega arith)
 chars-bad {q = q} (Chars.plain {a = a} (Among.character {n = n} s o) y) b e lacks p j acc =
@@ -185,7 +185,7 @@ not-closed {q} {a} x b = go (first-char x)
     go (inr f) = f (ch "\\" ∷ b)
 
 -- the bytes of a string part that lead from one state to another
-pub part-read : {p : ℕ} {s s' : St} {a : List ℕ} → Steps scan p s a s' → (z : Use) (v : List ℕ) (d : ℕ) (k : List Frame) (r : List ℕ)
+part-read : {p : ℕ} {s s' : St} {a : List ℕ} → Steps scan p s a s' → (z : Use) (v : List ℕ) (d : ℕ) (k : List Frame) (r : List ℕ)
     → read p (Machine.at (item (Machine.string-part z v s)) d k) (a ++ r) ≡ read (adv p a) (Machine.at (item (Machine.string-part z v s')) d k) r
 unfolding read
 part-read Steps.stay z v d k r = refl
@@ -194,7 +194,7 @@ part-read (Steps.eat {p = p} {b = b} {a = a} x e) z v d k r =
     ∙ part-read x z v d k r
 
 -- a part that has closed with a bad escape in it: 4, whatever follows
-pub done-read : (at : ℕ) (c : Ctx) → badNow c ≡ spoilt at → (p : ℕ) (z : Use) (v : List ℕ) (d : ℕ) (k : List Frame) (r : List ℕ)
+done-read : (at : ℕ) (c : Ctx) → badNow c ≡ spoilt at → (p : ℕ) (z : Use) (v : List ℕ) (d : ℕ) (k : List Frame) (r : List ℕ)
     → read p (Machine.at (item (Machine.string-part z v (done c))) d k) r ≡ No (BadEscape at)
 unfolding read scan
 done-read at c e p z v d k [] = rw e

@@ -5,7 +5,7 @@ use Prim.Native.Nat.{ℕ}
 use Rattle.meaning.specs.declared.Refusal.{Refusal}
 use Rattle.grammar.specs.Refused.{Item-fault}
 use Rattle.machine.specs.Machine.{No, reading}
-use Rattle.machine.proofs.Refusals.Lead.{depth-given}
+use Rattle.machine.proofs.Refusals.Left.{depth-given}
 use Rattle.machine.proofs.Refusals.NumericGiven.{number-given, time-given}
 use Rattle.machine.proofs.Refusals.EscapeGiven.{escape-given}
 

@@ -1,7 +1,7 @@
 -- An item of the bare grammar, its checks left out, is taken whole; then it ends, or its check fails. Assumes nothing.
 use Prim.Native.Nat.{ℕ, suc, _+_, _-_}
 use mathlib.Core.Path.{_≡_, refl, subst}
-use mathlib.Core.Bool.{Bool, true, false}
+use mathlib.Core.Bool.{Bool, false}
 use mathlib.Core.Logic.{_⊎_, inl, inr}
 use mathlib.Core.List.{List, [], _∷_, _++_, append-nil}
 use native.Mathlib.Omega.{arith}
@@ -19,7 +19,7 @@ use Rattle.grammar.specs.Strings.{Quote, mark, Chars, Quoted, String-part}
 use Rattle.machine.specs.Scan.{Out, takes, stops, breaks}
 use Rattle.machine.specs.Numeric as Nu
 use Rattle.machine.specs.Strings as S
-use Rattle.machine.specs.Strings.{St, Ctx, Bad, badNow, scan, two, done, fine, spoilt, begin}
+use Rattle.machine.specs.Strings.{Ctx, Bad, badNow, scan, two, done, fine, spoilt, begin}
 use Rattle.machine.proofs.Runs.{Ends, PartEnds, GoesTo, took-to, halts-to, value-goes, goes-weaker, steps-to}
 use Rattle.machine.proofs.Numeric.Complete.{number-goes-to}
 use Rattle.machine.proofs.Numeric.CompleteTime as Times

@@ -1,9 +1,9 @@
 -- 5 and 6, from the machine to the grammar: a number or a time value that breaks but with 3 is one of the bare grammar only. Assumes nothing.
 use Prim.Native.Nat.{ℕ, suc}
-use mathlib.Core.Path.{_≡_, refl, sym, ap, _∙_, subst}
+use mathlib.Core.Path.{_≡_, sym, ap, _∙_, subst}
 use mathlib.Core.Bool.{true, false}
-use mathlib.Core.Logic.{_⊎_, inl, inr}
-use mathlib.Core.List.{List, [], _∷_, _++_, append-assoc}
+use mathlib.Core.Logic.{inl, inr}
+use mathlib.Core.List.{List, _∷_, _++_, append-assoc}
 use lib.ListN.{length}
 use Rattle.meaning.specs.declared.Number as N
 use Rattle.meaning.specs.declared.Time as T
@@ -13,7 +13,7 @@ use Rattle.meaning.specs.Meaning.{Meaning}
 use Rattle.grammar.specs.Numbers.{Number}
 use Rattle.grammar.specs.Times.{Time-value}
 use Rattle.grammar.specs.Refused.{Numeric, Ends, value, Left, Item-fault}
-use Rattle.machine.specs.Scan.{takes, stops, breaks}
+use Rattle.machine.specs.Scan.{breaks}
 use Rattle.machine.specs.Machine
 use Rattle.machine.specs.Machine.{Frame}
 use Rattle.machine.specs.Numeric.{St, Res, begin, scan}
@@ -23,8 +23,8 @@ use Rattle.machine.proofs.Numeric.Complete.{number-goes}
 use Rattle.machine.proofs.Numeric.CompleteTime.{time-goes}
 use Rattle.machine.proofs.Refusals.Reason.{Faulty, Reason}
 use Rattle.machine.proofs.Refusals.Items.{Outcome, number-ends, time-ends}
-use Rattle.machine.proofs.Refusals.Enders.{Takes, any-byte, after-space}
-use Rattle.machine.proofs.Refusals.Forward.{val-left}
+use Rattle.machine.proofs.Refusals.Untaken.{Takes, any-byte, after-space}
+use Rattle.machine.proofs.Refusals.Bases.{val-left}
 use Rattle.machine.proofs.Refusals.Confs.{ItemAt, Next}
 
 -- a byte that some rule lets the item take is taken

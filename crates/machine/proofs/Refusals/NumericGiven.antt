@@ -1,6 +1,6 @@
 -- 5 and 6, from the grammar to the machine: a number or a time value that fails its check is refused with it at its first byte.
 -- Assumes nothing.
-use Prim.Native.Nat.{ℕ, zero, suc, _+_, _*_, _^_}
+use Prim.Native.Nat.{ℕ, zero, suc, _*_, _^_}
 use mathlib.Core.Path.{_≡_, refl, sym, ap, _∙_, subst}
 use mathlib.Core.Bool.{Bool, true, false, _&&_}
 use mathlib.Core.Logic.{_⊎_, inl, inr}
@@ -34,10 +34,10 @@ use Rattle.machine.proofs.Numeric.{NumericItem, NumericRest, numeric-is
 use Rattle.machine.proofs.Numeric.Complete.{settleHex}
 use Rattle.machine.proofs.Whole.{absorbing}
 use Rattle.machine.proofs.Refusals.Items.{Outcome, IsNumber, NumberOut, settle-out, number-out, IsTime, TimeOut, time-out}
-use Rattle.machine.proofs.Refusals.Enders.{ender, Takes, no-takes, any-byte, after-space, space-digitless, ends-so}
-use Rattle.machine.proofs.Refusals.Numbers.{numeric-finish}
-use Rattle.machine.proofs.Refusals.Lead.{left-stood}
-use Rattle.machine.proofs.Refusals.Split.{adv-length}
+use Rattle.machine.proofs.Refusals.Untaken.{ender, Takes, no-takes, any-byte, after-space, space-digitless, ends-so}
+use Rattle.machine.proofs.Refusals.Finishes.{numeric-finish}
+use Rattle.machine.proofs.Refusals.Left.{left-stood}
+use Rattle.machine.proofs.Refusals.Refuses.{adv-length}
 
 -- ---- a byte that is taken is taken by some rule
 

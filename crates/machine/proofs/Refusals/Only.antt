@@ -1,6 +1,6 @@
 -- Binary parts, identifiers and words break with 3 only. Assumes nothing.
 use Prim.Native.Nat.{ℕ, _+_, _*_}
-use mathlib.Core.Path.{_≡_, refl}
+use mathlib.Core.Path.{refl}
 use mathlib.Core.List.{List, [], _∷_, _++_}
 use lib.Dec.{eqb, ltb, leb}
 use Rattle.meaning.specs.declared.Refusal.the-variants.{NotGrammar}

@@ -1,22 +1,21 @@
 -- At each configuration some bytes finish a text of the bare grammar. Assumes nothing.
-use Prim.Native.Nat.{ℕ, zero, suc}
-use mathlib.Core.Path.{_≡_, refl, sym, ap, _∙_, subst}
-use mathlib.Core.Bool.{Bool, true, false}
-use mathlib.Core.Logic.{_⊎_, inl, inr}
+use Prim.Native.Nat.{ℕ, suc}
+use mathlib.Core.Path.{_≡_, sym, subst}
+use mathlib.Core.Bool.{true, false}
 use mathlib.Core.List.{List, [], _∷_, _++_, append-assoc, append-nil}
 use Rattle.meaning.specs.Letters.{letters, ch}
 use Rattle.meaning.specs.Limits.{depthLimit}
 use Rattle.meaning.specs.Meaning.{Meaning, Meanings, Members}
 use Rattle.grammar.specs.Checks.{Room}
 use Rattle.grammar.specs.Comments.{Ws, Last}
-use Rattle.grammar.specs.Strings.{Quote, double, mark, Chars, Quoted, String-part, Concat, String}
+use Rattle.grammar.specs.Strings.{double, Chars, Quoted, String-part, Concat, String}
 use Rattle.grammar.specs.Binary.{B-value, Binary}
 use Rattle.grammar.specs.Keys.{Key}
-use Rattle.grammar.specs.Values.{Inside, elements, members, Closes, Value, Rest, After, Item, Text}
+use Rattle.grammar.specs.Values.{elements, members, Closes, Value, Rest, After, Item, Text}
 use Rattle.machine.specs.Machine.{Use, as-value, as-key, Got, Base, want, wantKey, wantString, wantBinary, got, Frame, inside, pair}
 use Rattle.grammar.specs.Refused.{Opens}
 use Rattle.machine.proofs.Refusals.Loose.{loose-value, loose-key, loose-string}
-use Rattle.machine.proofs.Refusals.Forward
+use Rattle.machine.proofs.Refusals.Bases
 
 -- less begins it too
 pub fewer : (a b : List ℕ) → Opens (a ++ b) → Opens a
@@ -25,7 +24,7 @@ fewer a b (Opens.opens s m x) = Opens.opens (b ++ s) m (subst (λ (t : List ℕ)
 -- ---- a value without checks, where one may begin
 
 -- with layout behind it: all brackets are closed after it
-pub plug : (k : List Frame) (d : ℕ) (l : List ℕ) → Forward.ValAt k d l → (b w : List ℕ) (m : Meaning) → Value false depthLimit b m → Ws w → Opens (l ++ (b ++ w))
+pub plug : (k : List Frame) (d : ℕ) (l : List ℕ) → Bases.ValAt k d l → (b w : List ℕ) (m : Meaning) → Value false depthLimit b m → Ws w → Opens (l ++ (b ++ w))
 plug [] d l h b w m v x = Opens.opens [] m (rw append-nil (Text.text (h .1) v (Last.ended x) tt))
 plug (inside (elements y) ∷ k) d l h b w m v x =
     let i = h .inner in
@@ -43,10 +42,10 @@ plug (pair y u ∷ k) d l h b w m v x =
     let r : Rest false depthLimit (members Members.bare) (i ++ (a ++ (w ++ letters "}"))) (members (Members.member y u m)) =
     n .so-bare (a ++ (w ++ letters "}")) (members (Members.member y u m)) (Rest.item Ws.none (Item.member (loose-key (h .is)) (h .layout) (h .further) v) (After.end x Closes.brace)) in
     let o = plug k (suc d) (n .outer) (n .stands) (ch "{" ∷ (i ++ (a ++ (w ++ letters "}")))) [] (Meaning.object (Members.member y u m)) (Value.object Room.stays r) Ws.none in
-    fewer (l ++ (b ++ w)) (letters "}") (subst Opens (rw (h .split, n .split, append-nil) (sym (Forward.respelt (n .outer) i (h .body) (h .lay) (h .more) b w (letters "}") (ch "{") (ch ":")))) o)
+    fewer (l ++ (b ++ w)) (letters "}") (subst Opens (rw (h .split, n .split, append-nil) (sym (Bases.respelt (n .outer) i (h .body) (h .lay) (h .more) b w (letters "}") (ch "{") (ch ":")))) o)
 
 -- a key without checks, where one may begin
-pub plug-key : (k : List Frame) (d : ℕ) (l : List ℕ) → Forward.KeyAt k d l → (b w : List ℕ) (u : List ℕ) → Key false b u → Ws w → Opens (l ++ (b ++ w))
+pub plug-key : (k : List Frame) (d : ℕ) (l : List ℕ) → Bases.KeyAt k d l → (b w : List ℕ) (u : List ℕ) → Key false b u → Ws w → Opens (l ++ (b ++ w))
 plug-key [] d l h b w u v x = absurd h
 plug-key (inside (elements y) ∷ k) d l h b w u v x = absurd h
 plug-key (inside (members y) ∷ k) d l h b w u v x =
@@ -62,36 +61,36 @@ plug-key (inside (members y) ∷ k) d l h b w u v x =
 plug-key (pair y z ∷ k) d l h b w u v x = absurd h
 
 -- a string without checks, as a value or as a key
-pub plug-string : (z : Use) (k : List Frame) (d : ℕ) (l : List ℕ) → Forward.StartAt z k d l → (b w u : List ℕ) → String false b u → Ws w → Opens (l ++ (b ++ w))
+pub plug-string : (z : Use) (k : List Frame) (d : ℕ) (l : List ℕ) → Bases.StartAt z k d l → (b w u : List ℕ) → String false b u → Ws w → Opens (l ++ (b ++ w))
 plug-string as-value k d l h b w u v x = plug k d l h b w (Meaning.string u) (Value.string v) x
 plug-string as-key k d l h b w u v x = plug-key k d l h b w u (Key.string v) x
 
 -- ---- at a base
 
-val-opens : (k : List Frame) (d : ℕ) (l : List ℕ) → Forward.ValAt k d l → Opens l
+val-opens : (k : List Frame) (d : ℕ) (l : List ℕ) → Bases.ValAt k d l → Opens l
 val-opens k d l h = fewer l (letters "null" ++ []) (plug k d l h (letters "null") [] Meaning.null Value.null-word Ws.none)
 
-key-opens : (k : List Frame) (d : ℕ) (l : List ℕ) → Forward.KeyAt k d l → Opens l
+key-opens : (k : List Frame) (d : ℕ) (l : List ℕ) → Bases.KeyAt k d l → Opens l
 key-opens k d l h = fewer l (letters "\"\"" ++ []) (plug-key k d l h (letters "\"\"") [] [] (Key.string (Concat.part (String-part.one-line (Quoted.quoted double Chars.none)))) Ws.none)
 
 -- parts, a plus, and one more part without checks
-pub plug-part : (z : Use) (k : List Frame) (d : ℕ) (u l : List ℕ) → Forward.Plus (Forward.StartAt z k d) (λ a. String true a u) l → (b v : List ℕ) → String-part false b v → Opens (l ++ b)
+pub plug-part : (z : Use) (k : List Frame) (d : ℕ) (u l : List ℕ) → Bases.Plus (Bases.StartAt z k d) (λ a. String true a u) l → (b v : List ℕ) → String-part false b v → Opens (l ++ b)
 plug-part z k d u l h b v y =
     subst Opens (rw (h .split, append-nil) (joins (h .front) (h .body) (h .lay) (h .more) b (ch "+")))
-    (plug-string z k d (h .front) (h .starts) (h .body ++ (h .lay ++ (ch "+" ∷ (h .more ++ b)))) [] (u ++ v) (Forward.concat-join (loose-string (h .is)) (h .layout) (h .further) y) Ws.none)
+    (plug-string z k d (h .front) (h .starts) (h .body ++ (h .lay ++ (ch "+" ∷ (h .more ++ b)))) [] (u ++ v) (Bases.concat-join (loose-string (h .is)) (h .layout) (h .further) y) Ws.none)
   where
     joins : (f a y m b : List ℕ) (c : ℕ) → f ++ (a ++ (y ++ (c ∷ (m ++ b)))) ≡ (f ++ (a ++ (y ++ (c ∷ m)))) ++ b
     joins f a y m b c = simp append-assoc
 
-pub plug-binary : (k : List Frame) (d : ℕ) (u l : List ℕ) → Forward.Plus (Forward.ValAt k d) (λ a. Binary a u) l → (b v : List ℕ) → B-value b v → Opens (l ++ b)
+pub plug-binary : (k : List Frame) (d : ℕ) (u l : List ℕ) → Bases.Plus (Bases.ValAt k d) (λ a. Binary a u) l → (b v : List ℕ) → B-value b v → Opens (l ++ b)
 plug-binary k d u l h b v y =
     subst Opens (rw (h .split, append-nil) (joins (h .front) (h .body) (h .lay) (h .more) b (ch "+")))
-    (plug k d (h .front) (h .starts) (h .body ++ (h .lay ++ (ch "+" ∷ (h .more ++ b)))) [] (Meaning.binary (u ++ v)) (Value.binary (Forward.concat-join (h .is) (h .layout) (h .further) y)) Ws.none)
+    (plug k d (h .front) (h .starts) (h .body ++ (h .lay ++ (ch "+" ∷ (h .more ++ b)))) [] (Meaning.binary (u ++ v)) (Value.binary (Bases.concat-join (h .is) (h .layout) (h .further) y)) Ws.none)
   where
     joins : (f a y m b : List ℕ) (c : ℕ) → f ++ (a ++ (y ++ (c ∷ (m ++ b)))) ≡ (f ++ (a ++ (y ++ (c ∷ m)))) ++ b
     joins f a y m b c = simp append-assoc
 
-pub base-opens : (k : List Frame) (d : ℕ) (s : Base) (l : List ℕ) → Forward.BaseAt k d s l → Opens l
+pub base-opens : (k : List Frame) (d : ℕ) (s : Base) (l : List ℕ) → Bases.BaseAt k d s l → Opens l
 base-opens k d want l h = val-opens k d l h
 base-opens k d wantKey l h = key-opens k d l h
 base-opens k d (wantString z u) l h = fewer l (letters "\"\"") (plug-part z k d u l h (letters "\"\"") [] (String-part.one-line (Quoted.quoted double Chars.none)))

@@ -1,5 +1,5 @@
 -- Each byte keeps what the bytes so far are; where the machine fails, it says why. Assumes nothing.
-use Prim.Native.Nat.{ℕ, zero, suc, _+_, _≤_, _<_}
+use Prim.Native.Nat.{ℕ, zero, suc, _<_}
 use mathlib.Core.Path.{_≡_, refl, sym, ap, _∙_, subst}
 use mathlib.Core.Bool.{Bool, true, false, cond}
 use mathlib.Core.Logic.{_⊎_, inl, inr}
@@ -12,16 +12,13 @@ use borrow.Author.Tests.{eqb-true}
 use Rattle.rules.specs.Rfc3629.{Octets}
 use Rattle.rules.proofs.Characters.{after, split-ascii}
 use Rattle.meaning.specs.Letters.{letters, ch}
-use Rattle.meaning.specs.Limits.{depthLimit}
-use Rattle.meaning.specs.Meaning.{Meaning, Meanings, Members}
+use Rattle.meaning.specs.Meaning.{Meaning}
 use Rattle.meaning.specs.declared.Refusal.{Refusal}
 use Rattle.meaning.specs.declared.Refusal.the-variants.{NotGrammar}
-use Rattle.meaning.specs.declared.Time.the-variants.{LocalDate}
 use Rattle.grammar.specs.Characters.{Many}
-use Rattle.grammar.specs.Comments.{c-char, c-no-star, c-no-star-or-slash, Stars, Blank, Line-end, C-begin-line, C-line, C-block, Ws}
+use Rattle.grammar.specs.Comments.{c-no-star, c-no-star-or-slash, Stars, Blank, Line-end, C-begin-line, C-line, C-block, Ws}
 use Rattle.grammar.specs.Times.{Time-value}
 use Rattle.grammar.specs.Strings.{Concat}
-use Rattle.grammar.specs.Binary.{B-value, Binary}
 use Rattle.grammar.specs.Keys.{Key}
 use Rattle.grammar.specs.Values.{Inside, elements, members, Value}
 use Rattle.grammar.proofs.Bytewise
@@ -34,19 +31,19 @@ use Rattle.machine.specs.Strings
 use Rattle.machine.specs.Binaries
 use Rattle.machine.specs.Names
 use Rattle.machine.proofs.Runs.{OutIs, adv, steps-back}
-use Rattle.machine.proofs.Layouts.{NoteIs, note-is, adv-join}
+use Rattle.machine.proofs.Layouts.{NoteIs, note-is}
 use Rattle.machine.proofs.Classes.{ClassIs, class-is, opening, closing}
-use Rattle.machine.proofs.Numeric.{NumericItem, NumericRest, numeric-is, Taken, numeric-taken}
+use Rattle.machine.proofs.Numeric.{NumericRest, numeric-is, Taken, numeric-taken}
 use Rattle.machine.proofs.Strings.Back.{PartRest, part-is, raw-part}
 use Rattle.machine.proofs.Binaries.{BinaryRest, binary-is, binary-of}
 use Rattle.machine.proofs.Names.{NameRest, name-is, name-of}
-use Rattle.machine.proofs.Sound.{blank-of, end-low, begin-octets, stars-octets, stars-first, line-byte, no-star-byte, no-slash-byte, line-end-of, numeric-value}
+use Rattle.machine.proofs.Sound.{blank-of, end-low, begin-octets, stars-first, line-byte, no-star-byte, no-slash-byte, line-end-of, numeric-value}
 use Rattle.machine.proofs.Whole.{run}
 use Rattle.machine.proofs.Refusals.Reason.{Faulty, Reason, three}
-use Rattle.machine.proofs.Refusals.Forward
+use Rattle.machine.proofs.Refusals.Bases
 use Rattle.machine.proofs.Refusals.Confs.{Lined, Blocked, Starred, Slashed, Worded, PartStart, BinaryStart, ItemAt, ConfAt, begun-more, begun-now, Next}
 use Rattle.machine.proofs.Refusals.Only.{Only, binary-only, name-only}
-use Rattle.machine.proofs.Refusals.Strings.{raw-whole}
+use Rattle.machine.proofs.Refusals.Parts.{raw-whole}
 use Rattle.machine.proofs.Refusals.NumericFault.{numeric-breaks}
 use Rattle.machine.proofs.Refusals.EscapeFault.{part-breaks}
 
@@ -64,7 +61,7 @@ stars-more Stars.one = Stars.more Stars.one
 stars-more (Stars.more z) = Stars.more (stars-more z)
 
 module _ (k : List Frame) (d : ℕ) (s : Base) (l : List ℕ) where
-  hash-at : Forward.BaseAt k d s l → Lined k d s (l ++ letters "#")
+  hash-at : Bases.BaseAt k d s l → Lined k d s (l ++ letters "#")
   hash-at h = record { front = l; begin = letters "#"; body = []; stands = h; begins = C-begin-line.hash; chars = Many.none; split = refl }
 
   slashes-at : Slashed k d s l → Lined k d s (l ++ letters "/")
@@ -85,11 +82,11 @@ module _ (k : List Frame) (d : ℕ) (s : Base) (l : List ℕ) where
       let u : Octets f = split-ascii o f (ch "/") (ch "/" ∷ (c ++ (b ∷ r))) (omega arith) refl in
       split-ascii (begin-octets C-begin-line.slashes (c ++ (b ∷ r)) (after u (ch "/" ∷ ch "/" ∷ (c ++ (b ∷ r))) o)) c b r e refl
 
-  pub line-done : (b : ℕ) (r : List ℕ) → Line-end b → Octets (l ++ (b ∷ r)) → Lined k d s l → Forward.BaseAt k d s (l ++ (b ∷ []))
+  pub line-done : (b : ℕ) (r : List ℕ) → Line-end b → Octets (l ++ (b ∷ r)) → Lined k d s l → Bases.BaseAt k d s (l ++ (b ∷ []))
   line-done b r y o h =
       let c : Octets (h .body) = line-octets (h .begins) (h .front) (h .body) b r (end-low y) (subst Octets (rw (h .split) (simp append-assoc)) o) in
       let w : Ws ((h .begin ++ h .body) ++ (b ∷ [])) = Ws.line (C-line.c-line (h .begins) (Bytewise.line-chars (h .chars) c)) y Ws.none in
-      subst (Forward.BaseAt k d s) (rw (h .split) (sym (append-assoc (h .front) (h .begin ++ h .body) (b ∷ [])))) (Forward.base-more w k d s (h .front) (h .stands))
+      subst (Bases.BaseAt k d s) (rw (h .split) (sym (append-assoc (h .front) (h .begin ++ h .body) (b ∷ [])))) (Bases.base-more w k d s (h .front) (h .stands))
 
   inner-more : (b : ℕ) → Bytewise.Byte c-no-star (b ∷ []) → Blocked k d s l → Blocked k d s (l ++ (b ∷ []))
   inner-more b y h =
@@ -119,27 +116,27 @@ module _ (k : List Frame) (d : ℕ) (s : Base) (l : List ℕ) where
       let v = Bytewise.behind (ch "*") (c ++ (z ++ (ch "/" ∷ r))) (omega arith) (Bytewise.behind (ch "/") (ch "*" ∷ (c ++ (z ++ (ch "/" ∷ r)))) (omega arith) (after u (letters "/*" ++ (c ++ (z ++ (ch "/" ∷ r)))) o)) in
       split-ascii v c (ch "*") (e .0 ++ (ch "/" ∷ r)) (omega arith) (ap (λ (a : List ℕ). c ++ (a ++ (ch "/" ∷ r))) (e .1))
 
-  pub block-done : (r : List ℕ) → Octets (l ++ (ch "/" ∷ r)) → Starred k d s l → Forward.BaseAt k d s (l ++ letters "/")
+  pub block-done : (r : List ℕ) → Octets (l ++ (ch "/" ∷ r)) → Starred k d s l → Bases.BaseAt k d s (l ++ letters "/")
   block-done r o h =
       let x = h .body in
       let z = h .stars in
       let e : l ++ (ch "/" ∷ r) ≡ h .front ++ (letters "/*" ++ (x ++ (z ++ (ch "/" ∷ r)))) = rw (h .split) (append-assoc (h .front) (letters "/*" ++ (x ++ z)) (ch "/" ∷ r) ∙ ap (λ (a : List ℕ). h .front ++ (letters "/*" ++ a)) (append-assoc x z (ch "/" ∷ r))) in
       let c : Octets x = block-octets (h .front) x z r (h .closing) (subst Octets e o) in
       let w : Ws ((letters "/*" ++ (x ++ (z ++ letters "/"))) ++ []) = Ws.block (C-block.c-block (Bytewise.block-inner (h .chars) c) (h .closing)) Ws.none in
-      subst (Forward.BaseAt k d s) (rw (h .split, append-nil) (sym (append-assoc (h .front) (letters "/*" ++ (x ++ z)) (letters "/") ∙ ap (λ (a : List ℕ). h .front ++ (letters "/*" ++ a)) (append-assoc x z (letters "/"))))) (Forward.base-more w k d s (h .front) (h .stands))
+      subst (Bases.BaseAt k d s) (rw (h .split, append-nil) (sym (append-assoc (h .front) (letters "/*" ++ (x ++ z)) (letters "/") ∙ ap (λ (a : List ℕ). h .front ++ (letters "/*" ++ a)) (append-assoc x z (letters "/"))))) (Bases.base-more w k d s (h .front) (h .stands))
 
 -- ---- what an item has got
 
-numeric-stands : (k : List Frame) (d : ℕ) (f l : List ℕ) → Forward.ValAt k d f → {b : List ℕ} {m : Meaning} → Taken true b m → l ≡ f ++ b → Forward.GotAt k d (Got.value m) l
+numeric-stands : (k : List Frame) (d : ℕ) (f l : List ℕ) → Bases.ValAt k d f → {b : List ℕ} {m : Meaning} → Taken true b m → l ≡ f ++ b → Bases.GotAt k d (Got.value m) l
 numeric-stands k d f l h (Taken.item {a = b} y) e = record { front = f; body = b; lay = []; starts = h; is = numeric-value y d; layout = Ws.none; split = rw append-nil e }
 numeric-stands k d f l h (Taken.trailed {a = a} y) e = record { front = f; body = a; lay = letters " "; starts = h; is = Value.time-value (Time-value.local-date y); layout = Ws.blank Blank.space Ws.none; split = e }
 
-numeric-got : (k : List Frame) (d p : ℕ) (s : Numeric.St) (l : List ℕ) → ItemAt p k d (Machine.numeric s) l → (m : Meaning) → NumericRest true s [] m → Forward.GotAt k d (Got.value m) l
+numeric-got : (k : List Frame) (d p : ℕ) (s : Numeric.St) (l : List ℕ) → ItemAt p k d (Machine.numeric s) l → (m : Meaning) → NumericRest true s [] m → Bases.GotAt k d (Got.value m) l
 numeric-got k d p s l h m r = numeric-stands k d (h .front) l (h .starts) (numeric-taken (steps-back Numeric.scan (NumericRest true) (numeric-is true) (h .steps) r)) (h .split)
 
 -- one part more, of either kind
 module _ {P : List ℕ → List ℕ → Type 0} {S : List ℕ → Type 0} (u v : List ℕ) (f b l : List ℕ) (y : P b v) (e : l ≡ f ++ b) where
-  joined : (S f × (u ≡ [])) ⊎ Forward.Plus S (λ a. Concat P a u) f → Forward.Stands S (λ a. Concat P a (u ++ v)) l
+  joined : (S f × (u ≡ [])) ⊎ Bases.Plus S (λ a. Concat P a u) f → Bases.Stands S (λ a. Concat P a (u ++ v)) l
   joined (inl h) = record { front = f; body = b; lay = []; starts = h .0; is = rw (h .1) (Concat.part y); layout = Ws.none; split = rw append-nil e }
   joined (inr h) =
       record {
@@ -147,20 +144,20 @@ module _ {P : List ℕ → List ℕ → Type 0} {S : List ℕ → Type 0} (u v :
         body = h .body ++ (h .lay ++ (ch "+" ∷ (h .more ++ b)));
         lay = [];
         starts = h .starts;
-        is = Forward.concat-join (h .is) (h .layout) (h .further) y;
+        is = Bases.concat-join (h .is) (h .layout) (h .further) y;
         layout = Ws.none;
         split = rw (append-nil, e, h .split) (append-assoc (h .front) (h .body ++ (h .lay ++ (ch "+" ∷ h .more))) b ∙ ap (λ (x : List ℕ). h .front ++ x) (append-assoc (h .body) (h .lay ++ (ch "+" ∷ h .more)) b ∙ ap (λ (x : List ℕ). h .body ++ x) (append-assoc (h .lay) (ch "+" ∷ h .more) b)));
       }
 
-part-got : (z : Use) (u : List ℕ) (k : List Frame) (d p : ℕ) (s : Strings.St) (l r : List ℕ) → Octets (l ++ r) → ItemAt p k d (Machine.string-part z u s) l → (v : List ℕ) → PartRest s [] v → Forward.GotAt k d (Got.string z (u ++ v)) l
+part-got : (z : Use) (u : List ℕ) (k : List Frame) (d p : ℕ) (s : Strings.St) (l r : List ℕ) → Octets (l ++ r) → ItemAt p k d (Machine.string-part z u s) l → (v : List ℕ) → PartRest s [] v → Bases.GotAt k d (Got.string z (u ++ v)) l
 part-got z u k d p s l r o h v x =
     let y = raw-whole (h .front) (h .body) r (raw-part (steps-back Strings.scan PartRest part-is (h .steps) x)) (subst Octets (rw (h .split) (append-assoc (h .front) (h .body) r)) o) in
     joined u v (h .front) (h .body) l y (h .split) (h .starts)
 
-binary-got : (u : List ℕ) (k : List Frame) (d p : ℕ) (s : Binaries.St) (l : List ℕ) → ItemAt p k d (Machine.binary-part u s) l → (v : List ℕ) → BinaryRest s [] v → Forward.GotAt k d (Got.binary (u ++ v)) l
+binary-got : (u : List ℕ) (k : List Frame) (d p : ℕ) (s : Binaries.St) (l : List ℕ) → ItemAt p k d (Machine.binary-part u s) l → (v : List ℕ) → BinaryRest s [] v → Bases.GotAt k d (Got.binary (u ++ v)) l
 binary-got u k d p s l h v x = joined u v (h .front) (h .body) l (binary-of (steps-back Binaries.scan BinaryRest binary-is (h .steps) x)) (h .split) (h .starts)
 
-name-got : (k : List Frame) (d p : ℕ) (s : Names.St) (l : List ℕ) → ItemAt p k d (Machine.identifier s) l → (v : List ℕ) → NameRest s [] v → Forward.GotAt k d (Got.key v) l
+name-got : (k : List Frame) (d p : ℕ) (s : Names.St) (l : List ℕ) → ItemAt p k d (Machine.identifier s) l → (v : List ℕ) → NameRest s [] v → Bases.GotAt k d (Got.key v) l
 name-got k d p s l h v x =
     let y = name-of (steps-back Names.scan NameRest name-is (h .steps) x) in
     record { front = h .front; body = h .body; lay = []; starts = h .starts; is = subst (λ (w : List ℕ). Key true (h .body) w) (y .1) (Key.identifier (y .0)); layout = Ws.none; split = rw append-nil (h .split) }
@@ -168,53 +165,53 @@ name-got k d p s l h v x =
 module _ (t : List ℕ) where
   -- ---- a byte behind what is got
 
-  closing-is : (p d : ℕ) (k : List Frame) (c : Machine.Bracket) (y : Inside) (l : List ℕ) → Forward.Within (Forward.ValAt k) d y l → ConfAt t (suc p) (Machine.closed p d k c y) (l ++ (closing c ∷ []))
-  closing-is p d k Machine.square (elements x) l h = Forward.close-array d x l h
+  closing-is : (p d : ℕ) (k : List Frame) (c : Machine.Bracket) (y : Inside) (l : List ℕ) → Bases.Within (Bases.ValAt k) d y l → ConfAt t (suc p) (Machine.closed p d k c y) (l ++ (closing c ∷ []))
+  closing-is p d k Machine.square (elements x) l h = Bases.close-array d x l h
   closing-is p d k Machine.square (members x) l h = three p
   closing-is p d k Machine.curly (elements x) l h = three p
-  closing-is p d k Machine.curly (members x) l h = Forward.close-object d x l h
+  closing-is p d k Machine.curly (members x) l h = Bases.close-object d x l h
 
-  comma-at : (p d : ℕ) (k : List Frame) (m : Meaning) (l : List ℕ) → Forward.Stands (Forward.ValAt k d) (λ a. Value true d a m) l → ConfAt t (suc p) (Machine.commaAfter p d k m) (l ++ letters ",")
+  comma-at : (p d : ℕ) (k : List Frame) (m : Meaning) (l : List ℕ) → Bases.Stands (Bases.ValAt k d) (λ a. Value true d a m) l → ConfAt t (suc p) (Machine.commaAfter p d k m) (l ++ letters ",")
   comma-at p d [] m l h = three p
-  comma-at p d (inside (elements x) ∷ k) m l h = Forward.comma-element d x m l h
+  comma-at p d (inside (elements x) ∷ k) m l h = Bases.comma-element d x m l h
   comma-at p d (inside (members x) ∷ k) m l h = three p
-  comma-at p d (pair x u ∷ k) m l h = Forward.comma-member d x u m l h
+  comma-at p d (pair x u ∷ k) m l h = Bases.comma-member d x u m l h
 
-  close-at : (p d : ℕ) (k : List Frame) (c : Machine.Bracket) (m : Meaning) (l : List ℕ) → Forward.Stands (Forward.ValAt k d) (λ a. Value true d a m) l → ConfAt t (suc p) (Machine.closeAfter p d c k m) (l ++ (closing c ∷ []))
+  close-at : (p d : ℕ) (k : List Frame) (c : Machine.Bracket) (m : Meaning) (l : List ℕ) → Bases.Stands (Bases.ValAt k d) (λ a. Value true d a m) l → ConfAt t (suc p) (Machine.closeAfter p d c k m) (l ++ (closing c ∷ []))
   close-at p d [] c m l h = three p
-  close-at p d (inside (elements x) ∷ k) Machine.square m l h = Forward.close-element d x m l h
+  close-at p d (inside (elements x) ∷ k) Machine.square m l h = Bases.close-element d x m l h
   close-at p d (inside (elements x) ∷ k) Machine.curly m l h = three p
   close-at p d (inside (members x) ∷ k) c m l h = three p
   close-at p d (pair x u ∷ k) Machine.square m l h = three p
-  close-at p d (pair x u ∷ k) Machine.curly m l h = Forward.close-member d x u m l h
+  close-at p d (pair x u ∷ k) Machine.curly m l h = Bases.close-member d x u m l h
 
-  colon-at : (p d : ℕ) (k : List Frame) (u l : List ℕ) → Forward.Stands (Forward.KeyAt k d) (λ a. Key true a u) l → ConfAt t (suc p) (Machine.colonAfter p d k u) (l ++ letters ":")
+  colon-at : (p d : ℕ) (k : List Frame) (u l : List ℕ) → Bases.Stands (Bases.KeyAt k d) (λ a. Key true a u) l → ConfAt t (suc p) (Machine.colonAfter p d k u) (l ++ letters ":")
   colon-at p d [] u l h = three p
   colon-at p d (inside (elements x) ∷ k) u l h = three p
-  colon-at p d (inside (members x) ∷ k) u l h = Forward.colon-key d x u l h
+  colon-at p d (inside (members x) ∷ k) u l h = Bases.colon-key d x u l h
   colon-at p d (pair x w ∷ k) u l h = three p
 
-  plus-at : (p d : ℕ) (k : List Frame) (g : Got) (l : List ℕ) → Forward.GotAt k d g l → ConfAt t (suc p) (Machine.plusAfter p d k g) (l ++ letters "+")
+  plus-at : (p d : ℕ) (k : List Frame) (g : Got) (l : List ℕ) → Bases.GotAt k d g l → ConfAt t (suc p) (Machine.plusAfter p d k g) (l ++ letters "+")
   plus-at p d k (Got.value m) l h = three p
   plus-at p d k (Got.key u) l h = three p
-  plus-at p d k (Got.string z u) l h = Forward.plus-after l h
-  plus-at p d k (Got.binary u) l h = Forward.plus-after l h
+  plus-at p d k (Got.string z u) l h = Bases.plus-after l h
+  plus-at p d k (Got.binary u) l h = Bases.plus-after l h
 
-  need-value : (p d : ℕ) (k : List Frame) (l l' : List ℕ) (f : Meaning → Conf) → ((m : Meaning) → Forward.Stands (Forward.ValAt k d) (λ a. Value true d a m) l → ConfAt t (suc p) (f m) l') → (o : Option Meaning) → Forward.AsValue k d l o → ConfAt t (suc p) (Machine.needValue p f o) l'
+  need-value : (p d : ℕ) (k : List Frame) (l l' : List ℕ) (f : Meaning → Conf) → ((m : Meaning) → Bases.Stands (Bases.ValAt k d) (λ a. Value true d a m) l → ConfAt t (suc p) (f m) l') → (o : Option Meaning) → Bases.AsValue k d l o → ConfAt t (suc p) (Machine.needValue p f o) l'
   need-value p d k l l' f n none h = three p
   need-value p d k l l' f n (some m) h = n m h
 
-  need-key : (p d : ℕ) (k : List Frame) (l l' : List ℕ) (f : List ℕ → Conf) → ((u : List ℕ) → Forward.Stands (Forward.KeyAt k d) (λ a. Key true a u) l → ConfAt t (suc p) (f u) l') → (o : Option (List ℕ)) → Forward.AsKey k d l o → ConfAt t (suc p) (Machine.needKey p f o) l'
+  need-key : (p d : ℕ) (k : List Frame) (l l' : List ℕ) (f : List ℕ → Conf) → ((u : List ℕ) → Bases.Stands (Bases.KeyAt k d) (λ a. Key true a u) l → ConfAt t (suc p) (f u) l') → (o : Option (List ℕ)) → Bases.AsKey k d l o → ConfAt t (suc p) (Machine.needKey p f o) l'
   need-key p d k l l' f n none h = three p
   need-key p d k l l' f n (some u) h = n u h
 
-  got-at : (p d : ℕ) (k : List Frame) (g : Got) (b : ℕ) (l : List ℕ) (c : Class) → ClassIs b c → Forward.GotAt k d g l → ConfAt t (suc p) (Machine.onGot p d k g c) (l ++ (b ∷ []))
-  got-at p d k g b l Machine.blankC y h = Forward.base-more (Ws.blank (blank-of b y) Ws.none) k d (got g) l h
+  got-at : (p d : ℕ) (k : List Frame) (g : Got) (b : ℕ) (l : List ℕ) (c : Class) → ClassIs b c → Bases.GotAt k d g l → ConfAt t (suc p) (Machine.onGot p d k g c) (l ++ (b ∷ []))
+  got-at p d k g b l Machine.blankC y h = Bases.base-more (Ws.blank (blank-of b y) Ws.none) k d (got g) l h
   got-at p d k g b l Machine.hashC y h = rw y (hash-at k d (got g) l h)
   got-at p d k g b l Machine.slashC y h = rw y (l, h, refl)
-  got-at p d k g b l Machine.commaC y h = rw y (need-value p d k l (l ++ letters ",") (Machine.commaAfter p d k) (λ m. comma-at p d k m l) (asValue g) (Forward.as-value-at k d g l h))
-  got-at p d k g b l (Machine.closeC c) y h = rw y (need-value p d k l (l ++ (closing c ∷ [])) (Machine.closeAfter p d c k) (λ m. close-at p d k c m l) (asValue g) (Forward.as-value-at k d g l h))
-  got-at p d k g b l Machine.colonC y h = rw y (need-key p d k l (l ++ letters ":") (Machine.colonAfter p d k) (λ u. colon-at p d k u l) (asKey g) (Forward.as-key-at k d g l h))
+  got-at p d k g b l Machine.commaC y h = rw y (need-value p d k l (l ++ letters ",") (Machine.commaAfter p d k) (λ m. comma-at p d k m l) (asValue g) (Bases.as-value-at k d g l h))
+  got-at p d k g b l (Machine.closeC c) y h = rw y (need-value p d k l (l ++ (closing c ∷ [])) (Machine.closeAfter p d c k) (λ m. close-at p d k c m l) (asValue g) (Bases.as-value-at k d g l h))
+  got-at p d k g b l Machine.colonC y h = rw y (need-key p d k l (l ++ letters ":") (Machine.colonAfter p d k) (λ u. colon-at p d k u l) (asKey g) (Bases.as-key-at k d g l h))
   got-at p d k g b l Machine.plusC y h = rw y (plus-at p d k g l h)
   got-at p d k g b l (Machine.openC c) y h = three p
   got-at p d k g b l Machine.quoteC y h = three p
@@ -229,7 +226,7 @@ module _ (t : List ℕ) where
 
   -- the outcome
   module _ {X M : Type 0} (f : X → Machine.Item) (g : M → Got) (p d : ℕ) (k : List Frame) (b : ℕ) (l : List ℕ) where
-    out-at : (o : Out X M) → ((s : X) → o ≡ takes s → ItemAt (suc p) k d (f s) (l ++ (b ∷ []))) → ((v : M) → o ≡ stops v → Forward.GotAt k d (g v) l)
+    out-at : (o : Out X M) → ((s : X) → o ≡ takes s → ItemAt (suc p) k d (f s) (l ++ (b ∷ []))) → ((v : M) → o ≡ stops v → Bases.GotAt k d (g v) l)
         → ((r : Refusal) → o ≡ breaks r → Reason t r) → ConfAt t (suc p) (onOut p d k b (lift f g o)) (l ++ (b ∷ []))
     out-at (takes s) x y z = x s refl
     out-at (stops v) x y z = got-at p d k (g v) b l (classOf b) (class-is b) (y v refl)
@@ -271,19 +268,19 @@ module _ (t : List ℕ) where
   opening-of b Machine.curly e = rw e Opening.brace
 
   -- a bracket where none may open any more is the fault
-  open-at : (p d : ℕ) (k : List Frame) (c : Machine.Bracket) (b : ℕ) (l r : List ℕ) → t ≡ l ++ (b ∷ r) → b ≡ opening c → Forward.ValAt k d l
+  open-at : (p d : ℕ) (k : List Frame) (c : Machine.Bracket) (b : ℕ) (l r : List ℕ) → t ≡ l ++ (b ∷ r) → b ≡ opening c → Bases.ValAt k d l
       → ConfAt t (suc p) (Machine.opened p d k (Machine.bareOf c)) (l ++ (b ∷ []))
-  open-at p zero k c b l r e i h = inr (subst Faulty (sym e) (_, Item-fault.depth r (Forward.val-left k zero l h) (opening-of b c i)))
-  open-at p (suc d) k Machine.square b l r e i h = rw i (Forward.open-array d l h (Forward.val-left k (suc d) l h))
-  open-at p (suc d) k Machine.curly b l r e i h = rw i (Forward.open-object d l h (Forward.val-left k (suc d) l h))
+  open-at p zero k c b l r e i h = inr (subst Faulty (sym e) (_, Item-fault.depth r (Bases.val-left k zero l h) (opening-of b c i)))
+  open-at p (suc d) k Machine.square b l r e i h = rw i (Bases.open-array d l h (Bases.val-left k (suc d) l h))
+  open-at p (suc d) k Machine.curly b l r e i h = rw i (Bases.open-object d l h (Bases.val-left k (suc d) l h))
 
-  close-want : (p d : ℕ) (k : List Frame) (c : Machine.Bracket) (l : List ℕ) → Forward.ValAt k d l → ConfAt t (suc p) (Machine.closeWanted p d c k) (l ++ (closing c ∷ []))
+  close-want : (p d : ℕ) (k : List Frame) (c : Machine.Bracket) (l : List ℕ) → Bases.ValAt k d l → ConfAt t (suc p) (Machine.closeWanted p d c k) (l ++ (closing c ∷ []))
   close-want p d [] c l h = three p
   close-want p d (inside (elements y) ∷ k) c l h = closing-is p d k c (elements y) l h
   close-want p d (inside (members y) ∷ k) c l h = absurd h
   close-want p d (pair y u ∷ k) c l h = three p
 
-  close-key : (p d : ℕ) (k : List Frame) (c : Machine.Bracket) (l : List ℕ) → Forward.KeyAt k d l → ConfAt t (suc p) (Machine.closeWanted p d c k) (l ++ (closing c ∷ []))
+  close-key : (p d : ℕ) (k : List Frame) (c : Machine.Bracket) (l : List ℕ) → Bases.KeyAt k d l → ConfAt t (suc p) (Machine.closeWanted p d c k) (l ++ (closing c ∷ []))
   close-key p d [] c l h = three p
   close-key p d (inside (elements y) ∷ k) c l h = absurd h
   close-key p d (inside (members y) ∷ k) c l h = closing-is p d k c (members y) l h
@@ -293,13 +290,13 @@ module _ (t : List ℕ) where
     abbrev Now : Conf → Type 0
     Now c = ConfAt t (suc p) c (l ++ (b ∷ []))
 
-    blank-at : (s : Base) → ClassIs b Machine.blankC → Forward.BaseAt k d s l → Forward.BaseAt k d s (l ++ (b ∷ []))
-    blank-at s y h = Forward.base-more (Ws.blank (blank-of b y) Ws.none) k d s l h
+    blank-at : (s : Base) → ClassIs b Machine.blankC → Bases.BaseAt k d s l → Bases.BaseAt k d s (l ++ (b ∷ []))
+    blank-at s y h = Bases.base-more (Ws.blank (blank-of b y) Ws.none) k d s l h
 
-    word-start : (w : List ℕ) (m : Meaning) → Value true d w m → Forward.ValAt k d l → Now (Machine.start p d k b (Machine.word w m))
+    word-start : (w : List ℕ) (m : Meaning) → Value true d w m → Bases.ValAt k d l → Now (Machine.start p d k b (Machine.word w m))
     word-start w m v h = item-at p d k (Machine.word w m) b l r e o (record { front = l; body = []; starts = h; is = v; split = sym (append-nil l) })
 
-    numeric-start : Forward.ValAt k d l → Now (Machine.start p d k b (Machine.numeric Numeric.begin))
+    numeric-start : Bases.ValAt k d l → Now (Machine.start p d k b (Machine.numeric Numeric.begin))
     numeric-start h = item-at p d k (Machine.numeric Numeric.begin) b l r e o (begun-now Numeric.scan Numeric.begin l h q)
 
     part-start : (z : Use) (u : List ℕ) → PartStart z u k d l → Now (Machine.start p d k b (Machine.string-part z u Strings.begin))
@@ -308,10 +305,10 @@ module _ (t : List ℕ) where
     binary-start : (u : List ℕ) → BinaryStart u k d l → Now (Machine.start p d k b (Machine.binary-part u Binaries.begin))
     binary-start u h = item-at p d k (Machine.binary-part u Binaries.begin) b l r e o (begun-now Binaries.scan Binaries.begin l h q)
 
-    name-start : Forward.KeyAt k d l → Now (Machine.start p d k b (Machine.identifier Names.begin))
+    name-start : Bases.KeyAt k d l → Now (Machine.start p d k b (Machine.identifier Names.begin))
     name-start h = item-at p d k (Machine.identifier Names.begin) b l r e o (begun-now Names.scan Names.begin l h q)
 
-    want-at : (c : Class) → ClassIs b c → Forward.ValAt k d l → Now (Machine.onWant p d k b c)
+    want-at : (c : Class) → ClassIs b c → Bases.ValAt k d l → Now (Machine.onWant p d k b c)
     want-at Machine.blankC y h = blank-at want y h
     want-at Machine.hashC y h = rw y (hash-at k d want l h)
     want-at Machine.slashC y h = rw y (l, h, refl)
@@ -328,7 +325,7 @@ module _ (t : List ℕ) where
     want-at Machine.commaC y h = three p
     want-at Machine.colonC y h = three p
 
-    key-at : (c : Class) → ClassIs b c → Forward.KeyAt k d l → Now (Machine.onKey p d k b c)
+    key-at : (c : Class) → ClassIs b c → Bases.KeyAt k d l → Now (Machine.onKey p d k b c)
     key-at Machine.blankC y h = blank-at wantKey y h
     key-at Machine.hashC y h = rw y (hash-at k d wantKey l h)
     key-at Machine.slashC y h = rw y (l, h, refl)
@@ -345,7 +342,7 @@ module _ (t : List ℕ) where
     key-at Machine.colonC y h = three p
     key-at Machine.otherC y h = three p
 
-    part-at : (s : Base) (quoted dollared : Conf) → Forward.BaseAt k d s l → Now quoted → Now dollared → (c : Class) → ClassIs b c → Now (Machine.onPart p d k b s quoted dollared c)
+    part-at : (s : Base) (quoted dollared : Conf) → Bases.BaseAt k d s l → Now quoted → Now dollared → (c : Class) → ClassIs b c → Now (Machine.onPart p d k b s quoted dollared c)
     part-at s x z h f g Machine.blankC y = blank-at s y h
     part-at s x z h f g Machine.hashC y = rw y (hash-at k d s l h)
     part-at s x z h f g Machine.slashC y = rw y (l, h, refl)
@@ -362,7 +359,7 @@ module _ (t : List ℕ) where
     part-at s x z h f g Machine.colonC y = three p
     part-at s x z h f g Machine.otherC y = three p
 
-    base-at : (s : Base) → Forward.BaseAt k d s l → Now (Machine.onBase p d k b s)
+    base-at : (s : Base) → Bases.BaseAt k d s l → Now (Machine.onBase p d k b s)
     base-at want h = want-at (classOf b) (class-is b) h
     base-at wantKey h = key-at (classOf b) (class-is b) h
     base-at (wantString z u) h = part-at (wantString z u) _ _ h (part-start z u (inr h)) (three p) (classOf b) (class-is b)

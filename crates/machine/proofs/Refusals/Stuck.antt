@@ -1,12 +1,11 @@
 -- Where the machine gives 3, the text is stuck there. Assumes nothing.
-use Prim.Native.Nat.{ℕ, suc, _+_, _<_}
-use mathlib.Core.Path.{_≡_, refl, sym, ap, _∙_, subst}
+use Prim.Native.Nat.{ℕ}
+use mathlib.Core.Path.{_≡_, refl, sym, _∙_, subst}
 use mathlib.Core.Bool.{false}
 use mathlib.Core.List.{List, [], _∷_, _++_, append-assoc, append-nil}
 use native.Mathlib.Omega.{arith}
 use lib.ListN.{length}
 use Rattle.rules.specs.Rfc3629.{Octets}
-use Rattle.meaning.specs.Limits.{depthLimit}
 use Rattle.meaning.specs.declared.Refusal.the-variants.{NotGrammar}
 use Rattle.meaning.specs.Meaning.{Meaning}
 use Rattle.grammar.specs.Comments.{Ws}
@@ -14,9 +13,8 @@ use Rattle.grammar.specs.Values.{Text}
 use Rattle.machine.specs.Machine.{No, reading, Conf, at, fail, step}
 use Rattle.grammar.specs.Refused.{Opens, Stuck}
 use Rattle.machine.proofs.Runs.{adv}
-use Rattle.machine.proofs.Places.{Live}
 use Rattle.machine.proofs.Refusals.Bare.{never-3}
-use Rattle.machine.proofs.Refusals.Split.{init, after, Refuses, refused-at, adv-length, whatever-follows}
+use Rattle.machine.proofs.Refusals.Refuses.{init, after, Refuses, refused-at, adv-length, whatever-follows}
 use Rattle.machine.proofs.Refusals.Confs.{ConfAt}
 use Rattle.machine.proofs.Refusals.Reached.{reached}
 use Rattle.machine.proofs.Refusals.Viable.{Fails, conf-opens, opens-before}

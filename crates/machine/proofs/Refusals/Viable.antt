@@ -1,13 +1,13 @@
 -- The bytes that the machine has taken begin a text of the bare grammar. Assumes nothing.
-use Prim.Native.Nat.{ℕ, zero, suc, _≤_, _<_}
+use Prim.Native.Nat.{ℕ, _≤_, _<_}
 use mathlib.Core.Path.{_≡_, refl, sym, ap, _∙_, subst}
-use mathlib.Core.Bool.{Bool, true, false}
+use mathlib.Core.Bool.{false}
 use mathlib.Core.Logic.{_⊎_, inl, inr}
 use mathlib.Core.List.{List, [], _∷_, _++_, append-assoc, append-nil}
 use native.Mathlib.Decide.{decLt}
 use native.Mathlib.Omega.{arith}
 use Rattle.rules.specs.Rfc3629.{Octets}
-use Rattle.rules.proofs.Characters.{after, split-ascii, join, Each, all-none, all-more, each-at, small}
+use Rattle.rules.proofs.Characters.{split-ascii, join, Each, all-none, all-more, each-at, small}
 use Rattle.meaning.specs.Letters.{letters, ch}
 use Rattle.meaning.specs.Limits.{depthLimit}
 use Rattle.meaning.specs.Meaning.{Meaning}
@@ -15,8 +15,8 @@ use Rattle.meaning.specs.declared.Time.the-variants.{LocalDate}
 use Rattle.grammar.specs.Characters.{Many}
 use Rattle.grammar.specs.Comments.{Blank, Line-end, Stars, C-block, Ws}
 use Rattle.grammar.specs.Times.{Time-value}
-use Rattle.grammar.specs.Strings.{String-part, Concat, String}
-use Rattle.grammar.specs.Binary.{B-value, Binary}
+use Rattle.grammar.specs.Strings.{String-part, Concat}
+use Rattle.grammar.specs.Binary.{B-value}
 use Rattle.grammar.specs.Keys.{Key}
 use Rattle.grammar.specs.Values.{Value}
 use Rattle.machine.specs.Machine
@@ -35,19 +35,19 @@ use Rattle.machine.proofs.Strings.Ascii.{Ascii, ascii-octets}
 use Rattle.machine.proofs.Binaries.{BinaryRest, binary-is, binary-of}
 use Rattle.machine.proofs.Names.{NameRest, name-is, name-of}
 use Rattle.machine.proofs.Refusals.Loose.{loose-value}
-use Rattle.machine.proofs.Refusals.Numbers.{numeric-finish, binary-finish, name-finish}
-use Rattle.machine.proofs.Refusals.Strings.{PartBare, bare-is, raw-whole, steps-sane, finish, Clean, clean-or, steps-last, HighOut, high-taken}
-use Rattle.machine.proofs.Refusals.Forward
+use Rattle.machine.proofs.Refusals.Finishes.{numeric-finish, binary-finish, name-finish}
+use Rattle.machine.proofs.Refusals.Parts.{PartBare, bare-is, raw-whole, steps-sane, finish, Clean, clean-or, steps-last, HighOut, high-taken}
+use Rattle.machine.proofs.Refusals.Bases
 use Rattle.machine.proofs.Refusals.Confs.{Lined, Blocked, Starred, Slashed, PartStart, BinaryStart, ItemAt, ConfAt}
 use Rattle.machine.proofs.Refusals.Reached.{line-done, star-at, block-done}
 use Rattle.machine.proofs.Refusals.Opens.{fewer, plug, plug-key, plug-string, plug-part, plug-binary, base-opens}
 
 -- ---- items
 
-plug-now : (k : List Frame) (d : ℕ) (l : List ℕ) → Forward.ValAt k d l → (b : List ℕ) (m : Meaning) → Value false depthLimit b m → Opens (l ++ b)
+plug-now : (k : List Frame) (d : ℕ) (l : List ℕ) → Bases.ValAt k d l → (b : List ℕ) (m : Meaning) → Value false depthLimit b m → Opens (l ++ b)
 plug-now k d l h b m v = subst Opens (ap (λ (x : List ℕ). l ++ x) (append-nil b)) (plug k d l h b [] m v Ws.none)
 
-taken-opens : (k : List Frame) (d : ℕ) (l : List ℕ) → Forward.ValAt k d l → {b : List ℕ} {m : Meaning} → Taken false b m → Opens (l ++ b)
+taken-opens : (k : List Frame) (d : ℕ) (l : List ℕ) → Bases.ValAt k d l → {b : List ℕ} {m : Meaning} → Taken false b m → Opens (l ++ b)
 taken-opens k d l h (Taken.item {a = b} (NumericItem.number {n = n} y)) = plug-now k d l h b (Meaning.number n) (Value.number y)
 taken-opens k d l h (Taken.item {a = b} (NumericItem.time-value {t = t} y)) = plug-now k d l h b (Meaning.time t) (Value.time-value y)
 taken-opens k d l h (Taken.trailed {a = a} {d = e} y) = plug k d l h a (letters " ") (Meaning.time (LocalDate e)) (Value.time-value (Time-value.local-date y)) (Ws.blank Blank.space Ws.none)
@@ -79,7 +79,7 @@ string-opens p z u k d s l o h =
     behind (h .front) (h .body) l a (h .split) (part-opens z u k d (h .front) (h .body ++ a) (w .0) (h .starts) (raw-whole (h .front) (h .body ++ a) [] (w .1) q))
 
 -- in UTF-8, where it is a string part
-abbrev pub IsPart : Machine.Item → Type 0
+abbrev IsPart : Machine.Item → Type 0
 IsPart (Machine.string-part z u s) = Unit {0}
 IsPart (Machine.word w m) = ⊥
 IsPart (Machine.numeric s) = ⊥
@@ -103,7 +103,7 @@ item-opens p k d (Machine.identifier s) l o h =
 slash-opens : (k : List Frame) (d : ℕ) (s : Base) (l : List ℕ) → Slashed k d s l → Opens l
 slash-opens k d s l h =
     let w : Ws (letters "/**/") = Ws.block (C-block.c-block Many.none Stars.one) Ws.none in
-    fewer l (letters "**/") (subst Opens (rw (h .2) (sym (append-assoc (h .0) (letters "/") (letters "**/")))) (base-opens k d s (h .0 ++ letters "/**/") (Forward.base-more w k d s (h .0) (h .1))))
+    fewer l (letters "**/") (subst Opens (rw (h .2) (sym (append-assoc (h .0) (letters "/") (letters "**/")))) (base-opens k d s (h .0 ++ letters "/**/") (Bases.base-more w k d s (h .0) (h .1))))
 
 literal : (a : List ℕ) → Each Ascii a → {l : List ℕ} → Octets l → Octets (l ++ a)
 literal a x o = join o (ascii-octets x)

@@ -1,5 +1,5 @@
 -- The machine refuses a text exactly as the grammar does: the same refusal of 1 to 7, at the same place. Assumes nothing.
-use Prim.Native.Nat.{ℕ, _≤_, _<_}
+use Prim.Native.Nat.{ℕ, _≤_}
 use mathlib.Core.Path.{_≡_, refl, sym, ap, _∙_, subst}
 use mathlib.Core.Logic.{_↔_, inl, inr}
 use mathlib.Core.Bool.{Bool, true, false, cond}
@@ -8,7 +8,7 @@ use native.Mathlib.Omega.{arith}
 use lib.Dec.{leb}
 use lib.ListN.{length}
 use borrow.Author.Tests.{le-leb, lt-leb, leb-true, leb-false}
-use Rattle.rules.specs.Rfc3629.{Octets, Fault, Judged, ill}
+use Rattle.rules.specs.Rfc3629.{Octets, Judged, ill}
 use Rattle.rules.specs.declared.Utf8Answer.{Utf8Answer}
 use Rattle.rules.specs.declared.Utf8Answer.the-variants.{Done, IllFormed}
 use Rattle.rules.specs.Decided.{judged}
@@ -17,7 +17,7 @@ use Rattle.rules.proofs.Outcomes.{one-outcome-utf8, utf8-fault}
 use Rattle.meaning.specs.Limits.{textLimit}
 use Rattle.meaning.specs.Meaning.{Meaning}
 use Rattle.meaning.specs.declared.Refusal.{Refusal}
-use Rattle.meaning.specs.declared.Refusal.the-variants.{TextTooLong, NotUtf8, NotGrammar}
+use Rattle.meaning.specs.declared.Refusal.the-variants.{TextTooLong, NotGrammar}
 use Rattle.grammar.specs.Values.{Text}
 use Rattle.grammar.specs.Refused.{Stuck, Item-fault, Refused, Text-refused, too-long, not-utf8}
 use Rattle.machine.specs.Machine.{Verdict, Ok, No, reading}
@@ -27,7 +27,7 @@ use Rattle.machine.proofs.Refusals.Reason.{Other, Faulty, Reason}
 use Rattle.machine.proofs.Refusals.Stuck.{stuck}
 use Rattle.machine.proofs.Refusals.Once.{stuck-once, accepted}
 use Rattle.machine.proofs.Refusals.Given.{given}
-use Rattle.machine.proofs.Refusals.Reasons.{reason}
+use Rattle.machine.proofs.Refusals.AtEnd.{reason}
 
 -- ---- 3 to 7, of UTF-8
 

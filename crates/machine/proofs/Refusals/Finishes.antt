@@ -1,8 +1,8 @@
 -- From every state of a number or a time value, of a binary part and of an identifier some bytes finish one of the bare grammar. Assumes nothing.
 use Prim.Native.Nat.{ℕ, zero, suc, _+_, _*_, _^_}
-use mathlib.Core.Path.{_≡_, refl, sym, ap, _∙_}
+use mathlib.Core.Path.{_≡_, refl}
 use mathlib.Core.Bool.{Bool, true, false}
-use mathlib.Core.Logic.{_⊎_, inl, inr}
+use mathlib.Core.Logic.{inl, inr}
 use mathlib.Core.List.{List, [], _∷_, _++_, append-nil}
 use native.Mathlib.Omega.{arith}
 use lib.IntN.{pos}
@@ -17,9 +17,9 @@ use Rattle.grammar.specs.Numbers.{Finite, Sign, Int, Frac0, Exp, Dec, Unsigned,
 use Rattle.grammar.specs.Times.{Fraction, Time-secfrac, signed}
 use Rattle.grammar.specs.Strings.{Quote, mark, Short, Chars}
 use Rattle.grammar.specs.Binary.{B-part, B-direct, B-value, B-escape}
-use Rattle.grammar.specs.Keys.{i-continue, Identifier}
+use Rattle.grammar.specs.Keys.{Identifier}
 use Rattle.machine.specs.Numeric
-use Rattle.machine.specs.Numeric.{St, begin, sign, word, nought, int, point, frac, exp, expSign, expDigits, hexMark, hex, both, field, spaced, secPoint, nanos, zulu, Len, d1, d2, d3, d4, When, alone, on, Slot, month, day, hour, minute, second, offsetHour, offsetMinute, dated}
+use Rattle.machine.specs.Numeric.{St, begin, sign, word, nought, int, point, frac, exp, expSign, expDigits, hexMark, hex, both, field, spaced, secPoint, nanos, zulu, d1, d2, d3, d4, When, alone, on, Slot, month, day, hour, minute, second, offsetHour, offsetMinute, dated}
 use Rattle.machine.specs.Binaries
 use Rattle.machine.specs.Names
 use Rattle.machine.proofs.Numeric.{NumericItem, Taken, NumericRest}

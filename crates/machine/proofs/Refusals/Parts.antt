@@ -1,9 +1,9 @@
 -- From every state of a string part some bytes finish a part of the bare grammar. Assumes nothing.
 use Prim.Native.Nat.{ℕ, zero, suc, _+_, _*_, _≤_, _<_}
 use mathlib.Core.Path.{_≡_, refl, sym, _∙_, ap, subst}
-use mathlib.Core.Bool.{Bool, true, false, cond}
+use mathlib.Core.Bool.{Bool, false, cond}
 use mathlib.Core.Logic.{_⊎_, inl, inr}
-use mathlib.Core.List.{List, [], _∷_, _++_, append-assoc, append-nil}
+use mathlib.Core.List.{List, [], _∷_, _++_, append-assoc}
 use native.Mathlib.Omega.{arith}
 use lib.Dec.{ltb}
 use lib.ListN.{replicate}
@@ -16,10 +16,10 @@ use Rattle.grammar.specs.Characters.{Hexdig, Digits, Hexadecimal}
 use Rattle.grammar.specs.Strings.{Quote, double, single, mark, three, Short, Escape, Up-to-two, Newline, No-newline, String-part}
 use Rattle.machine.specs.Scan.{Out, takes, stops, breaks}
 use Rattle.machine.specs.Strings as S
-use Rattle.machine.specs.Strings.{St, Ctx, Bad, Half, mk, badNow, give, scan, start, one, two, lines0, linesCR, lines, body, esc, uni, hex, brace0, brace, done, fine, spoilt, whole, half, hexOf, shortOf, begin}
+use Rattle.machine.specs.Strings.{St, Ctx, Bad, mk, badNow, scan, start, one, two, lines0, linesCR, lines, body, esc, uni, hex, brace0, brace, done, fine, spoilt, whole, hexOf, shortOf}
 use Rattle.machine.proofs.Runs.{OutIs, Steps}
-use Rattle.machine.proofs.Strings.Raw.{Plain, Body, Inner, Lines, Raw-part}
-use Rattle.machine.proofs.Strings.Tests.{by-bool, by-eqb, by-ltb, by-leb, hex-is, hex-ascii, short-is}
+use Rattle.machine.proofs.Strings.Raw.{Body, Lines, Raw-part}
+use Rattle.machine.proofs.Strings.Tests.{by-bool, by-eqb, by-ltb, hex-is, hex-ascii, short-is}
 use Rattle.machine.proofs.Strings.Quotes.{mark-ascii}
 use Rattle.machine.proofs.Strings.Ascii.{Ascii}
 use Rattle.machine.proofs.Strings.Whole.{part-of, part-cut}
@@ -131,7 +131,7 @@ bare-is p (done k) b = close-is k b (badNow k)
 abbrev IsMark : ℕ → Type 0
 IsMark q = (j : Quote) × (q ≡ mark j)
 
-abbrev pub Sane : St → Type 0
+abbrev Sane : St → Type 0
 Sane start = Unit {0}
 Sane (one q) = IsMark q
 Sane (two q) = IsMark q

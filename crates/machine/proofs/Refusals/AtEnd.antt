@@ -1,7 +1,7 @@
 -- Where the machine refuses a text, at a byte or at its end, there is a reason: 3, or an item fails its check. Assumes nothing.
 use Prim.Native.Nat.{ℕ}
 use mathlib.Core.Path.{_≡_, refl, sym, ap, _∙_, subst}
-use mathlib.Core.Logic.{_⊎_, inl, inr}
+use mathlib.Core.Logic.{inl}
 use mathlib.Core.Option.{Option, none, some}
 use mathlib.Core.List.{List, [], _∷_, _++_, append-nil}
 use Rattle.rules.specs.Rfc3629.{Octets}
@@ -18,7 +18,7 @@ use Rattle.machine.specs.Names
 use Rattle.machine.proofs.Runs.{adv}
 use Rattle.machine.proofs.Whole.{read-join}
 use Rattle.machine.proofs.Refusals.Reason.{Reason, three}
-use Rattle.machine.proofs.Refusals.Split.{init, after}
+use Rattle.machine.proofs.Refusals.Refuses.{init, after}
 use Rattle.machine.proofs.Refusals.Confs.{ItemAt, ConfAt, Next}
 use Rattle.machine.proofs.Refusals.Only.{Only, word-only, binary-only, name-only}
 use Rattle.machine.proofs.Refusals.NumericFault.{numeric-breaks}

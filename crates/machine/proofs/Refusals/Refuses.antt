@@ -1,13 +1,12 @@
 -- Where the machine refuses: at a byte, or at the text's end; up to there it lives. Assumes nothing.
-use Prim.Native.Nat.{ℕ, zero, suc, _+_, _≤_}
+use Prim.Native.Nat.{ℕ, suc, _+_}
 use mathlib.Core.Path.{_≡_, refl, sym, ap, _∙_, subst}
 use mathlib.Core.List.{List, [], _∷_, _++_}
 use native.Mathlib.Omega.{arith}
 use lib.ListN.{length}
 use Rattle.meaning.specs.Limits.{depthLimit}
 use Rattle.meaning.specs.declared.Refusal.{Refusal}
-use Rattle.meaning.specs.declared.Refusal.the-variants.{NotGrammar}
-use Rattle.machine.specs.Machine.{Verdict, Ok, No, reading, Conf, at, fail, base, want, step, read, finish}
+use Rattle.machine.specs.Machine.{Verdict, No, reading, Conf, at, fail, base, want, step, read, finish}
 use Rattle.machine.proofs.Runs.{adv}
 use Rattle.machine.proofs.Whole.{run, read-join, absorbing}
 use Rattle.machine.proofs.Places.{ConfKept, Live, Stepped, steps-on, stepped-kept, VerdictBlamed, ends-on}

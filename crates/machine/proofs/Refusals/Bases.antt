@@ -1,25 +1,18 @@
 -- What the bytes so far are, by the grammar, at each configuration. Assumes nothing.
-use Prim.Native.Nat.{ℕ, zero, suc, _+_, _≤_, _<_}
+use Prim.Native.Nat.{ℕ, suc}
 use mathlib.Core.Path.{_≡_, refl, sym, ap, _∙_, subst}
-use mathlib.Core.Bool.{Bool, true, false}
-use mathlib.Core.Logic.{_⊎_, inl, inr}
+use mathlib.Core.Bool.{true, false}
 use mathlib.Core.Option.{Option, none, some}
 use mathlib.Core.List.{List, [], _∷_, _++_, append-assoc, append-nil}
-use native.Mathlib.Omega.{arith}
-use lib.ListN.{length}
-use Rattle.rules.specs.Rfc3629.{Octets}
-use Rattle.rules.proofs.Characters.{after, split-ascii, join}
 use Rattle.meaning.specs.Letters.{letters, ch}
 use Rattle.meaning.specs.Limits.{depthLimit}
 use Rattle.meaning.specs.Meaning.{Meaning, Meanings, Members}
 use Rattle.grammar.specs.Checks.{Room}
-use Rattle.grammar.specs.Characters.{Many}
-use Rattle.grammar.specs.Comments.{c-char, Stars, Blank, Line-end, C-begin-line, C-line, C-block, Ws}
-use Rattle.grammar.specs.Strings.{Quote, mark, String-part, Concat, String}
-use Rattle.grammar.specs.Binary.{B-value, Binary}
+use Rattle.grammar.specs.Comments.{Ws}
+use Rattle.grammar.specs.Strings.{Concat, String}
+use Rattle.grammar.specs.Binary.{Binary}
 use Rattle.grammar.specs.Keys.{Key}
 use Rattle.grammar.specs.Values.{Inside, elements, members, Closes, Value, Rest, After, Item}
-use Rattle.machine.specs.Machine
 use Rattle.machine.specs.Machine.{Use, as-value, as-key, Got, Base, want, wantKey, wantString, wantBinary, got, Frame, inside, pair, asValue, asKey}
 use Rattle.grammar.specs.Refused.{Spot, value, part, among, Left}
 use Rattle.machine.proofs.Sound.{lay-join, rest-pre}
@@ -27,7 +20,7 @@ use Rattle.machine.proofs.Refusals.Loose.{loose-value, loose-key}
 
 -- ---- layout on the left
 
-pub left-more : {d : ℕ} {s : Spot} {l w : List ℕ} → Left d s l → Ws w → Left d s (l ++ w)
+left-more : {d : ℕ} {s : Spot} {l w : List ℕ} → Left d s l → Ws w → Left d s (l ++ w)
 left-more (Left.text v) w = Left.text (lay-join v w)
 left-more {w = w} (Left.array {d = d} {l = l} {w = v} h x) y = subst (Left d _) (sym (append-assoc l (ch "[" ∷ v) w)) (Left.array h (lay-join x y))
 left-more {w = w} (Left.object {d = d} {l = l} {w = v} h x) y = subst (Left d _) (sym (append-assoc l (ch "{" ∷ v) w)) (Left.object h (lay-join x y))

@@ -16,7 +16,7 @@ use Rattle.meaning.specs.Letters.{letters, ch}
 use Rattle.meaning.specs.Meaning.{Meaning}
 use Rattle.grammar.specs.Comments.{Blank}
 use Rattle.grammar.specs.Times.{signed}
-use Rattle.machine.specs.Scan.{Out, takes, stops, breaks, over}
+use Rattle.machine.specs.Scan.{takes, stops, breaks, over}
 use Rattle.machine.specs.Numeric
 use Rattle.machine.specs.Numeric.{St, Res, begin, sign, word, nought, int, point, frac, exp, expSign, expDigits, hexMark, hex, both, field, spaced, secPoint, nanos, zulu, Len, d1, d2, d3, d4, When, alone, on, Slot, month, day, hour, minute, second, offsetHour, offsetMinute, scan, settle, scaled, dated, tested, dateDone, clockDone, okDate, okClock, Dg, digit, other, Num, digitN, pointN, eN, xN, colonN, minusN, otherN, Sec, digitS, pointS, zuluS, plusS, minusS, otherS, Fst, noughtF, digitF, plusF, minusF, pointF, nF, iF, otherF}
 use Rattle.machine.proofs.Runs as Runs
@@ -71,7 +71,7 @@ Takes (takes s) = Unit {0}
 Takes (stops m) = ⊥
 Takes (breaks r) = ⊥
 
-abbrev pub Or : Res → Res → Type 0
+abbrev Or : Res → Res → Type 0
 Or o e = Takes o ⊎ (o ≡ e)
 
 only-or : (p c : ℕ) (s : St) (b : ℕ) → Or (Numeric.only p c s b) (stuckAt p)
@@ -240,7 +240,7 @@ sec-point-or : (p q : ℕ) (w : When) (h m s b : ℕ) (c : Dg) → Or (Numeric.o
 sec-point-or p q w h m s b digit = inl tt
 sec-point-or p q w h m s b other = inr refl
 
-pub taken-or-ender : (p : ℕ) (s : St) (b : ℕ) → Or (scan p s b) (ender p s)
+taken-or-ender : (p : ℕ) (s : St) (b : ℕ) → Or (scan p s b) (ender p s)
 taken-or-ender p begin b = begin-or p b (Numeric.fstOf b)
 taken-or-ender p (sign q g) b = sign-or p q g b (Numeric.fstOf b)
 taken-or-ender p (word [] n) b = inr refl
@@ -265,7 +265,7 @@ taken-or-ender p (zulu q d h m s n) b = inr refl
 -- ---- the outcome at a byte that is not taken
 
 -- the bytes of a run in two
-pub split-steps : (a : List ℕ) {c : List ℕ} {p : ℕ} {s s' : St} → Steps scan p s (a ++ c) s' → (t : St) × Steps scan p s a t × Steps scan (adv p a) t c s'
+split-steps : (a : List ℕ) {c : List ℕ} {p : ℕ} {s s' : St} → Steps scan p s (a ++ c) s' → (t : St) × Steps scan p s a t × Steps scan (adv p a) t c s'
 split-steps [] {s = s} x = (s, Steps.stay, x)
 split-steps (b ∷ a) (Steps.eat x e) = let h = split-steps a x in (h .0, Steps.eat (h .1) e, h .2)
 

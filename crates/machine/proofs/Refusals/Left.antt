@@ -1,24 +1,24 @@
 -- Where the grammar says that bytes stand left of a spot, the machine stands at that spot after them. Assumes nothing.
 use Prim.Native.Nat.{ℕ, zero, suc}
 use mathlib.Core.Path.{_≡_, refl, sym, ap, _∙_, subst}
-use mathlib.Core.Bool.{Bool, true, false}
+use mathlib.Core.Bool.{true}
 use mathlib.Core.List.{List, [], _∷_, _++_, append-assoc}
 use native.Mathlib.Omega.{arith}
 use lib.ListN.{length}
-use Rattle.meaning.specs.Letters.{letters, ch}
+use Rattle.meaning.specs.Letters.{ch}
 use Rattle.meaning.specs.Limits.{depthLimit}
-use Rattle.meaning.specs.Meaning.{Meaning, Meanings, Members}
+use Rattle.meaning.specs.Meaning.{Meanings, Members}
 use Rattle.meaning.specs.declared.Refusal.the-variants.{TooDeep}
 use Rattle.grammar.specs.Comments.{Ws}
 use Rattle.grammar.specs.Strings.{String-part}
-use Rattle.grammar.specs.Values.{Inside, elements, members, Value, Item}
+use Rattle.grammar.specs.Values.{Inside, elements, members, Item}
 use Rattle.machine.specs.Machine.{Use, as-value, as-key, Got, Base, want, wantKey, wantString, got, base, Frame, inside, pair, Conf, at, fail, step, read, reading, No}
-use Rattle.grammar.specs.Refused.{Spot, value, part, among, Left, Opening, Item-fault}
+use Rattle.grammar.specs.Refused.{Spot, value, part, among, Left, Opening}
 use Rattle.machine.proofs.Runs.{Ends, PartEnds, adv}
 use Rattle.machine.proofs.Layouts.{adv-join, stepped, layout-run}
-use Rattle.machine.proofs.Complete.{Follows, StartsString, string-part-run, gotOf, value-run, Adds, comma-after, key-run, after-layout, part-after-layout, one-more}
+use Rattle.machine.proofs.Complete.{StartsString, string-part-run, gotOf, value-run, Adds, comma-after, key-run, after-layout, part-after-layout, one-more}
 use Rattle.machine.proofs.Whole.{absorbing}
-use Rattle.machine.proofs.Refusals.Split.{init, adv-length}
+use Rattle.machine.proofs.Refusals.Refuses.{init, adv-length}
 
 -- after the bytes l the machine stands at c
 abbrev Leads : List ℕ → Conf → Type 0
