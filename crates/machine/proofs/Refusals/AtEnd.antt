@@ -52,7 +52,8 @@ module _ (t : List ℕ) (o : Octets t) where
   all-of {r} h = subst (λ (a : List ℕ). Reason a r) (append-nil t) h
 
   item-so : (p d : ℕ) (k : List Frame) (i : Machine.Item) → ItemAt p k d i t → Explained (Machine.endOut p k (scan p i over))
-  item-so p d k (Machine.word w m) h = out-so (λ x. Machine.word x m) (λ x. Got.value m) p k (Names.wordScan p w over) (λ r e. inl (subst Only e (word-only p over w)))
+  item-so p d k (Machine.word w m) h =
+      out-so (λ x. Machine.word x m) (λ x. Got.value m) p k (Names.wordScan p w over) (λ r e. inl (subst Only e (word-only p over w)))
   item-so p d k (Machine.numeric s) h =
       out-so Machine.numeric Got.value p k (Numeric.scan p s over) (λ r e. all-of (numeric-breaks p d k s t [] over r Next.end h e))
   item-so p d k (Machine.string-part z u s) h =

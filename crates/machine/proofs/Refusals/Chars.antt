@@ -147,4 +147,5 @@ part-run {q = q} {a} {u} {x} w y n p =
     let i = adv (suc p) a in
     let c = clear (mark q) u in
     let shut = eats scan Steps.stay (shut-step q (adv i x) (chars-ctx y i c) (chars-quote y i c)) in
-    eats scan (from-one (a ++ (x ++ (mark q ∷ []))) n (steps-join scan (chars-steps w (suc p) []) (steps-join scan (chars-run y i c refl) shut))) (start-step q p)
+    eats scan (from-one (a ++ (x ++ (mark q ∷ []))) n (steps-join scan (chars-steps w (suc p) []) (steps-join scan (chars-run y i c refl) shut)))
+    (start-step q p)

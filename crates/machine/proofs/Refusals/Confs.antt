@@ -100,7 +100,8 @@ ConfAt t p (at (item i) d k) l = ItemAt p k d i l
 
 -- ---- an item begins, and goes on
 
-pub begun-more : {S : List ℕ → Type 0} {X M : Type 0} (run : ℕ → X → ℕ → Out X M) {s₀ s s' : X} {p b : ℕ} {l : List ℕ} → Begun S run s₀ s p l → run p s b ≡ takes s' → Begun S run s₀ s' (suc p) (l ++ (b ∷ []))
+pub begun-more : {S : List ℕ → Type 0} {X M : Type 0} (run : ℕ → X → ℕ → Out X M) {s₀ s s' : X} {p b : ℕ} {l : List ℕ} → Begun S run s₀ s p l
+    → run p s b ≡ takes s' → Begun S run s₀ s' (suc p) (l ++ (b ∷ []))
 begun-more run {p = p} {b = b} {l = l} h e =
     record {
       front = h .front;

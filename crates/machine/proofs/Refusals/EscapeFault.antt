@@ -216,7 +216,8 @@ blamed-stops acc e h = rw e at h
 
 not-good : {a u : List ℕ} {p q : ℕ} {c : Ctx} → String-part true a u → Steps scan p begin a (done c) → badNow c ≡ spoilt q → ⊥
 unfolding scan
-not-good {p = p} {c = c} x r e = blamed-stops (c .acc) e (end-out scan {Q = Stops} (PartEnds.ends Ends.end) (goes-end scan r (value-goes scan tt (part-goes x p))))
+not-good {p = p} {c = c} x r e =
+    blamed-stops (c .acc) e (end-out scan {Q = Stops} (PartEnds.ends Ends.end) (goes-end scan r (value-goes scan tt (part-goes x p))))
 
 -- ---- the fault
 

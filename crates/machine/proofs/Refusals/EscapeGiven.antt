@@ -216,7 +216,8 @@ bad-part {z} {s} {w} i {a} {u} {b} q x y lacks p d k r =
     respelt a b m r = simp append-assoc
 
 -- 4 is given at that backslash
-pub escape-given : (d : ℕ) (s : Spot) (l a u b v : List ℕ) (q : Quote) (r : List ℕ) → Left d s l → CharsOf true q a u → CharsOf false q (ch "\\" ∷ b) v → No-escape b
+pub escape-given : (d : ℕ) (s : Spot) (l a u b v : List ℕ) (q : Quote) (r : List ℕ) → Left d s l → CharsOf true q a u → CharsOf false q (ch "\\" ∷ b) v
+    → No-escape b
     → reading (l ++ (mark q ∷ (a ++ (ch "\\" ∷ (b ++ (mark q ∷ r)))))) ≡ No (BadEscape (length l + 1 + length a))
 unfolding reading
 escape-given d s l a u b v q r h x y lacks =

@@ -104,7 +104,9 @@ line-ends {q} {a} x p = go (first-char x)
     c = chars-ctx x (suc p) (clear (mark q) [])
 
     go : (a ≡ []) ⊎ ((b : List ℕ) → Not-first (mark q) (a ++ b)) → GoesTo scan Ended PartEnds p begin (mark q ∷ (a ++ (mark q ∷ [])))
-    go (inl e) = rw e (took-to scan (took-to scan {s' = two (mark q)} (value-goes scan tt (two-goes q (suc (suc p)))) (rw (eq-eqb (mark q) (mark q) refl))) (start-step q p))
+    go (inl e) =
+        rw e (took-to scan (took-to scan {s' = two (mark q)} (value-goes scan tt (two-goes q (suc (suc p)))) (rw (eq-eqb (mark q) (mark q) refl)))
+        (start-step q p))
     go (inr f) =
         subst (GoesTo scan Ended PartEnds p begin) (append-nil (mark q ∷ (a ++ (mark q ∷ []))))
         (steps-to scan (part-run Chars.none x (f (mark q ∷ [])) p) (halts-to scan {s = done c} (λ b e. close-ends (c .acc) (badNow c))))

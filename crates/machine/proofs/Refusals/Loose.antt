@@ -79,20 +79,22 @@ loose-key (Key.identifier x) = Key.identifier x
 
 -- without checks the room does not matter: here it is always the same
 pub loose-value : {d : ℕ} {a : List ℕ} {m : Meaning} → Value true d a m → Value false depthLimit a m
-loose-value x = elim x as (λ d a m _. Value false depthLimit a m) (λ d x a y _. Rest false depthLimit x a y) (λ d x a y _. After false depthLimit x a y) (λ d x a y _. Item false depthLimit x a y) [
-  | Value.null-word ↦ Value.null-word
-  | Value.true-word ↦ Value.true-word
-  | Value.false-word ↦ Value.false-word
-  | Value.number y ↦ Value.number (loose-number y)
-  | Value.string y ↦ Value.string (loose-string y)
-  | Value.binary y ↦ Value.binary y
-  | Value.time-value y ↦ Value.time-value (loose-time y)
-  | Value.array y (z → ih) ↦ Value.array Room.stays ih
-  | Value.object y (z → ih) ↦ Value.object Room.stays ih
-  | Rest.close y c ↦ Rest.close y c
-  | Rest.item l (i → ih) (t → jh) ↦ Rest.item l ih jh
-  | After.end y c ↦ After.end y c
-  | After.comma l (t → ih) ↦ After.comma l ih
-  | Item.element (v → ih) ↦ Item.element ih
-  | Item.member y l j (t → ih) ↦ Item.member (loose-key y) l j ih
-]
+loose-value x =
+    elim x as (λ d a m _. Value false depthLimit a m) (λ d x a y _. Rest false depthLimit x a y) (λ d x a y _. After false depthLimit x a y)
+    (λ d x a y _. Item false depthLimit x a y) [
+      | Value.null-word ↦ Value.null-word
+      | Value.true-word ↦ Value.true-word
+      | Value.false-word ↦ Value.false-word
+      | Value.number y ↦ Value.number (loose-number y)
+      | Value.string y ↦ Value.string (loose-string y)
+      | Value.binary y ↦ Value.binary y
+      | Value.time-value y ↦ Value.time-value (loose-time y)
+      | Value.array y (z → ih) ↦ Value.array Room.stays ih
+      | Value.object y (z → ih) ↦ Value.object Room.stays ih
+      | Rest.close y c ↦ Rest.close y c
+      | Rest.item l (i → ih) (t → jh) ↦ Rest.item l ih jh
+      | After.end y c ↦ After.end y c
+      | After.comma l (t → ih) ↦ After.comma l ih
+      | Item.element (v → ih) ↦ Item.element ih
+      | Item.member y l j (t → ih) ↦ Item.member (loose-key y) l j ih
+    ]

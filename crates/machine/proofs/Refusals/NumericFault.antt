@@ -67,7 +67,8 @@ module _ (f : List ℕ) (d : ℕ) (left : Left d value f) (s : St) (b : ℕ) (ta
   faults (Taken.item (NumericItem.time-value y)) x e n = (_, Item-fault.time left y (no-time x e) (ends-at (untaken x e) n))
   -- a date and a space
   faults (Taken.trailed {a = c} y) x e n =
-      let none : (t : T.Time) → Time-value true c t → ⊥ = λ t z. subst (Outcome Any None) e (after-space Any None (value-goes scan tt (time-goes z (length f))) x b (not-taken x e)) in
+      let none : (t : T.Time) → Time-value true c t → ⊥ = λ t z. subst (Outcome Any None) e
+      (after-space Any None (value-goes scan tt (time-goes z (length f))) x b (not-taken x e)) in
       rw (append-assoc c (letters " ") tail) (_, Item-fault.time left (Time-value.local-date y) none (Ends.space (ends-at (untaken x e) n)))
 
 -- why a number or a time value breaks

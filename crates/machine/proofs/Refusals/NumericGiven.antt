@@ -2,10 +2,11 @@
 -- Assumes nothing.
 use Prim.Native.Nat.{ℕ, zero, suc, _*_, _^_}
 use mathlib.Core.Path.{_≡_, refl, sym, ap, _∙_, subst}
-use mathlib.Core.Bool.{Bool, true, false, _&&_}
+use mathlib.Core.Bool.{Bool, true, false, cond, _&&_}
 use mathlib.Core.Logic.{_⊎_, inl, inr}
 use mathlib.Core.List.{List, [], _∷_, _++_, append-assoc, append-nil}
 use native.Mathlib.Omega.{arith}
+use lib.Dec.{eqb}
 use lib.IntN.{ℤ}
 use lib.ListN.{length, length-append}
 use Rattle.rules.proofs.Characters.{same-head, same-tail}
@@ -13,7 +14,7 @@ use Rattle.meaning.specs.declared.Number as N
 use Rattle.meaning.specs.declared.Time as T
 use Rattle.meaning.specs.declared.Date as D
 use Rattle.meaning.specs.declared.Refusal.{Refusal}
-use Rattle.meaning.specs.declared.Refusal.the-variants.{BadTime, BadNumber}
+use Rattle.meaning.specs.declared.Refusal.the-variants.{NotGrammar, BadTime, BadNumber}
 use Rattle.meaning.specs.Letters.{letters, ch}
 use Rattle.meaning.specs.Meaning.{Meaning}
 use Rattle.grammar.specs.Characters.{Digit, Digits, Decimal}
@@ -34,7 +35,7 @@ use Rattle.machine.proofs.Numeric.{NumericItem, NumericRest, numeric-is
 use Rattle.machine.proofs.Numeric.Complete.{settleHex}
 use Rattle.machine.proofs.Whole.{absorbing}
 use Rattle.machine.proofs.Refusals.Items.{Outcome, IsNumber, NumberOut, settle-out, number-out, IsTime, TimeOut, time-out}
-use Rattle.machine.proofs.Refusals.Untaken.{ender, Takes, no-takes, any-byte, after-space, space-digitless, ends-so}
+use Rattle.machine.proofs.Refusals.Untaken.{Takes, no-takes, any-byte, after-space, space-digitless}
 use Rattle.machine.proofs.Refusals.Finishes.{numeric-finish}
 use Rattle.machine.proofs.Refusals.Left.{left-stood}
 use Rattle.machine.proofs.Refusals.Refuses.{adv-length}
@@ -65,12 +66,15 @@ takes-not p c s b x n = go (scan (adv p c) s b) refl
 
 -- ---- the run
 
-steps-read : {p : ℕ} {s s' : St} {a : List ℕ} → Steps scan p s a s' → (d : ℕ) (k : List Frame) (r : List ℕ) → read p (at (item (Machine.numeric s)) d k) (a ++ r) ≡ read (adv p a) (at (item (Machine.numeric s')) d k) r
+steps-read : {p : ℕ} {s s' : St} {a : List ℕ} → Steps scan p s a s' → (d : ℕ) (k : List Frame) (r : List ℕ)
+    → read p (at (item (Machine.numeric s)) d k) (a ++ r) ≡ read (adv p a) (at (item (Machine.numeric s')) d k) r
 unfolding read
 steps-read Steps.stay d k r = refl
-steps-read (Steps.eat {p = p} {b = b} {a = a} x e) d k r = ap (λ (o : Res). read (suc p) (onOut p d k b (lift Machine.numeric Got.value o)) (a ++ r)) e ∙ steps-read x d k r
+steps-read (Steps.eat {p = p} {b = b} {a = a} x e) d k r =
+    ap (λ (o : Res). read (suc p) (onOut p d k b (lift Machine.numeric Got.value o)) (a ++ r)) e ∙ steps-read x d k r
 
-breaks-read : (p : ℕ) (s : St) (b : ℕ) (r : List ℕ) (d : ℕ) (k : List Frame) (R : Refusal) → scan p s b ≡ breaks R → read p (at (item (Machine.numeric s)) d k) (b ∷ r) ≡ No R
+breaks-read : (p : ℕ) (s : St) (b : ℕ) (r : List ℕ) (d : ℕ) (k : List Frame) (R : Refusal) → scan p s b ≡ breaks R
+    → read p (at (item (Machine.numeric s)) d k) (b ∷ r) ≡ No R
 unfolding read
 breaks-read p s b r d k R e = ap (λ (o : Res). read (suc p) (onOut p d k b (lift Machine.numeric Got.value o)) r) e ∙ absorbing (suc p) R r
 
@@ -84,14 +88,16 @@ goes-steps (GoesTo.goes g e) = let h = goes-steps g in (h .0, Steps.eat (h .1) e
 
 -- the item begins where a value is wanted, behind what the grammar allows on the left
 begins-read : {d : ℕ} {l x : List ℕ} {Q : Res → Type 0} {F : ℕ → Type 0} → Left d value l → NN.Begins x → GoesTo scan Q F (adv 0 l) begin x
-    → (r : List ℕ) → (k : List Frame) × (s : St) × Steps scan (adv 0 l) begin x s × (reading (l ++ (x ++ r)) ≡ read (adv (adv 0 l) x) (at (item (Machine.numeric s)) d k) r)
+    → (r : List ℕ) → (k : List Frame) × (s : St) × Steps scan (adv 0 l) begin x s ×
+    (reading (l ++ (x ++ r)) ≡ read (adv (adv 0 l) x) (at (item (Machine.numeric s)) d k) r)
 unfolding reading
 begins-read {d} {l} {x} h i g r =
     let k = left-stood h in
     let y = goes-steps g in
     (k .0, y .0, y .1, k .1 (x ++ r) ∙ starts i (adv 0 l) (k .0) ∙ steps-read (y .1) d (k .0) r)
   where
-    starts : {x : List ℕ} → NN.Begins x → (p : ℕ) (k : List Frame) → read p (at (base want) d k) (x ++ r) ≡ read p (at (item (Machine.numeric begin)) d k) (x ++ r)
+    starts : {x : List ℕ} → NN.Begins x → (p : ℕ) (k : List Frame)
+        → read p (at (base want) d k) (x ++ r) ≡ read p (at (item (Machine.numeric begin)) d k) (x ++ r)
     starts (NN.Begins.begins {b = b} {a = t} j) p k = begun p d k want b (t ++ r) _ (lead-starts j p d k)
 
 first-byte : (l : List ℕ) → adv 0 l ≡ length l
@@ -128,11 +134,16 @@ clock-takes q (Nu.on d) h m s n t = tested-takes q (Nu.okDate d && Nu.okClock h 
 settle-takes : (q : ℕ) (g : Bool) (m up dn : ℕ) → Takes (Nu.settle q g m up dn) → ⊥
 settle-takes q g m up dn t = no-number-takes q (Nu.settle q g m up dn) (settle-out q g m up dn) t
 
-no-space : (q p : ℕ) (s : St) → NumberOut q (ender p s) → Takes (scan p s (ch " ")) → ⊥
+letter-left : (q p : ℕ) (z : Bool) (s : St) → NumberOut q (cond z (takes s) (breaks (NotGrammar p))) → ⊥
+letter-left q p true s h = h
+letter-left q p false s h = let z : _≡_ {A = ℕ} 0 1 = cc in omega arith
+
+-- where it may end, as it does at the text's end
+no-space : (q p : ℕ) (s : St) → NumberOut q (scan p s over) → Takes (scan p s (ch " ")) → ⊥
 no-space q p begin h t = t
 no-space q p (Nu.sign i g) h t = t
 no-space q p (Nu.word [] n) h t = t
-no-space q p (Nu.word (c ∷ a) n) h t = let z : _≡_ {A = ℕ} 0 1 = cc in omega arith
+no-space q p (Nu.word (c ∷ a) n) h t = letter-left q p (eqb over c) (Nu.word a n) h
 no-space q p (Nu.nought i g) h t = settle-takes i g 0 0 0 t
 no-space q p (Nu.int i g m) h t = settle-takes i g m 0 0 t
 no-space q p (Nu.point i g) h t = t
@@ -153,12 +164,12 @@ no-space q p (Nu.field i (Nu.hour d) zero v) h t = t
 no-space q p (Nu.field i (Nu.minute w x) zero v) h t = t
 no-space q p (Nu.field i (Nu.second w x m) zero v) h t = clock-takes i w x m v 0 t
 no-space q p (Nu.field i (Nu.offsetHour d x m s n g) zero v) h t = t
-no-space q p (Nu.field i (Nu.offsetMinute d x m s n g j) zero v) h t = no-number-takes q (ender p (Nu.field i (Nu.offsetMinute d x m s n g j) zero v)) h t
+no-space q p (Nu.field i (Nu.offsetMinute d x m s n g j) zero v) h t = no-number-takes q (scan p (Nu.field i (Nu.offsetMinute d x m s n g j) zero v) over) h t
 no-space q p (Nu.field i l (suc n) v) h t = t
-no-space q p (Nu.spaced i d) h t = no-number-takes q (ender p (Nu.spaced i d)) h t
+no-space q p (Nu.spaced i d) h t = no-number-takes q (scan p (Nu.spaced i d) over) h t
 no-space q p (Nu.secPoint i w x m s) h t = t
 no-space q p (Nu.nanos i w x m s k v) h t = clock-takes i w x m s (v * 10 ^ k) t
-no-space q p (Nu.zulu i d x m s n) h t = no-number-takes q (ender p (Nu.zulu i d x m s n)) h t
+no-space q p (Nu.zulu i d x m s n) h t = no-number-takes q (scan p (Nu.zulu i d x m s n) over) h t
 
 -- ---- 6
 
@@ -186,7 +197,7 @@ module _ (p : ℕ) (a : List ℕ) (n : N.Number) (y : Number false a n) (bad : (
       let g : (z : List ℕ) → Numeric (a ++ (b ∷ z)) → ⊥ = λ z i. f z (subst (λ (c : List ℕ). Numeric (c ++ (b ∷ z))) (sym q) i) in
       breaks-read (adv p a) s b r d k (BadNumber p) (not-taken b (takes-not p a s b x g))
   number-walk (Ends.space {r = r} w) q d k =
-      breaks-read (adv p a) s (ch " ") r d k (BadNumber p) (not-taken (ch " ") (no-space p (adv p a) s (ends-so IsNumber (λ r. r ≡ BadNumber p) ended)))
+      breaks-read (adv p a) s (ch " ") r d k (BadNumber p) (not-taken (ch " ") (no-space p (adv p a) s (end-out scan Runs.Ends.end ended)))
 
 -- 6 is given at the number's first byte
 pub number-given : (d : ℕ) (l x r : List ℕ) (n : N.Number) → Left d value l → Number false x n → ((m : N.Number) → Number true x m → ⊥) → Ends x r
@@ -224,7 +235,8 @@ some (inl e) = absurd (let z : _≡_ {A = ℕ} 0 1 = cc in omega arith)
 some (inr h) = h
 
 clock-ended : {k : Bool} {a : List ℕ} {n : ℕ} → Local-time k a n → Ended a
-clock-ended (Local-time.local-time {a = a} {b = b} {c = c} (Time-hour.hour h l) (Time-minute.sixtieth m i) (Time-minute.sixtieth s j) f) = more a (more (ch ":" ∷ b) (more (ch ":" ∷ []) (go f)))
+clock-ended (Local-time.local-time {a = a} {b = b} {c = c} (Time-hour.hour h l) (Time-minute.sixtieth m i) (Time-minute.sixtieth s j) f) =
+    more a (more (ch ":" ∷ b) (more (ch ":" ∷ []) (go f)))
   where
     go : {f : List ℕ} {n : ℕ} → Time-secfrac f n → Ended (c ++ f)
     go Time-secfrac.absent = rw append-nil (two-ended s)
@@ -266,7 +278,8 @@ module _ (p : ℕ) (a : List ℕ) (t : T.Time) (y : Time-value false a t) (bad :
   bad-spaced : {b : List ℕ} {m : Meaning} {u : T.Time} → Taken true b m → m ≡ Meaning.time u → b ≡ a ++ letters " " → ⊥
   bad-spaced (Taken.item (NumericItem.number z)) e f = let z : _≡_ {A = ℕ} 0 1 = cc in omega arith
   bad-spaced (Taken.item (NumericItem.time-value z)) e f = no-space-last z a f
-  bad-spaced (Taken.trailed {a = c} {d = d} z) e f = bad _ (Time-value.local-date (subst (λ (b : List ℕ). Local-date true b d) (snoc c a (ch " ") (ch " ") f .0) z))
+  bad-spaced (Taken.trailed {a = c} {d = d} z) e f =
+      bad _ (Time-value.local-date (subst (λ (b : List ℕ). Local-date true b d) (snoc c a (ch " ") (ch " ") f .0) z))
 
   module _ (u : St) (x : Steps scan p begin (a ++ letters " ") u) (d : ℕ) (k : List Frame) where
     abbrev here : ℕ

@@ -46,7 +46,8 @@ found (Stuck.end t h n) = inr (h, refl, n)
 
 -- none is stuck before what opens
 not-before : (t : List ℕ) (p : ℕ) (h : Byte t p) (c s : List ℕ) → t ≡ c ++ s → Opens c → length (h .front) < length c → ⊥
-not-before t p h c s e o l = let w = longer (h .front) c (h .at) (h .rest) s (sym (h .split) ∙ e) l in h .stops (fewer (h .front ++ (h .at ∷ [])) (w .0) (subst Opens (w .1) o))
+not-before t p h c s e o l =
+    let w = longer (h .front) c (h .at) (h .rest) s (sym (h .split) ∙ e) l in h .stops (fewer (h .front ++ (h .at ∷ [])) (w .0) (subst Opens (w .1) o))
 
 inside : (t : List ℕ) (p : ℕ) (h : Byte t p) → length (h .front) < length t
 inside t p h = let e = ap length (h .split) ∙ length-append (h .front) (h .at ∷ h .rest) in omega arith
@@ -73,5 +74,6 @@ accepted t m p o e x = go (found x)
     means = let h = derived t m o e in subst (λ (s : List ℕ). Text false s m) (sym (h .split)) (Text.text (h .layout) (loose-value (h .value)) (h .last) tt)
 
     go : Found t p → ⊥
-    go (inl h) = h .stops (Opens.opens (h .rest) m (subst (λ (s : List ℕ). Text false s m) (h .split ∙ sym (append-assoc (h .front) (h .at ∷ []) (h .rest))) means))
+    go (inl h) =
+        h .stops (Opens.opens (h .rest) m (subst (λ (s : List ℕ). Text false s m) (h .split ∙ sym (append-assoc (h .front) (h .at ∷ []) (h .rest))) means))
     go (inr h) = h .2 m means

@@ -16,7 +16,8 @@ use Rattle.grammar.specs.Characters.{Hexdig, Digits, Hexadecimal}
 use Rattle.grammar.specs.Strings.{Quote, double, single, mark, three, Short, Escape, Up-to-two, Newline, No-newline, String-part}
 use Rattle.machine.specs.Scan.{Out, takes, stops, breaks}
 use Rattle.machine.specs.Strings as S
-use Rattle.machine.specs.Strings.{St, Ctx, Bad, mk, badNow, scan, start, one, two, lines0, linesCR, lines, body, esc, uni, hex, brace0, brace, done, fine, spoilt, whole, hexOf, shortOf}
+use Rattle.machine.specs.Strings.{St, Ctx, Bad, mk, badNow, scan, start, one, two, lines0, linesCR, lines, body, esc, uni, hex, brace0, brace, done, fine}
+use Rattle.machine.specs.Strings.{spoilt, whole, hexOf, shortOf}
 use Rattle.machine.proofs.Runs.{OutIs, Steps}
 use Rattle.machine.proofs.Strings.Raw.{Body, Lines, Raw-part}
 use Rattle.machine.proofs.Strings.Tests.{by-bool, by-eqb, by-ltb, hex-is, hex-ascii, short-is}
@@ -47,7 +48,8 @@ PartBare (body k) a v = BodyBare (k .quote) a
 PartBare (esc k at) a v = BodyBare (k .quote) (ch "\\" ∷ a)
 PartBare (uni k at) a v = BodyBare (k .quote) (letters "\\u" ++ a)
 PartBare (hex k at n x) a v = (ds : List ℕ) × (r : List ℕ) × (w : ℕ) × (a ≡ ds ++ r) × Digits Hexdig 16 (suc n) x ds w × BodyBare (k .quote) r
-PartBare (brace0 k at) a v = (d : ℕ) × (ds : List ℕ) × (r : List ℕ) × (w : ℕ) × (a ≡ ds ++ (ch "}" ∷ r)) × Digits Hexdig 16 (suc d) 0 ds w × BodyBare (k .quote) r
+PartBare (brace0 k at) a v =
+    (d : ℕ) × (ds : List ℕ) × (r : List ℕ) × (w : ℕ) × (a ≡ ds ++ (ch "}" ∷ r)) × Digits Hexdig 16 (suc d) 0 ds w × BodyBare (k .quote) r
 PartBare (brace k at x) a v = (d : ℕ) × (ds : List ℕ) × (r : List ℕ) × (w : ℕ) × (a ≡ ds ++ (ch "}" ∷ r)) × Digits Hexdig 16 d x ds w × BodyBare (k .quote) r
 PartBare (done k) a v = a ≡ []
 
@@ -65,7 +67,8 @@ body-is p k b s f =
     by-eqb (Is s b) b 0x5C _ _ (λ e a v h. f a v (rw e h)) λ n₁.
     by-eqb (Is s b) b (k .quote) _ _ (λ e a v h. let g : a ≡ [] = h in f a v (λ j i. ([], rw (e ∙ i, g) Body.closed))) λ n₂.
     by-bool (Is s b) (S.plainByte b) _ _
-    (λ e a v h. let m = plain-may b e in f a v (λ j i. let t = h j i in (b ∷ t .0, Body.plain (record { low = m .0; high = omega arith; no-back = n₁; no-end = λ z. n₂ (z ∙ sym i) }) (t .1)))) (λ e. tt)
+    (λ e a v h. let m = plain-may b e in f a v (λ j i. let t = h j i in
+    (b ∷ t .0, Body.plain (record { low = m .0; high = omega arith; no-back = n₁; no-end = λ z. n₂ (z ∙ sym i) }) (t .1)))) (λ e. tt)
 
 lines-is : (p q n : ℕ) (acc : List ℕ) (b : ℕ) (s : St) → ((a v : List ℕ) → LinesBare q n (b ∷ a) → PartBare s (b ∷ a) v) → Is s b (S.onLines p q n acc b)
 unfolding S.onLines
@@ -108,17 +111,30 @@ bare-is p (lines0 q) b =
 bare-is p (linesCR q) b =
     by-eqb (Is (linesCR q) b) b 10 _ _ (λ e a v h j i. let t = h j i (omega arith) in rw e (t .0, Raw-part.trimmed j Newline.return-line-feed (t .1)))
     (λ n. lines-is p q 0 (letters "\r") b (linesCR q)
-    (λ a v h j i. let t = h j i (omega arith) in (ch "\r" ∷ t .0, Raw-part.multiline j (Lines.byte Up-to-two.no-quote (inner-return j) (t .1)) (No-newline.return-before n))))
+    (λ a v h j i. let t = h j i (omega arith) in (
+      ch "\r" ∷ t .0,
+      Raw-part.multiline j (Lines.byte Up-to-two.no-quote (inner-return j) (t .1))
+          (No-newline.return-before n),
+    )))
 bare-is p (lines q n acc) b = lines-is p q n acc b (lines q n acc) (λ a v h. h)
 bare-is p (body k) b = body-is p k b (body k) (λ a v h. h)
 bare-is p (esc k at) b =
     by-eqb (Is (esc k at) b) b 0x75 _ _ (λ e a v h. rw e h)
-    (λ n. by-ltb (Is (esc k at) b) (shortOf b) 256 _ _ (λ l a v h. escape-back (k .quote) (b ∷ []) (shortOf b ∷ []) (Escape.short (short-is b l)) a h) (λ l. tt))
+    (λ n. by-ltb (Is (esc k at) b) (shortOf b) 256 _ _ (λ l a v h. escape-back (k .quote) (b ∷ []) (shortOf b ∷ []) (Escape.short (short-is b l)) a h)
+    (λ l. tt))
 bare-is p (uni k at) b =
     by-eqb (Is (uni k at) b) b 0x7B _ _ (λ e a v h. rw (e, h .4) (braces-back (k .quote) (h .0) (h .3) (h .1) (h .5) (h .2) (h .6)))
     (λ n. digit-is (uni k at) b _ _ (λ x a v h. rw (h .3) (unit-back (k .quote) (h .2) (Digits.next x (h .4)) (h .1) (h .5))) tt)
 bare-is p (hex k at zero x) b =
-    digit-is (hex k at zero x) b _ _ (λ d a v h. (b ∷ [], a, 16 * x + hexOf b, refl, Digits.next d Digits.over, moved _ (k .quote) a (unit-quote k at (16 * x + hexOf b) (k .high)) h)) tt
+    digit-is (hex k at zero x) b _ _ (λ d a v h. (
+      b ∷ [],
+      a,
+      16 * x + hexOf b,
+      refl,
+      Digits.next d Digits.over,
+      moved _ (k .quote) a
+          (unit-quote k at (16 * x + hexOf b) (k .high)) h,
+    )) tt
 bare-is p (hex k at (suc n) x) b = digit-is (hex k at (suc n) x) b _ _ (λ d a v h. (b ∷ h .0, h .1, h .2, rw (h .3), Digits.next d (h .4), h .5)) tt
 bare-is p (brace0 k at) b = digit-is (brace0 k at) b _ _ (λ d a v h. (h .0, b ∷ h .1, h .2, h .3, rw (h .4), Digits.next d (h .5), h .6)) tt
 bare-is p (brace k at x) b =
@@ -251,7 +267,9 @@ Finish s = (a : List ℕ) × PartBare s a [] × Each Ascii a
 
 zeros : (n x : ℕ) → (ds : List ℕ) × (w : ℕ) × Digits Hexdig 16 n x ds w × Each Ascii ds
 zeros zero x = ([], x, Digits.over, all-none)
-zeros (suc n) x = let h = zeros n (16 * x + 0) in (ch "0" ∷ h .0, h .1, Digits.next (Hexdig.decimal {b = ch "0"} (omega arith)) (h .2), all-more {b = ch "0"} (omega arith) (h .3))
+zeros (suc n) x =
+    let h = zeros n (16 * x + 0) in
+    (ch "0" ∷ h .0, h .1, Digits.next (Hexdig.decimal {b = ch "0"} (omega arith)) (h .2), all-more {b = ch "0"} (omega arith) (h .3))
 
 closed : (q : ℕ) → BodyBare q (q ∷ [])
 closed q j i = ([], rw i Body.closed)
@@ -260,19 +278,44 @@ pub finish : (s : St) → Sane s → Finish s
 finish start h = (letters "\"\"", ([], Raw-part.one-line double Body.closed), all-more {b = 0x22} (omega arith) (all-more {b = 0x22} (omega arith) all-none))
 finish (one q) h = (q ∷ [], (λ j i. ([], rw i (Raw-part.one-line j Body.closed))), all-more (low h) all-none)
 finish (two q) h = ([], (λ j i. ([], Raw-part.one-line j Body.closed)), all-none)
-finish (lines0 q) h = (q ∷ q ∷ q ∷ [], (λ j i. ([], rw i (Raw-part.multiline j Lines.shut (No-newline.other-byte (no-return j .0) (no-return j .1))))), all-more (low h) (all-more (low h) (all-more (low h) all-none)))
-finish (linesCR q) h =
-    (q ∷ q ∷ q ∷ [], (λ j i. (letters "\r", rw i (Raw-part.multiline j (Lines.byte Up-to-two.no-quote (inner-return j) Lines.shut) (No-newline.return-before (no-return j .0))))), all-more (low h) (all-more (low h) (all-more (low h) all-none)))
+finish (lines0 q) h = (
+  q ∷ q ∷ q ∷ [],
+  (λ j i. ([], rw i (Raw-part.multiline j Lines.shut (No-newline.other-byte (no-return j .0) (no-return j .1))))),
+  all-more (low h)
+      (all-more (low h) (all-more (low h) all-none)),
+)
+finish (linesCR q) h = (
+  q ∷ q ∷ q ∷ [],
+  (λ j i. (
+    letters "\r",
+    rw i (Raw-part.multiline j (Lines.byte Up-to-two.no-quote (inner-return j) Lines.shut)
+        (No-newline.return-before (no-return j .0))),
+  )),
+  all-more (low h) (all-more (low h) (all-more (low h) all-none)),
+)
 finish (lines q zero acc) h = (q ∷ q ∷ q ∷ [], (λ j i l. ([], rw i Lines.shut)), all-more (low (h .0)) (all-more (low (h .0)) (all-more (low (h .0)) all-none)))
 finish (lines q (suc zero) acc) h = (q ∷ q ∷ [], (λ j i l. ([], rw i Lines.shut)), all-more (low (h .0)) (all-more (low (h .0)) all-none))
 finish (lines q (suc (suc zero)) acc) h = (q ∷ [], (λ j i l. ([], rw i Lines.shut)), all-more (low (h .0)) all-none)
 finish (lines q (suc (suc (suc n))) acc) h = absurd (omega (arith, h .1))
 finish (body k) h = (k .quote ∷ [], closed (k .quote), all-more (low h) all-none)
-finish (esc k at) h = (ch "n" ∷ k .quote ∷ [], escape-back (k .quote) (letters "n") _ (Escape.short Short.line-feed) (k .quote ∷ []) (closed (k .quote)), all-more {b = ch "n"} (omega arith) (all-more (low h) all-none))
-finish (uni k at) h = let z = zeros 4 0 in (z .0 ++ (k .quote ∷ []), unit-back (k .quote) (z .1) (z .2) (k .quote ∷ []) (closed (k .quote)), each-join (z .3) (all-more (low h) all-none))
-finish (hex k at n x) h = let z = zeros (suc n) x in (z .0 ++ (k .quote ∷ []), (z .0, k .quote ∷ [], z .1, refl, z .2, closed (k .quote)), each-join (z .3) (all-more (low h) all-none))
-finish (brace0 k at) h = let z = zeros 1 0 in (z .0 ++ (ch "}" ∷ k .quote ∷ []), (0, z .0, k .quote ∷ [], z .1, refl, z .2, closed (k .quote)), each-join (z .3) (all-more {b = ch "}"} (omega arith) (all-more (low h) all-none)))
-finish (brace k at x) h = (ch "}" ∷ k .quote ∷ [], (0, [], k .quote ∷ [], x, refl, Digits.over, closed (k .quote)), all-more {b = ch "}"} (omega arith) (all-more (low h) all-none))
+finish (esc k at) h = (
+  ch "n" ∷ k .quote ∷ [],
+  escape-back (k .quote) (letters "n") _ (Escape.short Short.line-feed) (k .quote ∷ []) (closed (k .quote)),
+  all-more {b = ch "n"}
+      (omega arith) (all-more (low h) all-none),
+)
+finish (uni k at) h =
+    let z = zeros 4 0 in
+    (z .0 ++ (k .quote ∷ []), unit-back (k .quote) (z .1) (z .2) (k .quote ∷ []) (closed (k .quote)), each-join (z .3) (all-more (low h) all-none))
+finish (hex k at n x) h =
+    let z = zeros (suc n) x in
+    (z .0 ++ (k .quote ∷ []), (z .0, k .quote ∷ [], z .1, refl, z .2, closed (k .quote)), each-join (z .3) (all-more (low h) all-none))
+finish (brace0 k at) h =
+    let z = zeros 1 0 in
+    let a : Each Ascii (ch "}" ∷ k .quote ∷ []) = all-more {b = ch "}"} (omega arith) (all-more (low h) all-none) in
+    (z .0 ++ (ch "}" ∷ k .quote ∷ []), (0, z .0, k .quote ∷ [], z .1, refl, z .2, closed (k .quote)), each-join (z .3) a)
+finish (brace k at x) h =
+    (ch "}" ∷ k .quote ∷ [], (0, [], k .quote ∷ [], x, refl, Digits.over, closed (k .quote)), all-more {b = ch "}"} (omega arith) (all-more (low h) all-none))
 finish (done k) h = ([], refl, all-none)
 
 -- ---- where a character may be cut
@@ -296,36 +339,23 @@ HighOut (takes s) = Unit {0}
 HighOut (stops v) = ⊥
 HighOut (breaks r) = ⊥
 
-pub high-taken : (p : ℕ) (s : St) (b : ℕ) → Sane s → (Clean s → ⊥) → 0x80 ≤ b → b < 256 → HighOut (scan p s b)
+pub clean-or-taken : (p : ℕ) (s : St) (b : ℕ) → Sane s → 0x80 ≤ b → b < 256 → Clean s ⊎ HighOut (scan p s b)
 unfolding scan S.onBody S.onLines S.plainByte S.lineByte
-high-taken p (body k) b h c l u = let i = low h in rw (ne-eqb b 0x5C (λ e. omega arith), ne-eqb b (k .quote) (λ e. omega arith), le-ltb b 0x20 (omega arith), lt-ltb b 256 u) tt
-high-taken p (lines q n acc) b h c l u = let i = low (h .0) in rw (ne-eqb b q (λ e. omega arith), le-ltb b 0x20 (omega arith), lt-ltb b 256 u) tt
-high-taken p start b h c l u = absurd (c tt)
-high-taken p (one q) b h c l u = absurd (c tt)
-high-taken p (two q) b h c l u = absurd (c tt)
-high-taken p (lines0 q) b h c l u = absurd (c tt)
-high-taken p (linesCR q) b h c l u = absurd (c tt)
-high-taken p (esc k at) b h c l u = absurd (c tt)
-high-taken p (uni k at) b h c l u = absurd (c tt)
-high-taken p (hex k at n x) b h c l u = absurd (c tt)
-high-taken p (brace0 k at) b h c l u = absurd (c tt)
-high-taken p (brace k at x) b h c l u = absurd (c tt)
-high-taken p (done k) b h c l u = absurd (c tt)
-
-pub clean-or : (s : St) → Clean s ⊎ (Clean s → ⊥)
-clean-or (body k) = inr (λ c. c)
-clean-or (lines q n acc) = inr (λ c. c)
-clean-or start = inl tt
-clean-or (one q) = inl tt
-clean-or (two q) = inl tt
-clean-or (lines0 q) = inl tt
-clean-or (linesCR q) = inl tt
-clean-or (esc k at) = inl tt
-clean-or (uni k at) = inl tt
-clean-or (hex k at n x) = inl tt
-clean-or (brace0 k at) = inl tt
-clean-or (brace k at x) = inl tt
-clean-or (done k) = inl tt
+clean-or-taken p (body k) b h l u =
+    let i = low h in
+    inr (rw (ne-eqb b 0x5C (λ e. omega arith), ne-eqb b (k .quote) (λ e. omega arith), le-ltb b 0x20 (omega arith), lt-ltb b 256 u) tt)
+clean-or-taken p (lines q n acc) b h l u = let i = low (h .0) in inr (rw (ne-eqb b q (λ e. omega arith), le-ltb b 0x20 (omega arith), lt-ltb b 256 u) tt)
+clean-or-taken p start b h l u = inl tt
+clean-or-taken p (one q) b h l u = inl tt
+clean-or-taken p (two q) b h l u = inl tt
+clean-or-taken p (lines0 q) b h l u = inl tt
+clean-or-taken p (linesCR q) b h l u = inl tt
+clean-or-taken p (esc k at) b h l u = inl tt
+clean-or-taken p (uni k at) b h l u = inl tt
+clean-or-taken p (hex k at n x) b h l u = inl tt
+clean-or-taken p (brace0 k at) b h l u = inl tt
+clean-or-taken p (brace k at x) b h l u = inl tt
+clean-or-taken p (done k) b h l u = inl tt
 
 -- ---- a raw part in UTF-8 is a part
 

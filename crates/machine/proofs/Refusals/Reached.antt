@@ -25,7 +25,8 @@ use Rattle.grammar.proofs.Bytewise
 use Rattle.grammar.specs.Refused.{Opening, Item-fault}
 use Rattle.machine.specs.Scan.{Out, takes, stops, breaks}
 use Rattle.machine.specs.Machine
-use Rattle.machine.specs.Machine.{Use, as-value, as-key, Got, Base, want, wantKey, wantString, wantBinary, got, base, line, item, Frame, inside, pair, Conf, at, fail, step, classOf, Class, lift, scan, asValue, asKey, onOut}
+use Rattle.machine.specs.Machine.{Use, as-value, as-key, Got, Base, want, wantKey, wantString, wantBinary, got, base, line, item, Frame, inside, pair}
+use Rattle.machine.specs.Machine.{Conf, at, fail, step, classOf, Class, lift, scan, asValue, asKey, onOut}
 use Rattle.machine.specs.Numeric
 use Rattle.machine.specs.Strings
 use Rattle.machine.specs.Binaries
@@ -60,19 +61,40 @@ stars-more : {z : List ℕ} → Stars z → Stars (z ++ letters "*")
 stars-more Stars.one = Stars.more Stars.one
 stars-more (Stars.more z) = Stars.more (stars-more z)
 
+-- in a block
+in-block : (f x z e : List ℕ) → (f ++ (letters "/*" ++ (x ++ z))) ++ e ≡ f ++ (letters "/*" ++ (x ++ (z ++ e)))
+in-block f x z e = append-assoc f (letters "/*" ++ (x ++ z)) e ∙ ap (λ (a : List ℕ). f ++ (letters "/*" ++ a)) (append-assoc x z e)
+
 module _ (k : List Frame) (d : ℕ) (s : Base) (l : List ℕ) where
   hash-at : Bases.BaseAt k d s l → Lined k d s (l ++ letters "#")
   hash-at h = record { front = l; begin = letters "#"; body = []; stands = h; begins = C-begin-line.hash; chars = Many.none; split = refl }
 
   slashes-at : Slashed k d s l → Lined k d s (l ++ letters "/")
-  slashes-at h = record { front = h .0; begin = letters "//"; body = []; stands = h .1; begins = C-begin-line.slashes; chars = Many.none; split = rw (h .2) (append-assoc (h .0) (letters "/") (letters "/")) }
+  slashes-at h =
+      record {
+        front = h .0;
+        begin = letters "//";
+        body = [];
+        stands = h .1;
+        begins = C-begin-line.slashes;
+        chars = Many.none;
+        split = rw (h .2) (append-assoc (h .0) (letters "/") (letters "/"));
+      }
 
   block-at : Slashed k d s l → Blocked k d s (l ++ letters "*")
   block-at h = record { front = h .0; body = []; stands = h .1; chars = Many.none; split = rw (h .2) (append-assoc (h .0) (letters "/") (letters "*")) }
 
   line-more : (b : ℕ) → (b < 0x20 → b ≡ ch "\t") → Lined k d s l → Lined k d s (l ++ (b ∷ []))
   line-more b y h =
-      record { front = h .front; begin = h .begin; body = h .body ++ (b ∷ []); stands = h .stands; begins = h .begins; chars = many-join (h .chars) (many-one (line-byte b y)); split = rw (h .split) (simp append-assoc) }
+      record {
+        front = h .front;
+        begin = h .begin;
+        body = h .body ++ (b ∷ []);
+        stands = h .stands;
+        begins = h .begins;
+        chars = many-join (h .chars) (many-one (line-byte b y));
+        split = rw (h .split) (simp append-assoc);
+      }
 
   line-octets : {x : List ℕ} → C-begin-line x → (f c : List ℕ) (b : ℕ) (r : List ℕ) → b < 0x80 → Octets (f ++ (x ++ (c ++ (b ∷ r)))) → Octets c
   line-octets C-begin-line.hash f c b r e o =
@@ -90,14 +112,37 @@ module _ (k : List Frame) (d : ℕ) (s : Base) (l : List ℕ) where
 
   inner-more : (b : ℕ) → Bytewise.Byte c-no-star (b ∷ []) → Blocked k d s l → Blocked k d s (l ++ (b ∷ []))
   inner-more b y h =
-      record { front = h .front; body = h .body ++ (b ∷ []); stands = h .stands; chars = many-join (h .chars) (many-one (Bytewise.Inner-byte.no-star y)); split = rw (h .split) (append-assoc (h .front) (letters "/*" ++ h .body) (b ∷ [])) }
+      record {
+        front = h .front;
+        body = h .body ++ (b ∷ []);
+        stands = h .stands;
+        chars = many-join (h .chars) (many-one (Bytewise.Inner-byte.no-star y));
+        split = rw (h .split) (append-assoc (h .front) (letters "/*" ++ h .body) (b ∷ []));
+      }
 
   pub star-at : Blocked k d s l → Starred k d s (l ++ letters "*")
-  star-at h = record { front = h .front; body = h .body; stars = letters "*"; stands = h .stands; chars = h .chars; closing = Stars.one; split = rw (h .split) (append-assoc (h .front) (letters "/*" ++ h .body) (letters "*")) }
+  star-at h =
+      record {
+        front = h .front;
+        body = h .body;
+        stars = letters "*";
+        stands = h .stands;
+        chars = h .chars;
+        closing = Stars.one;
+        split = rw (h .split) (append-assoc (h .front) (letters "/*" ++ h .body) (letters "*"));
+      }
 
   star-more : Starred k d s l → Starred k d s (l ++ letters "*")
   star-more h =
-      record { front = h .front; body = h .body; stars = h .stars ++ letters "*"; stands = h .stands; chars = h .chars; closing = stars-more (h .closing); split = rw (h .split) (append-assoc (h .front) (letters "/*" ++ (h .body ++ h .stars)) (letters "*") ∙ ap (λ (a : List ℕ). h .front ++ (letters "/*" ++ a)) (append-assoc (h .body) (h .stars) (letters "*"))) }
+      record {
+        front = h .front;
+        body = h .body;
+        stars = h .stars ++ letters "*";
+        stands = h .stands;
+        chars = h .chars;
+        closing = stars-more (h .closing);
+        split = rw (h .split) (in-block (h .front) (h .body) (h .stars) (letters "*"));
+      }
 
   star-inner : (b : ℕ) → Bytewise.Byte c-no-star-or-slash (b ∷ []) → Starred k d s l → Blocked k d s (l ++ (b ∷ []))
   star-inner b y h =
@@ -106,78 +151,94 @@ module _ (k : List Frame) (d : ℕ) (s : Base) (l : List ℕ) where
         body = h .body ++ (h .stars ++ (b ∷ []));
         stands = h .stands;
         chars = many-join (h .chars) (many-one (Bytewise.Inner-byte.stars (h .closing) y));
-        split = rw (h .split) (append-assoc (h .front) (letters "/*" ++ (h .body ++ h .stars)) (b ∷ []) ∙ ap (λ (a : List ℕ). h .front ++ (letters "/*" ++ a)) (append-assoc (h .body) (h .stars) (b ∷ [])));
+        split = rw (h .split) (in-block (h .front) (h .body) (h .stars) (b ∷ []));
       }
 
   block-octets : (f c z r : List ℕ) → Stars z → Octets (f ++ (letters "/*" ++ (c ++ (z ++ (ch "/" ∷ r))))) → Octets c
   block-octets f c z r y o =
       let e = stars-first y in
       let u : Octets f = split-ascii o f (ch "/") (ch "*" ∷ (c ++ (z ++ (ch "/" ∷ r)))) (omega arith) refl in
-      let v = Bytewise.behind (ch "*") (c ++ (z ++ (ch "/" ∷ r))) (omega arith) (Bytewise.behind (ch "/") (ch "*" ∷ (c ++ (z ++ (ch "/" ∷ r)))) (omega arith) (after u (letters "/*" ++ (c ++ (z ++ (ch "/" ∷ r)))) o)) in
+      let v = Bytewise.behind (ch "*") (c ++ (z ++ (ch "/" ∷ r))) (omega arith)
+      (Bytewise.behind (ch "/") (ch "*" ∷ (c ++ (z ++ (ch "/" ∷ r)))) (omega arith) (after u (letters "/*" ++ (c ++ (z ++ (ch "/" ∷ r)))) o)) in
       split-ascii v c (ch "*") (e .0 ++ (ch "/" ∷ r)) (omega arith) (ap (λ (a : List ℕ). c ++ (a ++ (ch "/" ∷ r))) (e .1))
 
   pub block-done : (r : List ℕ) → Octets (l ++ (ch "/" ∷ r)) → Starred k d s l → Bases.BaseAt k d s (l ++ letters "/")
   block-done r o h =
       let x = h .body in
       let z = h .stars in
-      let e : l ++ (ch "/" ∷ r) ≡ h .front ++ (letters "/*" ++ (x ++ (z ++ (ch "/" ∷ r)))) = rw (h .split) (append-assoc (h .front) (letters "/*" ++ (x ++ z)) (ch "/" ∷ r) ∙ ap (λ (a : List ℕ). h .front ++ (letters "/*" ++ a)) (append-assoc x z (ch "/" ∷ r))) in
+      let e : l ++ (ch "/" ∷ r) ≡ h .front ++ (letters "/*" ++ (x ++ (z ++ (ch "/" ∷ r)))) = rw (h .split) (in-block (h .front) x z (ch "/" ∷ r)) in
       let c : Octets x = block-octets (h .front) x z r (h .closing) (subst Octets e o) in
       let w : Ws ((letters "/*" ++ (x ++ (z ++ letters "/"))) ++ []) = Ws.block (C-block.c-block (Bytewise.block-inner (h .chars) c) (h .closing)) Ws.none in
-      subst (Bases.BaseAt k d s) (rw (h .split, append-nil) (sym (append-assoc (h .front) (letters "/*" ++ (x ++ z)) (letters "/") ∙ ap (λ (a : List ℕ). h .front ++ (letters "/*" ++ a)) (append-assoc x z (letters "/"))))) (Bases.base-more w k d s (h .front) (h .stands))
+      subst (Bases.BaseAt k d s) (rw (h .split, append-nil) (sym (in-block (h .front) x z (letters "/")))) (Bases.base-more w k d s (h .front) (h .stands))
 
 -- ---- what an item has got
 
-numeric-stands : (k : List Frame) (d : ℕ) (f l : List ℕ) → Bases.ValAt k d f → {b : List ℕ} {m : Meaning} → Taken true b m → l ≡ f ++ b → Bases.GotAt k d (Got.value m) l
-numeric-stands k d f l h (Taken.item {a = b} y) e = record { front = f; body = b; lay = []; starts = h; is = numeric-value y d; layout = Ws.none; split = rw append-nil e }
-numeric-stands k d f l h (Taken.trailed {a = a} y) e = record { front = f; body = a; lay = letters " "; starts = h; is = Value.time-value (Time-value.local-date y); layout = Ws.blank Blank.space Ws.none; split = e }
+numeric-stands : (k : List Frame) (d : ℕ) (f l : List ℕ) → Bases.ValAt k d f → {b : List ℕ} {m : Meaning} → Taken true b m → l ≡ f ++ b
+    → Bases.GotAt k d (Got.value m) l
+numeric-stands k d f l h (Taken.item {a = b} y) e = Bases.stands-now f b h (numeric-value y d) e
+numeric-stands k d f l h (Taken.trailed {a = a} y) e =
+    record {
+      front = f;
+      body = a;
+      lay = letters " ";
+      starts = h;
+      is = Value.time-value (Time-value.local-date y);
+      layout = Ws.blank Blank.space Ws.none;
+      split = e;
+    }
 
-numeric-got : (k : List Frame) (d p : ℕ) (s : Numeric.St) (l : List ℕ) → ItemAt p k d (Machine.numeric s) l → (m : Meaning) → NumericRest true s [] m → Bases.GotAt k d (Got.value m) l
-numeric-got k d p s l h m r = numeric-stands k d (h .front) l (h .starts) (numeric-taken (steps-back Numeric.scan (NumericRest true) (numeric-is true) (h .steps) r)) (h .split)
+numeric-got : (k : List Frame) (d p : ℕ) (s : Numeric.St) (l : List ℕ) → ItemAt p k d (Machine.numeric s) l → (m : Meaning) → NumericRest true s [] m
+    → Bases.GotAt k d (Got.value m) l
+numeric-got k d p s l h m r =
+    numeric-stands k d (h .front) l (h .starts) (numeric-taken (steps-back Numeric.scan (NumericRest true) (numeric-is true) (h .steps) r)) (h .split)
 
 -- one part more, of either kind
 module _ {P : List ℕ → List ℕ → Type 0} {S : List ℕ → Type 0} (u v : List ℕ) (f b l : List ℕ) (y : P b v) (e : l ≡ f ++ b) where
   joined : (S f × (u ≡ [])) ⊎ Bases.Plus S (λ a. Concat P a u) f → Bases.Stands S (λ a. Concat P a (u ++ v)) l
-  joined (inl h) = record { front = f; body = b; lay = []; starts = h .0; is = rw (h .1) (Concat.part y); layout = Ws.none; split = rw append-nil e }
+  joined (inl h) = Bases.stands-now f b (h .0) (rw (h .1) (Concat.part y)) e
   joined (inr h) =
-      record {
-        front = h .front;
-        body = h .body ++ (h .lay ++ (ch "+" ∷ (h .more ++ b)));
-        lay = [];
-        starts = h .starts;
-        is = Bases.concat-join (h .is) (h .layout) (h .further) y;
-        layout = Ws.none;
-        split = rw (append-nil, e, h .split) (append-assoc (h .front) (h .body ++ (h .lay ++ (ch "+" ∷ h .more))) b ∙ ap (λ (x : List ℕ). h .front ++ x) (append-assoc (h .body) (h .lay ++ (ch "+" ∷ h .more)) b ∙ ap (λ (x : List ℕ). h .body ++ x) (append-assoc (h .lay) (ch "+" ∷ h .more) b)));
-      }
+      Bases.stands-now (h .front) (h .body ++ (h .lay ++ (ch "+" ∷ (h .more ++ b)))) (h .starts) (Bases.concat-join (h .is) (h .layout) (h .further) y)
+      (rw (e, h .split) (respelt (h .front) (h .body) (h .lay) (h .more) b (ch "+")))
+    where
+      respelt : (f a v w b : List ℕ) (c : ℕ) → (f ++ (a ++ (v ++ (c ∷ w)))) ++ b ≡ f ++ (a ++ (v ++ (c ∷ (w ++ b))))
+      respelt f a v w b c = simp append-assoc
 
-part-got : (z : Use) (u : List ℕ) (k : List Frame) (d p : ℕ) (s : Strings.St) (l r : List ℕ) → Octets (l ++ r) → ItemAt p k d (Machine.string-part z u s) l → (v : List ℕ) → PartRest s [] v → Bases.GotAt k d (Got.string z (u ++ v)) l
+part-got : (z : Use) (u : List ℕ) (k : List Frame) (d p : ℕ) (s : Strings.St) (l r : List ℕ) → Octets (l ++ r) → ItemAt p k d (Machine.string-part z u s) l
+    → (v : List ℕ) → PartRest s [] v → Bases.GotAt k d (Got.string z (u ++ v)) l
 part-got z u k d p s l r o h v x =
-    let y = raw-whole (h .front) (h .body) r (raw-part (steps-back Strings.scan PartRest part-is (h .steps) x)) (subst Octets (rw (h .split) (append-assoc (h .front) (h .body) r)) o) in
+    let y = raw-whole (h .front) (h .body) r (raw-part (steps-back Strings.scan PartRest part-is (h .steps) x))
+    (subst Octets (rw (h .split) (append-assoc (h .front) (h .body) r)) o) in
     joined u v (h .front) (h .body) l y (h .split) (h .starts)
 
-binary-got : (u : List ℕ) (k : List Frame) (d p : ℕ) (s : Binaries.St) (l : List ℕ) → ItemAt p k d (Machine.binary-part u s) l → (v : List ℕ) → BinaryRest s [] v → Bases.GotAt k d (Got.binary (u ++ v)) l
+binary-got : (u : List ℕ) (k : List Frame) (d p : ℕ) (s : Binaries.St) (l : List ℕ) → ItemAt p k d (Machine.binary-part u s) l → (v : List ℕ)
+    → BinaryRest s [] v → Bases.GotAt k d (Got.binary (u ++ v)) l
 binary-got u k d p s l h v x = joined u v (h .front) (h .body) l (binary-of (steps-back Binaries.scan BinaryRest binary-is (h .steps) x)) (h .split) (h .starts)
 
-name-got : (k : List Frame) (d p : ℕ) (s : Names.St) (l : List ℕ) → ItemAt p k d (Machine.identifier s) l → (v : List ℕ) → NameRest s [] v → Bases.GotAt k d (Got.key v) l
+name-got : (k : List Frame) (d p : ℕ) (s : Names.St) (l : List ℕ) → ItemAt p k d (Machine.identifier s) l → (v : List ℕ) → NameRest s [] v
+    → Bases.GotAt k d (Got.key v) l
 name-got k d p s l h v x =
     let y = name-of (steps-back Names.scan NameRest name-is (h .steps) x) in
-    record { front = h .front; body = h .body; lay = []; starts = h .starts; is = subst (λ (w : List ℕ). Key true (h .body) w) (y .1) (Key.identifier (y .0)); layout = Ws.none; split = rw append-nil (h .split) }
+    Bases.stands-now (h .front) (h .body) (h .starts) (subst (λ (w : List ℕ). Key true (h .body) w) (y .1) (Key.identifier (y .0))) (h .split)
 
 module _ (t : List ℕ) where
   -- ---- a byte behind what is got
 
-  closing-is : (p d : ℕ) (k : List Frame) (c : Machine.Bracket) (y : Inside) (l : List ℕ) → Bases.Within (Bases.ValAt k) d y l → ConfAt t (suc p) (Machine.closed p d k c y) (l ++ (closing c ∷ []))
+  closing-is : (p d : ℕ) (k : List Frame) (c : Machine.Bracket) (y : Inside) (l : List ℕ) → Bases.Within (Bases.ValAt k) d y l
+      → ConfAt t (suc p) (Machine.closed p d k c y) (l ++ (closing c ∷ []))
   closing-is p d k Machine.square (elements x) l h = Bases.close-array d x l h
   closing-is p d k Machine.square (members x) l h = three p
   closing-is p d k Machine.curly (elements x) l h = three p
   closing-is p d k Machine.curly (members x) l h = Bases.close-object d x l h
 
-  comma-at : (p d : ℕ) (k : List Frame) (m : Meaning) (l : List ℕ) → Bases.Stands (Bases.ValAt k d) (λ a. Value true d a m) l → ConfAt t (suc p) (Machine.commaAfter p d k m) (l ++ letters ",")
+  comma-at : (p d : ℕ) (k : List Frame) (m : Meaning) (l : List ℕ) → Bases.Stands (Bases.ValAt k d) (λ a. Value true d a m) l
+      → ConfAt t (suc p) (Machine.commaAfter p d k m) (l ++ letters ",")
   comma-at p d [] m l h = three p
   comma-at p d (inside (elements x) ∷ k) m l h = Bases.comma-element d x m l h
   comma-at p d (inside (members x) ∷ k) m l h = three p
   comma-at p d (pair x u ∷ k) m l h = Bases.comma-member d x u m l h
 
-  close-at : (p d : ℕ) (k : List Frame) (c : Machine.Bracket) (m : Meaning) (l : List ℕ) → Bases.Stands (Bases.ValAt k d) (λ a. Value true d a m) l → ConfAt t (suc p) (Machine.closeAfter p d c k m) (l ++ (closing c ∷ []))
+  close-at : (p d : ℕ) (k : List Frame) (c : Machine.Bracket) (m : Meaning) (l : List ℕ) → Bases.Stands (Bases.ValAt k d) (λ a. Value true d a m) l
+      → ConfAt t (suc p) (Machine.closeAfter p d c k m) (l ++ (closing c ∷ []))
   close-at p d [] c m l h = three p
   close-at p d (inside (elements x) ∷ k) Machine.square m l h = Bases.close-element d x m l h
   close-at p d (inside (elements x) ∷ k) Machine.curly m l h = three p
@@ -185,7 +246,8 @@ module _ (t : List ℕ) where
   close-at p d (pair x u ∷ k) Machine.square m l h = three p
   close-at p d (pair x u ∷ k) Machine.curly m l h = Bases.close-member d x u m l h
 
-  colon-at : (p d : ℕ) (k : List Frame) (u l : List ℕ) → Bases.Stands (Bases.KeyAt k d) (λ a. Key true a u) l → ConfAt t (suc p) (Machine.colonAfter p d k u) (l ++ letters ":")
+  colon-at : (p d : ℕ) (k : List Frame) (u l : List ℕ) → Bases.Stands (Bases.KeyAt k d) (λ a. Key true a u) l
+      → ConfAt t (suc p) (Machine.colonAfter p d k u) (l ++ letters ":")
   colon-at p d [] u l h = three p
   colon-at p d (inside (elements x) ∷ k) u l h = three p
   colon-at p d (inside (members x) ∷ k) u l h = Bases.colon-key d x u l h
@@ -197,21 +259,29 @@ module _ (t : List ℕ) where
   plus-at p d k (Got.string z u) l h = Bases.plus-after l h
   plus-at p d k (Got.binary u) l h = Bases.plus-after l h
 
-  need-value : (p d : ℕ) (k : List Frame) (l l' : List ℕ) (f : Meaning → Conf) → ((m : Meaning) → Bases.Stands (Bases.ValAt k d) (λ a. Value true d a m) l → ConfAt t (suc p) (f m) l') → (o : Option Meaning) → Bases.AsValue k d l o → ConfAt t (suc p) (Machine.needValue p f o) l'
+  need-value : (p d : ℕ) (k : List Frame) (l l' : List ℕ) (f : Meaning → Conf)
+      → ((m : Meaning) → Bases.Stands (Bases.ValAt k d) (λ a. Value true d a m) l → ConfAt t (suc p) (f m) l') → (o : Option Meaning) → Bases.AsValue k d l o
+      → ConfAt t (suc p) (Machine.needValue p f o) l'
   need-value p d k l l' f n none h = three p
   need-value p d k l l' f n (some m) h = n m h
 
-  need-key : (p d : ℕ) (k : List Frame) (l l' : List ℕ) (f : List ℕ → Conf) → ((u : List ℕ) → Bases.Stands (Bases.KeyAt k d) (λ a. Key true a u) l → ConfAt t (suc p) (f u) l') → (o : Option (List ℕ)) → Bases.AsKey k d l o → ConfAt t (suc p) (Machine.needKey p f o) l'
+  need-key : (p d : ℕ) (k : List Frame) (l l' : List ℕ) (f : List ℕ → Conf)
+      → ((u : List ℕ) → Bases.Stands (Bases.KeyAt k d) (λ a. Key true a u) l → ConfAt t (suc p) (f u) l') → (o : Option (List ℕ)) → Bases.AsKey k d l o
+      → ConfAt t (suc p) (Machine.needKey p f o) l'
   need-key p d k l l' f n none h = three p
   need-key p d k l l' f n (some u) h = n u h
 
-  got-at : (p d : ℕ) (k : List Frame) (g : Got) (b : ℕ) (l : List ℕ) (c : Class) → ClassIs b c → Bases.GotAt k d g l → ConfAt t (suc p) (Machine.onGot p d k g c) (l ++ (b ∷ []))
+  got-at : (p d : ℕ) (k : List Frame) (g : Got) (b : ℕ) (l : List ℕ) (c : Class) → ClassIs b c → Bases.GotAt k d g l
+      → ConfAt t (suc p) (Machine.onGot p d k g c) (l ++ (b ∷ []))
   got-at p d k g b l Machine.blankC y h = Bases.base-more (Ws.blank (blank-of b y) Ws.none) k d (got g) l h
   got-at p d k g b l Machine.hashC y h = rw y (hash-at k d (got g) l h)
   got-at p d k g b l Machine.slashC y h = rw y (l, h, refl)
-  got-at p d k g b l Machine.commaC y h = rw y (need-value p d k l (l ++ letters ",") (Machine.commaAfter p d k) (λ m. comma-at p d k m l) (asValue g) (Bases.as-value-at k d g l h))
-  got-at p d k g b l (Machine.closeC c) y h = rw y (need-value p d k l (l ++ (closing c ∷ [])) (Machine.closeAfter p d c k) (λ m. close-at p d k c m l) (asValue g) (Bases.as-value-at k d g l h))
-  got-at p d k g b l Machine.colonC y h = rw y (need-key p d k l (l ++ letters ":") (Machine.colonAfter p d k) (λ u. colon-at p d k u l) (asKey g) (Bases.as-key-at k d g l h))
+  got-at p d k g b l Machine.commaC y h =
+      rw y (need-value p d k l (l ++ letters ",") (Machine.commaAfter p d k) (λ m. comma-at p d k m l) (asValue g) (Bases.as-value-at k d g l h))
+  got-at p d k g b l (Machine.closeC c) y h =
+      rw y (need-value p d k l (l ++ (closing c ∷ [])) (Machine.closeAfter p d c k) (λ m. close-at p d k c m l) (asValue g) (Bases.as-value-at k d g l h))
+  got-at p d k g b l Machine.colonC y h =
+      rw y (need-key p d k l (l ++ letters ":") (Machine.colonAfter p d k) (λ u. colon-at p d k u l) (asKey g) (Bases.as-key-at k d g l h))
   got-at p d k g b l Machine.plusC y h = rw y (plus-at p d k g l h)
   got-at p d k g b l (Machine.openC c) y h = three p
   got-at p d k g b l Machine.quoteC y h = three p
@@ -232,15 +302,27 @@ module _ (t : List ℕ) where
     out-at (stops v) x y z = got-at p d k (g v) b l (classOf b) (class-is b) (y v refl)
     out-at (breaks r) x y z = z r refl
 
-  word-at : (p d : ℕ) (k : List Frame) (w : List ℕ) (m : Meaning) (b : ℕ) (l : List ℕ) → Worded k d w m l → ConfAt t (suc p) (onOut p d k b (scan p (Machine.word w m) b)) (l ++ (b ∷ []))
+  word-at : (p d : ℕ) (k : List Frame) (w : List ℕ) (m : Meaning) (b : ℕ) (l : List ℕ) → Worded k d w m l
+      → ConfAt t (suc p) (onOut p d k b (scan p (Machine.word w m) b)) (l ++ (b ∷ []))
   unfolding Names.wordScan
-  word-at p d k [] m b l h = got-at p d k (Got.value m) b l (classOf b) (class-is b) (record { front = h .front; body = h .body; lay = []; starts = h .starts; is = subst (λ (a : List ℕ). Value true d a m) (append-nil (h .body)) (h .is); layout = Ws.none; split = rw append-nil (h .split) })
+  word-at p d k [] m b l h =
+      got-at p d k (Got.value m) b l (classOf b) (class-is b)
+      (Bases.stands-now (h .front) (h .body) (h .starts) (subst (λ (a : List ℕ). Value true d a m) (append-nil (h .body)) (h .is)) (h .split))
   word-at p d k (c ∷ w) m b l h = go (eqb b c) refl
     where
-      go : (z : Bool) → eqb b c ≡ z → ConfAt t (suc p) (onOut p d k b (lift (λ x. Machine.word x m) (λ x. Got.value m) (cond {A = Out (List ℕ) (Unit {0})} z (takes w) (breaks (NotGrammar p))))) (l ++ (b ∷ []))
+      Then : Out (List ℕ) (Unit {0}) → Type 0
+      Then o = ConfAt t (suc p) (onOut p d k b (lift (λ x. Machine.word x m) (λ x. Got.value m) o)) (l ++ (b ∷ []))
+
+      go : (z : Bool) → eqb b c ≡ z → Then (cond z (takes w) (breaks (NotGrammar p)))
       go true e =
           let i = eqb-true b c e in
-          record { front = h .front; body = h .body ++ (b ∷ []); starts = h .starts; is = subst (λ (a : List ℕ). Value true d a m) (rw i (sym (append-assoc (h .body) (c ∷ []) w))) (h .is); split = rw (h .split) (append-assoc (h .front) (h .body) (b ∷ [])) }
+          record {
+            front = h .front;
+            body = h .body ++ (b ∷ []);
+            starts = h .starts;
+            is = subst (λ (a : List ℕ). Value true d a m) (rw i (sym (append-assoc (h .body) (c ∷ []) w))) (h .is);
+            split = rw (h .split) (append-assoc (h .front) (h .body) (b ∷ []));
+          }
       go false e = three p
 
   item-at : (p d : ℕ) (k : List Frame) (i : Machine.Item) (b : ℕ) (l r : List ℕ) → t ≡ l ++ (b ∷ r) → Octets t → ItemAt p k d i l
@@ -274,13 +356,15 @@ module _ (t : List ℕ) where
   open-at p (suc d) k Machine.square b l r e i h = rw i (Bases.open-array d l h (Bases.val-left k (suc d) l h))
   open-at p (suc d) k Machine.curly b l r e i h = rw i (Bases.open-object d l h (Bases.val-left k (suc d) l h))
 
-  close-want : (p d : ℕ) (k : List Frame) (c : Machine.Bracket) (l : List ℕ) → Bases.ValAt k d l → ConfAt t (suc p) (Machine.closeWanted p d c k) (l ++ (closing c ∷ []))
+  close-want : (p d : ℕ) (k : List Frame) (c : Machine.Bracket) (l : List ℕ) → Bases.ValAt k d l
+      → ConfAt t (suc p) (Machine.closeWanted p d c k) (l ++ (closing c ∷ []))
   close-want p d [] c l h = three p
   close-want p d (inside (elements y) ∷ k) c l h = closing-is p d k c (elements y) l h
   close-want p d (inside (members y) ∷ k) c l h = absurd h
   close-want p d (pair y u ∷ k) c l h = three p
 
-  close-key : (p d : ℕ) (k : List Frame) (c : Machine.Bracket) (l : List ℕ) → Bases.KeyAt k d l → ConfAt t (suc p) (Machine.closeWanted p d c k) (l ++ (closing c ∷ []))
+  close-key : (p d : ℕ) (k : List Frame) (c : Machine.Bracket) (l : List ℕ) → Bases.KeyAt k d l
+      → ConfAt t (suc p) (Machine.closeWanted p d c k) (l ++ (closing c ∷ []))
   close-key p d [] c l h = three p
   close-key p d (inside (elements y) ∷ k) c l h = absurd h
   close-key p d (inside (members y) ∷ k) c l h = closing-is p d k c (members y) l h
@@ -342,7 +426,8 @@ module _ (t : List ℕ) where
     key-at Machine.colonC y h = three p
     key-at Machine.otherC y h = three p
 
-    part-at : (s : Base) (quoted dollared : Conf) → Bases.BaseAt k d s l → Now quoted → Now dollared → (c : Class) → ClassIs b c → Now (Machine.onPart p d k b s quoted dollared c)
+    part-at : (s : Base) (quoted dollared : Conf) → Bases.BaseAt k d s l → Now quoted → Now dollared → (c : Class) → ClassIs b c
+        → Now (Machine.onPart p d k b s quoted dollared c)
     part-at s x z h f g Machine.blankC y = blank-at s y h
     part-at s x z h f g Machine.hashC y = rw y (hash-at k d s l h)
     part-at s x z h f g Machine.slashC y = rw y (l, h, refl)

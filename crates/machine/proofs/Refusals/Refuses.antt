@@ -42,7 +42,8 @@ module _ (r : Refusal) where
   refuses [] p c l k e = Refuses.at-end [] l (blamed-end p r (finish p c) (ends-on p c l k) e) e
   refuses (b ∷ t) p c l k e = go (λ l k. before p c b t (refuses t (suc p) (step p c b) l k e)) (step p c b) refl (steps-on p c b l k) e
     where
-      go : (Live (step p c b) → ConfKept (suc p) (step p c b) → Refuses p c r (b ∷ t)) → (d : Conf) → step p c b ≡ d → Stepped p d → read (suc p) d t ≡ No r → Refuses p c r (b ∷ t)
+      go : (Live (step p c b) → ConfKept (suc p) (step p c b) → Refuses p c r (b ∷ t)) → (d : Conf) → step p c b ≡ d → Stepped p d → read (suc p) d t ≡ No r
+          → Refuses p c r (b ∷ t)
       go w (fail x) f s e = let z : x ≡ r = no-refusal (sym (absorbing (suc p) x t) ∙ e) in Refuses.at-byte [] b t l (subst (Blame p) z s) (f ∙ ap fail z)
       go w (at m d k) f s e = w (subst Live (sym f) tt) (subst (ConfKept (suc p)) (sym f) (stepped-kept p (at m d k) s))
 

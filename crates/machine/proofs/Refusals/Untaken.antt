@@ -1,24 +1,23 @@
--- What a number or a time value does at a byte that it does not take is the same for every such byte (`ender`). Assumes nothing.
-use Prim.Native.Nat.{ℕ, zero, suc, _+_, _*_, _^_}
+-- What a number or a time value does at a byte that it does not take is what it does at the text's end. Assumes nothing.
+use Prim.Native.Nat.{ℕ, zero, suc, _*_, _^_}
 use mathlib.Core.Path.{_≡_, refl, sym, _∙_, subst}
-use mathlib.Core.Bool.{Bool, true, false, cond, _&&_}
-use mathlib.Core.Logic.{_⊎_, inl, inr}
+use mathlib.Core.Bool.{Bool, true, false, cond}
 use mathlib.Core.List.{List, [], _∷_, _++_}
 use native.Mathlib.Omega.{arith}
-use lib.Dec.{eqb, leb}
-use lib.IntN.{pos}
+use lib.Dec.{eqb}
 use Rattle.meaning.specs.declared.Date as D
-use Rattle.meaning.specs.declared.Time.the-variants.{OffsetDateTime}
 use Rattle.meaning.specs.declared.Refusal.{Refusal}
 use Rattle.meaning.specs.declared.Refusal.the-variants.{NotGrammar}
-use Rattle.meaning.specs.Clock.{timeOfDay}
 use Rattle.meaning.specs.Letters.{letters, ch}
 use Rattle.meaning.specs.Meaning.{Meaning}
 use Rattle.grammar.specs.Comments.{Blank}
-use Rattle.grammar.specs.Times.{signed}
 use Rattle.machine.specs.Scan.{takes, stops, breaks, over}
 use Rattle.machine.specs.Numeric
-use Rattle.machine.specs.Numeric.{St, Res, begin, sign, word, nought, int, point, frac, exp, expSign, expDigits, hexMark, hex, both, field, spaced, secPoint, nanos, zulu, Len, d1, d2, d3, d4, When, alone, on, Slot, month, day, hour, minute, second, offsetHour, offsetMinute, scan, settle, scaled, dated, tested, dateDone, clockDone, okDate, okClock, Dg, digit, other, Num, digitN, pointN, eN, xN, colonN, minusN, otherN, Sec, digitS, pointS, zuluS, plusS, minusS, otherS, Fst, noughtF, digitF, plusF, minusF, pointF, nF, iF, otherF}
+use Rattle.machine.specs.Numeric.{St, Res, begin, sign, word, nought, int, point, frac, exp, expSign, expDigits, hexMark, hex, both, field, spaced}
+use Rattle.machine.specs.Numeric.{secPoint, nanos, zulu, Len, d1, d2, d3, d4, When, alone, on, Slot, month, day, hour, minute, second, offsetHour}
+use Rattle.machine.specs.Numeric.{offsetMinute, scan, settle, scaled, dated, dateDone, Dg, digit, other, Num, digitN}
+use Rattle.machine.specs.Numeric.{pointN, eN, xN, colonN, minusN, otherN, Sec, digitS, pointS, zuluS, plusS, minusS, otherS, Fst, noughtF, digitF, plusF}
+use Rattle.machine.specs.Numeric.{minusF, pointF, nF, iF, otherF}
 use Rattle.machine.proofs.Runs as Runs
 use Rattle.machine.proofs.Runs.{GoesTo, HaltTo, Steps, adv, taken-once, goes-end, end-out}
 use Rattle.machine.proofs.Layouts.{adv-join}
@@ -28,148 +27,121 @@ use Rattle.machine.proofs.Refusals.Items.{Outcome}
 abbrev stuckAt : ℕ → Res
 stuckAt p = breaks (NotGrammar p)
 
+-- what digits do as a number, and a full field, at the end
 abbrev numberEnd : ℕ → ℕ → Len → Bool → ℕ → Res
-numberEnd p q k false v = settle q false v 0 0
-numberEnd p q d1 true v = settle q false 0 0 0
-numberEnd p q d2 true v = stuckAt p
-numberEnd p q d3 true v = stuckAt p
-numberEnd p q d4 true v = stuckAt p
+numberEnd p q k z v = Numeric.asNumber p q k z v over otherN
 
 abbrev fullEnd : ℕ → ℕ → Slot → ℕ → Res
-fullEnd p q (month y) v = stuckAt p
-fullEnd p q (day y m) v = dateDone q (dated y m v)
-fullEnd p q (hour d) v = stuckAt p
-fullEnd p q (minute w h) v = stuckAt p
-fullEnd p q (second w h m) v = clockDone q w h m v 0
-fullEnd p q (offsetHour d h m s n g) v = stuckAt p
-fullEnd p q (offsetMinute d h m s n g i) v = tested q ((okDate d && okClock h m s) && (leb i 23 && leb v 59)) (OffsetDateTime d (timeOfDay h m s n) (signed g (i * 60 + v)))
-
-abbrev pub ender : ℕ → St → Res
-ender p begin = stuckAt p
-ender p (sign q g) = stuckAt p
-ender p (word [] n) = stops (Meaning.number n)
-ender p (word (c ∷ a) n) = stuckAt p
-ender p (nought q g) = settle q g 0 0 0
-ender p (int q g m) = settle q g m 0 0
-ender p (point q g) = stuckAt p
-ender p (frac q g m f) = settle q g m 0 f
-ender p (exp q g m f) = stuckAt p
-ender p (expSign q g m f s) = stuckAt p
-ender p (expDigits q g m f s e) = scaled q g m f s e
-ender p (hexMark q g) = stuckAt p
-ender p (hex q g v) = settleHex q g v
-ender p (both q k z v) = numberEnd p q k z v
-ender p (field q l zero v) = fullEnd p q l v
-ender p (field q l (suc n) v) = stuckAt p
-ender p (spaced q d) = dateDone q d
-ender p (secPoint q w h m s) = stuckAt p
-ender p (nanos q w h m s k v) = clockDone q w h m s (v * 10 ^ k)
-ender p (zulu q d h m s n) = tested q (okDate d && okClock h m s) (OffsetDateTime d (timeOfDay h m s n) (pos 0))
+fullEnd p q l v = Numeric.onFull p q l v over
 
 abbrev pub Takes : Res → Type 0
 Takes (takes s) = Unit {0}
 Takes (stops m) = ⊥
 Takes (breaks r) = ⊥
 
-abbrev Or : Res → Res → Type 0
-Or o e = Takes o ⊎ (o ≡ e)
+-- the byte is taken, or does the same as the end; or the end itself would be taken
+data Or : Res → Res → Type 0 where
+  taken : {s : St} {e : Res} → Or (takes s) e
+  same : {e : Res} → Or e e
+  none : {s : St} {o : Res} → Or o (takes s)
 
-only-or : (p c : ℕ) (s : St) (b : ℕ) → Or (Numeric.only p c s b) (stuckAt p)
-only-or p c s b = go (eqb b c)
+only-or : (p c : ℕ) (s : St) (b : ℕ) → Or (Numeric.only p c s b) (Numeric.only p c s over)
+only-or p c s b = go (eqb b c) (eqb over c)
   where
-    go : (t : Bool) → Or (cond t (takes s) (breaks (NotGrammar p))) (stuckAt p)
-    go true = inl tt
-    go false = inr refl
+    go : (t u : Bool) → Or (cond t (takes s) (breaks (NotGrammar p))) (cond u (takes s) (breaks (NotGrammar p)))
+    go true u = Or.taken
+    go false true = Or.none
+    go false false = Or.same
 
 begin-or : (p b : ℕ) (c : Fst) → Or (Numeric.onBegin p b c) (stuckAt p)
-begin-or p b noughtF = inl tt
-begin-or p b digitF = inl tt
-begin-or p b pointF = inl tt
-begin-or p b nF = inl tt
-begin-or p b iF = inl tt
-begin-or p b plusF = inl tt
-begin-or p b minusF = inl tt
-begin-or p b otherF = inr refl
+begin-or p b noughtF = Or.taken
+begin-or p b digitF = Or.taken
+begin-or p b pointF = Or.taken
+begin-or p b nF = Or.taken
+begin-or p b iF = Or.taken
+begin-or p b plusF = Or.taken
+begin-or p b minusF = Or.taken
+begin-or p b otherF = Or.same
 
 sign-or : (p q : ℕ) (g : Bool) (b : ℕ) (c : Fst) → Or (Numeric.onSign p q g b c) (stuckAt p)
-sign-or p q g b noughtF = inl tt
-sign-or p q g b digitF = inl tt
-sign-or p q g b pointF = inl tt
-sign-or p q g b nF = inl tt
-sign-or p q g b iF = inl tt
-sign-or p q g b plusF = inr refl
-sign-or p q g b minusF = inr refl
-sign-or p q g b otherF = inr refl
+sign-or p q g b noughtF = Or.taken
+sign-or p q g b digitF = Or.taken
+sign-or p q g b pointF = Or.taken
+sign-or p q g b nF = Or.taken
+sign-or p q g b iF = Or.taken
+sign-or p q g b plusF = Or.same
+sign-or p q g b minusF = Or.same
+sign-or p q g b otherF = Or.same
 
 nought-or : (q : ℕ) (g : Bool) (c : Num) → Or (Numeric.onNought q g c) (settle q g 0 0 0)
-nought-or q g pointN = inl tt
-nought-or q g eN = inl tt
-nought-or q g xN = inl tt
-nought-or q g digitN = inr refl
-nought-or q g colonN = inr refl
-nought-or q g minusN = inr refl
-nought-or q g otherN = inr refl
+nought-or q g pointN = Or.taken
+nought-or q g eN = Or.taken
+nought-or q g xN = Or.taken
+nought-or q g digitN = Or.same
+nought-or q g colonN = Or.same
+nought-or q g minusN = Or.same
+nought-or q g otherN = Or.same
 
 int-or : (q : ℕ) (g : Bool) (m b : ℕ) (c : Num) → Or (Numeric.onInt q g m b c) (settle q g m 0 0)
-int-or q g m b digitN = inl tt
-int-or q g m b pointN = inl tt
-int-or q g m b eN = inl tt
-int-or q g m b xN = inr refl
-int-or q g m b colonN = inr refl
-int-or q g m b minusN = inr refl
-int-or q g m b otherN = inr refl
+int-or q g m b digitN = Or.taken
+int-or q g m b pointN = Or.taken
+int-or q g m b eN = Or.taken
+int-or q g m b xN = Or.same
+int-or q g m b colonN = Or.same
+int-or q g m b minusN = Or.same
+int-or q g m b otherN = Or.same
 
 frac-or : (q : ℕ) (g : Bool) (m f b : ℕ) (c : Num) → Or (Numeric.onFrac q g m f b c) (settle q g m 0 f)
-frac-or q g m f b digitN = inl tt
-frac-or q g m f b eN = inl tt
-frac-or q g m f b pointN = inr refl
-frac-or q g m f b xN = inr refl
-frac-or q g m f b colonN = inr refl
-frac-or q g m f b minusN = inr refl
-frac-or q g m f b otherN = inr refl
+frac-or q g m f b digitN = Or.taken
+frac-or q g m f b eN = Or.taken
+frac-or q g m f b pointN = Or.same
+frac-or q g m f b xN = Or.same
+frac-or q g m f b colonN = Or.same
+frac-or q g m f b minusN = Or.same
+frac-or q g m f b otherN = Or.same
 
 point-or : (p q : ℕ) (g : Bool) (b : ℕ) (c : Dg) → Or (Numeric.onPoint p q g b c) (stuckAt p)
-point-or p q g b digit = inl tt
-point-or p q g b other = inr refl
+point-or p q g b digit = Or.taken
+point-or p q g b other = Or.same
 
 exp-or : (p q : ℕ) (g : Bool) (m f b : ℕ) (c : Numeric.ExpB) → Or (Numeric.onExp p q g m f b c) (stuckAt p)
-exp-or p q g m f b Numeric.digitE = inl tt
-exp-or p q g m f b Numeric.plusE = inl tt
-exp-or p q g m f b Numeric.minusE = inl tt
-exp-or p q g m f b Numeric.otherE = inr refl
+exp-or p q g m f b Numeric.digitE = Or.taken
+exp-or p q g m f b Numeric.plusE = Or.taken
+exp-or p q g m f b Numeric.minusE = Or.taken
+exp-or p q g m f b Numeric.otherE = Or.same
 
 exp-sign-or : (p q : ℕ) (g : Bool) (m f : ℕ) (s : Bool) (b : ℕ) (c : Dg) → Or (Numeric.onExpSign p q g m f s b c) (stuckAt p)
-exp-sign-or p q g m f s b digit = inl tt
-exp-sign-or p q g m f s b other = inr refl
+exp-sign-or p q g m f s b digit = Or.taken
+exp-sign-or p q g m f s b other = Or.same
 
 exp-digits-or : (q : ℕ) (g : Bool) (m f : ℕ) (s : Bool) (e b : ℕ) (c : Dg) → Or (Numeric.onExpDigits q g m f s e b c) (scaled q g m f s e)
-exp-digits-or q g m f s e b digit = inl tt
-exp-digits-or q g m f s e b other = inr refl
+exp-digits-or q g m f s e b digit = Or.taken
+exp-digits-or q g m f s e b other = Or.same
 
 mark-or : (p q : ℕ) (g : Bool) (c : Numeric.HexB) → Or (Numeric.onHexMark p q g c) (stuckAt p)
-mark-or p q g (Numeric.value d) = inl tt
-mark-or p q g Numeric.noHex = inr refl
+mark-or p q g (Numeric.value d) = Or.taken
+mark-or p q g Numeric.noHex = Or.same
 
 hex-or : (q : ℕ) (g : Bool) (v : ℕ) (c : Numeric.HexB) → Or (Numeric.onHex q g v c) (settleHex q g v)
-hex-or q g v (Numeric.value d) = inl tt
-hex-or q g v Numeric.noHex = inr refl
+hex-or q g v (Numeric.value d) = Or.taken
+hex-or q g v Numeric.noHex = Or.same
 
 as-number-or : (p q : ℕ) (k : Len) (z : Bool) (v b : ℕ) (c : Num) → Or (Numeric.asNumber p q k z v b c) (numberEnd p q k z v)
 as-number-or p q k false v b c = int-or q false v b c
 as-number-or p q d1 true v b c = nought-or q false c
-as-number-or p q d2 true v b c = inr refl
-as-number-or p q d3 true v b c = inr refl
-as-number-or p q d4 true v b c = inr refl
+as-number-or p q d2 true v b c = Or.same
+as-number-or p q d3 true v b c = Or.same
+as-number-or p q d4 true v b c = Or.same
 
 digit-or : (p q : ℕ) (k : Len) (z : Bool) (v b : ℕ) → Or (Numeric.onDigit p q k z v b) (numberEnd p q k z v)
-digit-or p q d1 z v b = inl tt
-digit-or p q d2 z v b = inl tt
-digit-or p q d3 z v b = inl tt
+digit-or p q d1 z v b = Or.taken
+digit-or p q d2 z v b = Or.taken
+digit-or p q d3 z v b = Or.taken
 digit-or p q d4 z v b = as-number-or p q d4 z v b digitN
 
 colon-or : (p q : ℕ) (k : Len) (z : Bool) (v b : ℕ) → Or (Numeric.onColon p q k z v b) (numberEnd p q k z v)
 colon-or p q d1 z v b = as-number-or p q d1 z v b colonN
-colon-or p q d2 z v b = inl tt
+colon-or p q d2 z v b = Or.taken
 colon-or p q d3 z v b = as-number-or p q d3 z v b colonN
 colon-or p q d4 z v b = as-number-or p q d4 z v b colonN
 
@@ -177,7 +149,7 @@ minus-or : (p q : ℕ) (k : Len) (z : Bool) (v b : ℕ) → Or (Numeric.onMinus 
 minus-or p q d1 z v b = as-number-or p q d1 z v b minusN
 minus-or p q d2 z v b = as-number-or p q d2 z v b minusN
 minus-or p q d3 z v b = as-number-or p q d3 z v b minusN
-minus-or p q d4 z v b = inl tt
+minus-or p q d4 z v b = Or.taken
 
 both-or : (p q : ℕ) (k : Len) (z : Bool) (v b : ℕ) (c : Num) → Or (Numeric.onBoth p q k z v b c) (numberEnd p q k z v)
 both-or p q k z v b digitN = digit-or p q k z v b
@@ -189,30 +161,30 @@ both-or p q k z v b xN = as-number-or p q k z v b xN
 both-or p q k z v b otherN = as-number-or p q k z v b otherN
 
 day-or : (q : ℕ) (d : D.Date) (c : Numeric.Day) → Or (Numeric.onDay q d c) (dateDone q d)
-day-or q d Numeric.letterD = inl tt
-day-or q d Numeric.spaceD = inl tt
-day-or q d Numeric.otherD = inr refl
+day-or q d Numeric.letterD = Or.taken
+day-or q d Numeric.spaceD = Or.taken
+day-or q d Numeric.otherD = Or.same
 
-zone-or : (q : ℕ) (w : When) (h m s n : ℕ) (c : Sec) → Or (Numeric.onZone q w h m s n c) (clockDone q w h m s n)
-zone-or q alone h m s n c = inr refl
-zone-or q (on d) h m s n zuluS = inl tt
-zone-or q (on d) h m s n plusS = inl tt
-zone-or q (on d) h m s n minusS = inl tt
-zone-or q (on d) h m s n digitS = inr refl
-zone-or q (on d) h m s n pointS = inr refl
-zone-or q (on d) h m s n otherS = inr refl
+zone-or : (q : ℕ) (w : When) (h m s n : ℕ) (c : Sec) → Or (Numeric.onZone q w h m s n c) (Numeric.onZone q w h m s n otherS)
+zone-or q alone h m s n c = Or.same
+zone-or q (on d) h m s n zuluS = Or.taken
+zone-or q (on d) h m s n plusS = Or.taken
+zone-or q (on d) h m s n minusS = Or.taken
+zone-or q (on d) h m s n digitS = Or.same
+zone-or q (on d) h m s n pointS = Or.same
+zone-or q (on d) h m s n otherS = Or.same
 
-sec-or : (q : ℕ) (w : When) (h m s : ℕ) (c : Sec) → Or (Numeric.onSec q w h m s c) (clockDone q w h m s 0)
-sec-or q w h m s pointS = inl tt
+sec-or : (q : ℕ) (w : When) (h m s : ℕ) (c : Sec) → Or (Numeric.onSec q w h m s c) (Numeric.onZone q w h m s 0 otherS)
+sec-or q w h m s pointS = Or.taken
 sec-or q w h m s digitS = zone-or q w h m s 0 digitS
 sec-or q w h m s zuluS = zone-or q w h m s 0 zuluS
 sec-or q w h m s plusS = zone-or q w h m s 0 plusS
 sec-or q w h m s minusS = zone-or q w h m s 0 minusS
 sec-or q w h m s otherS = zone-or q w h m s 0 otherS
 
-nanos-or : (q : ℕ) (w : When) (h m s k v b : ℕ) (c : Sec) → Or (Numeric.onNanos q w h m s k v b c) (clockDone q w h m s (v * 10 ^ k))
-nanos-or q w h m s zero v b digitS = inl tt
-nanos-or q w h m s (suc k) v b digitS = inl tt
+nanos-or : (q : ℕ) (w : When) (h m s k v b : ℕ) (c : Sec) → Or (Numeric.onNanos q w h m s k v b c) (Numeric.onZone q w h m s (v * 10 ^ k) otherS)
+nanos-or q w h m s zero v b digitS = Or.taken
+nanos-or q w h m s (suc k) v b digitS = Or.taken
 nanos-or q w h m s k v b pointS = zone-or q w h m s (v * 10 ^ k) pointS
 nanos-or q w h m s k v b zuluS = zone-or q w h m s (v * 10 ^ k) zuluS
 nanos-or q w h m s k v b plusS = zone-or q w h m s (v * 10 ^ k) plusS
@@ -226,41 +198,41 @@ full-or p q (hour d) v b = only-or p (ch ":") (field q (minute (on d) v) 2 0) b
 full-or p q (minute w h) v b = only-or p (ch ":") (field q (second w h v) 2 0) b
 full-or p q (second w h m) v b = sec-or q w h m v (Numeric.secOf b)
 full-or p q (offsetHour d h m s n g) v b = only-or p (ch ":") (field q (offsetMinute d h m s n g v) 2 0) b
-full-or p q (offsetMinute d h m s n g i) v b = inr refl
+full-or p q (offsetMinute d h m s n g i) v b = Or.same
 
 field-or : (p q : ℕ) (l : Slot) (n v b : ℕ) (c : Dg) → Or (Numeric.onField p q l n v b c) (stuckAt p)
-field-or p q l n v b digit = inl tt
-field-or p q l n v b other = inr refl
+field-or p q l n v b digit = Or.taken
+field-or p q l n v b other = Or.same
 
 spaced-or : (q : ℕ) (d : D.Date) (b : ℕ) (c : Dg) → Or (Numeric.onSpaced q d b c) (dateDone q d)
-spaced-or q d b digit = inl tt
-spaced-or q d b other = inr refl
+spaced-or q d b digit = Or.taken
+spaced-or q d b other = Or.same
 
 sec-point-or : (p q : ℕ) (w : When) (h m s b : ℕ) (c : Dg) → Or (Numeric.onSecPoint p q w h m s b c) (stuckAt p)
-sec-point-or p q w h m s b digit = inl tt
-sec-point-or p q w h m s b other = inr refl
+sec-point-or p q w h m s b digit = Or.taken
+sec-point-or p q w h m s b other = Or.same
 
-taken-or-ender : (p : ℕ) (s : St) (b : ℕ) → Or (scan p s b) (ender p s)
-taken-or-ender p begin b = begin-or p b (Numeric.fstOf b)
-taken-or-ender p (sign q g) b = sign-or p q g b (Numeric.fstOf b)
-taken-or-ender p (word [] n) b = inr refl
-taken-or-ender p (word (c ∷ a) n) b = only-or p c (word a n) b
-taken-or-ender p (nought q g) b = nought-or q g (Numeric.numOf b)
-taken-or-ender p (int q g m) b = int-or q g m b (Numeric.numOf b)
-taken-or-ender p (point q g) b = point-or p q g b (Numeric.dgOf b)
-taken-or-ender p (frac q g m f) b = frac-or q g m f b (Numeric.numOf b)
-taken-or-ender p (exp q g m f) b = exp-or p q g m f b (Numeric.expOf b)
-taken-or-ender p (expSign q g m f s) b = exp-sign-or p q g m f s b (Numeric.dgOf b)
-taken-or-ender p (expDigits q g m f s e) b = exp-digits-or q g m f s e b (Numeric.dgOf b)
-taken-or-ender p (hexMark q g) b = mark-or p q g (Numeric.hexOf b)
-taken-or-ender p (hex q g v) b = hex-or q g v (Numeric.hexOf b)
-taken-or-ender p (both q k z v) b = both-or p q k z v b (Numeric.numOf b)
-taken-or-ender p (field q l zero v) b = full-or p q l v b
-taken-or-ender p (field q l (suc n) v) b = field-or p q l n v b (Numeric.dgOf b)
-taken-or-ender p (spaced q d) b = spaced-or q d b (Numeric.dgOf b)
-taken-or-ender p (secPoint q w h m s) b = sec-point-or p q w h m s b (Numeric.dgOf b)
-taken-or-ender p (nanos q w h m s k v) b = nanos-or q w h m s k v b (Numeric.secOf b)
-taken-or-ender p (zulu q d h m s n) b = inr refl
+taken-or-same : (p : ℕ) (s : St) (b : ℕ) → Or (scan p s b) (scan p s over)
+taken-or-same p begin b = begin-or p b (Numeric.fstOf b)
+taken-or-same p (sign q g) b = sign-or p q g b (Numeric.fstOf b)
+taken-or-same p (word [] n) b = Or.same
+taken-or-same p (word (c ∷ a) n) b = only-or p c (word a n) b
+taken-or-same p (nought q g) b = nought-or q g (Numeric.numOf b)
+taken-or-same p (int q g m) b = int-or q g m b (Numeric.numOf b)
+taken-or-same p (point q g) b = point-or p q g b (Numeric.dgOf b)
+taken-or-same p (frac q g m f) b = frac-or q g m f b (Numeric.numOf b)
+taken-or-same p (exp q g m f) b = exp-or p q g m f b (Numeric.expOf b)
+taken-or-same p (expSign q g m f s) b = exp-sign-or p q g m f s b (Numeric.dgOf b)
+taken-or-same p (expDigits q g m f s e) b = exp-digits-or q g m f s e b (Numeric.dgOf b)
+taken-or-same p (hexMark q g) b = mark-or p q g (Numeric.hexOf b)
+taken-or-same p (hex q g v) b = hex-or q g v (Numeric.hexOf b)
+taken-or-same p (both q k z v) b = both-or p q k z v b (Numeric.numOf b)
+taken-or-same p (field q l zero v) b = full-or p q l v b
+taken-or-same p (field q l (suc n) v) b = field-or p q l n v b (Numeric.dgOf b)
+taken-or-same p (spaced q d) b = spaced-or q d b (Numeric.dgOf b)
+taken-or-same p (secPoint q w h m s) b = sec-point-or p q w h m s b (Numeric.dgOf b)
+taken-or-same p (nanos q w h m s k v) b = nanos-or q w h m s k v b (Numeric.secOf b)
+taken-or-same p (zulu q d h m s n) b = Or.same
 
 -- ---- the outcome at a byte that is not taken
 
@@ -269,7 +241,7 @@ split-steps : (a : List ℕ) {c : List ℕ} {p : ℕ} {s s' : St} → Steps scan
 split-steps [] {s = s} x = (s, Steps.stay, x)
 split-steps (b ∷ a) (Steps.eat x e) = let h = split-steps a x in (h .0, Steps.eat (h .1) e, h .2)
 
--- what an item comes to before a comma it comes to at every byte that it does not take
+-- what an item comes to at the end it comes to at every byte that it does not take
 module _ (P : Meaning → Type 0) (R : Refusal → Type 0) where
   abbrev Q : Res → Type 0
   Q = Outcome P R
@@ -279,26 +251,14 @@ module _ (P : Meaning → Type 0) (R : Refusal → Type 0) where
   no-takes (stops m) h t = t
   no-takes (breaks r) h t = t
 
-  so-ends : (p : ℕ) (s : St) (b : ℕ) → Q (scan p s b) → Q (ender p s)
-  so-ends p s b h = go (taken-or-ender p s b)
-    where
-      go : Or (scan p s b) (ender p s) → Q (ender p s)
-      go (inl t) = absurd (no-takes (scan p s b) h t)
-      go (inr e) = subst Q e h
-
-  pub ends-so : {p : ℕ} {s : St} → GoesTo scan Q Runs.Ends p s [] → Q (ender p s)
-  ends-so {p} {s} g = so-ends p s over (end-out scan Runs.Ends.end g)
-
-  untaken-out : (p : ℕ) (s : St) (b : ℕ) → Q (ender p s) → (Takes (scan p s b) → ⊥) → Q (scan p s b)
-  untaken-out p s b h n = go (taken-or-ender p s b)
-    where
-      go : Or (scan p s b) (ender p s) → Q (scan p s b)
-      go (inl t) = absurd (n t)
-      go (inr e) = subst Q (sym e) h
+  untaken-out : {o e : Res} → Or o e → Q e → (Takes o → ⊥) → Q o
+  untaken-out Or.taken h n = absurd (n tt)
+  untaken-out Or.same h n = h
+  untaken-out Or.none h n = absurd h
 
   pub any-byte : {p : ℕ} {s s' : St} {a : List ℕ} → GoesTo scan Q Runs.Ends p s a → Steps scan p s a s' → (b : ℕ) → (Takes (scan (adv p a) s' b) → ⊥)
       → Q (scan (adv p a) s' b)
-  any-byte {p} {s' = s'} {a = a} g x b n = untaken-out (adv p a) s' b (ends-so (goes-end scan x g)) n
+  any-byte {p} {s' = s'} {a = a} g x b n = untaken-out (taken-or-same (adv p a) s' b) (end-out scan Runs.Ends.end (goes-end scan x g)) n
 
   -- behind a date and a space that is taken, what is no digit ends it
   spaced-out : {p b : ℕ} {s u : St} → HaltTo scan Q p s b → b ≡ ch " " → scan p s (ch " ") ≡ takes u → (c : ℕ) → Runs.NoDigit c → Q (scan (suc p) u c)
@@ -313,4 +273,4 @@ module _ (P : Meaning → Type 0) (R : Refusal → Type 0) where
     space-digitless c n = let h = split-steps a x in rw (adv-join p a (letters " ")) (space-out (goes-end scan (h .1) g) (h .2) c n)
 
     pub after-space : (b : ℕ) → (Takes (scan (adv p (a ++ letters " ")) u b) → ⊥) → Q (scan (adv p (a ++ letters " ")) u b)
-    after-space b n = let q = adv p (a ++ letters " ") in untaken-out q u b (so-ends q u over (space-digitless over (Runs.NoDigit.past (omega arith)))) n
+    after-space b n = let q = adv p (a ++ letters " ") in untaken-out (taken-or-same q u b) (space-digitless over (Runs.NoDigit.past (omega arith))) n
