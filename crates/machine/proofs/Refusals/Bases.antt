@@ -1,4 +1,4 @@
--- What the bytes so far are, by the grammar, at each configuration. Assumes nothing.
+-- What the bytes so far are, by the grammar, where a value, a key, a part or what may follow is expected. Assumes nothing.
 use Prim.Native.Nat.{ℕ, suc}
 use mathlib.Core.Path.{_≡_, refl, sym, ap, _∙_, subst}
 use mathlib.Core.Bool.{Bool, true, false}

@@ -1,4 +1,4 @@
--- The state of a string part after characters, with the checks or without: a function of their derivation, and the run that leads to it.
+-- The characters of a string part, with the checks or without: the state after them, a function of their derivation, and the run that leads to it.
 -- Assumes nothing.
 use Prim.Native.Nat.{ℕ, suc}
 use mathlib.Core.Path.{_≡_, refl, sym, _∙_}
@@ -8,9 +8,10 @@ use mathlib.Core.List.{List, [], _∷_, _++_, append-assoc, append-nil}
 use native.Mathlib.Omega.{arith}
 use lib.Dec.{ltb, leb}
 use borrow.Author.Tests.{eq-eqb, ne-eqb, lt-ltb, le-ltb}
-use Rattle.rules.specs.Rfc3629.{encode}
+use Rattle.rules.specs.Rfc3629.{In, encode}
 use Rattle.rules.proofs.Characters.{Each, all-none, all-more}
-use Rattle.grammar.specs.Characters.{Among, Digits}
+use Rattle.meaning.specs.Letters.{letters}
+use Rattle.grammar.specs.Characters.{Among, Digits, Hexadecimal}
 use Rattle.grammar.specs.Strings.{Quote, mark, other, Chars, Escape, unescaped}
 use Rattle.machine.specs.Scan.{takes}
 use Rattle.machine.specs.Strings as S
@@ -25,6 +26,18 @@ use Rattle.machine.proofs.Strings.Forward.{chars-steps, one-step, no-sl
 -- the characters of a part of one line
 abbrev pub CharsOf : Bool → Quote → List ℕ → List ℕ → Type 0
 CharsOf k q a u = Chars (Among unescaped) (Escape k) q a u
+
+-- no good escape begins these bytes
+abbrev pub No-escape : List ℕ → Type 0
+No-escape b = (e c w : List ℕ) → b ≡ e ++ c → Escape true e w → ⊥
+
+-- a begins with the escape of a low surrogate, c is behind it
+pub record Low (a c : List ℕ) : Type 0 where
+  pub digits : List ℕ
+  pub number : ℕ
+  pub is : a ≡ letters "\\u" ++ (digits ++ c)
+  pub hexes : Hexadecimal 4 digits number
+  pub low : In 0xDC00 0xDFFF number
 
 -- ---- the state
 

@@ -1,4 +1,4 @@
--- What the bytes so far are, by the grammar, at each configuration. Assumes nothing.
+-- What the bytes so far are, by the grammar, at each configuration; where it fails, why. Assumes nothing.
 use Prim.Native.Nat.{ℕ, suc}
 use mathlib.Core.Path.{_≡_, sym, ap, _∙_}
 use mathlib.Core.Bool.{true}

@@ -16,7 +16,7 @@ use Rattle.grammar.specs.Characters.{Among, Hexdig, Digits, Hexadecimal}
 use Rattle.grammar.specs.Comments.{Ws}
 use Rattle.grammar.specs.Strings.{Quote, mark, other, Chars, Quoted, Escape, String-part, Concat}
 use Rattle.grammar.specs.Refused.{Spot, part, Left, Item-fault}
-use Rattle.machine.specs.Scan.{Out, takes, stops, breaks, over}
+use Rattle.machine.specs.Scan.{breaks, over}
 use Rattle.machine.specs.Machine
 use Rattle.machine.specs.Machine.{Use, Frame}
 use Rattle.machine.specs.Strings as S
@@ -27,7 +27,8 @@ use Rattle.machine.proofs.Strings.Tests.{hex-of, hex-ascii, short-of}
 use Rattle.machine.proofs.Strings.Back.{four-small}
 use Rattle.machine.proofs.Strings.Forward.{part-goes, first-of, encode-some, plain-each}
 use Rattle.machine.proofs.Refusals.Reason.{Faulty, Reason}
-use Rattle.machine.proofs.Refusals.Chars.{CharsOf}
+use Rattle.machine.proofs.Refusals.Items.{Stops}
+use Rattle.machine.proofs.Refusals.Chars.{CharsOf, No-escape, Low}
 use Rattle.machine.proofs.Refusals.Parts.{PartBare, bare-is, raw-whole, Kept, kept, steps-sane}
 use Rattle.machine.proofs.Refusals.Bases.{start-left}
 use Rattle.machine.proofs.Refusals.Confs.{PartStart, ItemAt}
@@ -55,14 +56,7 @@ same-braced (Digits.next {x = x} h a) (Digits.next {x = y} i b) e r c f =
 no-brace : {m v x : ℕ} {a : List ℕ} → Digits Hexdig 16 (suc m) v a x → (r c : List ℕ) → ch "{" ∷ r ≡ a ++ c → ⊥
 no-brace (Digits.next h a) r c e = let u = hex-ascii h in let g = same-head e in absurd (omega arith)
 
--- ---- the escape of a low surrogate, and c behind it
-
-record Low (a c : List ℕ) : Type 0 where
-  digits : List ℕ
-  number : ℕ
-  is : a ≡ letters "\\u" ++ (digits ++ c)
-  hexes : Hexadecimal 4 digits number
-  low : In 0xDC00 0xDFFF number
+-- ---- no low surrogate comes first
 
 abbrev NoLow : List ℕ → Type 0
 NoLow a = (c : List ℕ) → Low a c → ⊥
@@ -72,9 +66,6 @@ low-number x a c l = subst (In 0xDC00 0xDFFF) (sym (same-digits x (l .hexes) ref
 
 -- ---- no good escape begins here
 
-abbrev NoGood : List ℕ → Type 0
-NoGood b = (e c w : List ℕ) → b ≡ e ++ c → Escape true e w → ⊥
-
 no-surrogate : {n : ℕ} → Scalar n → In 0xD800 0xDFFF n → ⊥
 no-surrogate {n} s i = go (s .whole)
   where
@@ -83,29 +74,29 @@ no-surrogate {n} s i = go (s .whole)
     go (inr h) = omega arith
 
 -- at a surrogate with no low one behind it
-unit-no-good : {ds : List ℕ} {n : ℕ} → Hexadecimal 4 ds n → In 0xD800 0xDFFF n → (a : List ℕ) → (In 0xD800 0xDBFF n → NoLow a)
-    → NoGood (ch "u" ∷ (ds ++ a))
-unit-no-good x i a f e c w q (Escape.short y) = short-of y .1 .no-u (sym (same-head q))
-unit-no-good x i a f e c w q (Escape.unit y s) = no-surrogate s (subst (In 0xD800 0xDFFF) (same-digits x y refl a c (same-tail q) .0) i)
-unit-no-good x i a f e c w q (Escape.pair {a = ds} {b = es} {low = l} y j z m) =
+unit-no-escape : {ds : List ℕ} {n : ℕ} → Hexadecimal 4 ds n → In 0xD800 0xDFFF n → (a : List ℕ) → (In 0xD800 0xDBFF n → NoLow a)
+    → No-escape (ch "u" ∷ (ds ++ a))
+unit-no-escape x i a f e c w q (Escape.short y) = short-of y .1 .no-u (sym (same-head q))
+unit-no-escape x i a f e c w q (Escape.unit y s) = no-surrogate s (subst (In 0xD800 0xDFFF) (same-digits x y refl a c (same-tail q) .0) i)
+unit-no-escape x i a f e c w q (Escape.pair {a = ds} {b = es} {low = l} y j z m) =
     let g = same-digits x y refl a (letters "\\u" ++ (es ++ c)) (same-tail q ∙ append-assoc ds (letters "\\u" ++ es) c) in
     f (subst (In 0xD800 0xDBFF) (sym (g .0)) j) c (record { digits = es; number = l; is = g .1; hexes = z; low = m })
-unit-no-good (Digits.next h x) i a f e c w q (Escape.braced y s) = let u = hex-ascii h in let g = same-head (same-tail q) in absurd (omega arith)
+unit-no-escape (Digits.next h x) i a f e c w q (Escape.braced y s) = let u = hex-ascii h in let g = same-head (same-tail q) in absurd (omega arith)
 
 -- at a number in braces that is none of a character
-braced-no-good : {m n : ℕ} {ds : List ℕ} → Hexadecimal (suc m) ds n → (Scalar n → ⊥) → (a : List ℕ) → NoGood (letters "u{" ++ (ds ++ (ch "}" ∷ a)))
-braced-no-good x f a e c w q (Escape.short y) = short-of y .1 .no-u (sym (same-head q))
-braced-no-good {ds = ds} x f a e c w q (Escape.unit y s) = no-brace y (ds ++ (ch "}" ∷ a)) c (same-tail q)
-braced-no-good {ds = ds} x f a e c w q (Escape.pair {a = es} {b = fs} y j z m) =
+braced-no-escape : {m n : ℕ} {ds : List ℕ} → Hexadecimal (suc m) ds n → (Scalar n → ⊥) → (a : List ℕ) → No-escape (letters "u{" ++ (ds ++ (ch "}" ∷ a)))
+braced-no-escape x f a e c w q (Escape.short y) = short-of y .1 .no-u (sym (same-head q))
+braced-no-escape {ds = ds} x f a e c w q (Escape.unit y s) = no-brace y (ds ++ (ch "}" ∷ a)) c (same-tail q)
+braced-no-escape {ds = ds} x f a e c w q (Escape.pair {a = es} {b = fs} y j z m) =
     no-brace y (ds ++ (ch "}" ∷ a)) (letters "\\u" ++ (fs ++ c)) (same-tail q ∙ append-assoc es (letters "\\u" ++ fs) c)
-braced-no-good x f a e c w q (Escape.braced {a = es} y s) =
+braced-no-escape x f a e c w q (Escape.braced {a = es} y s) =
     f (subst Scalar (sym (same-braced x y refl a c (same-tail (same-tail q) ∙ append-assoc es (letters "}") c))) s)
 
 -- ---- all characters are good, or one is the first bad escape
 
 data Judged (q : Quote) (a : List ℕ) : Type 0 where
   good : (u : List ℕ) → CharsOf true q a u → Judged q a
-  bad : (x b u v : List ℕ) → a ≡ x ++ (ch "\\" ∷ b) → CharsOf true q x u → CharsOf false q (ch "\\" ∷ b) v → NoGood b → Judged q a
+  bad : (x b u v : List ℕ) → a ≡ x ++ (ch "\\" ∷ b) → CharsOf true q x u → CharsOf false q (ch "\\" ∷ b) v → No-escape b → Judged q a
 
 -- behind good characters
 behind : {q : Quote} {a : List ℕ} (c : List ℕ) → ((x u : List ℕ) → CharsOf true q x u → (v : List ℕ) × CharsOf true q (c ++ x) v)
@@ -119,7 +110,7 @@ good-escape : {q : Quote} {e w a : List ℕ} → Escape true e w → Judged q a 
 good-escape {e = e} {w = w} y h = behind (ch "\\" ∷ e) (λ x u z. (w ++ u, Chars.escaped y z)) h
 
 -- an escape that is no good one
-bad-escape : {q : Quote} {e w a u : List ℕ} → Escape false e w → CharsOf false q a u → NoGood (e ++ a) → Judged q (ch "\\" ∷ (e ++ a))
+bad-escape : {q : Quote} {e w a u : List ℕ} → Escape false e w → CharsOf false q a u → No-escape (e ++ a) → Judged q (ch "\\" ∷ (e ++ a))
 bad-escape {e = e} {a = a} y z n = Judged.bad [] (e ++ a) [] _ refl Chars.none (Chars.escaped y z) n
 
 -- a high surrogate with a low one behind it is a pair
@@ -139,7 +130,7 @@ record Viewed (q : Quote) (a : List ℕ) : Type 0 where
 -- a unit is a character, a high or a low surrogate
 module _ {q : Quote} {ds a u : List ℕ} {n : ℕ} (x : Hexadecimal 4 ds n) (y : CharsOf false q a u) (h : Viewed q a) where
   bad-unit : In 0xD800 0xDFFF n → (In 0xD800 0xDBFF n → NoLow a) → Judged q (letters "\\u" ++ (ds ++ a))
-  bad-unit i f = bad-escape (Escape.unit x tt) y (unit-no-good x i a f)
+  bad-unit i f = bad-escape (Escape.unit x tt) y (unit-no-escape x i a f)
 
   unit-judged : Judged q (letters "\\u" ++ (ds ++ a))
   unit-judged = go (decLt n 0xD800) (decLt n 0xDC00) (decLt n 0xE000)
@@ -168,7 +159,8 @@ module _ {q : Quote} {ds a u : List ℕ} {m n : ℕ} (x : Hexadecimal (suc m) ds
 
   bad-braced : (Scalar n → ⊥) → Judged q All
   bad-braced f =
-      bad-escape (Escape.braced x tt) y (subst NoGood (ap (λ (t : List ℕ). letters "u{" ++ t) (sym (append-assoc ds (letters "}") a))) (braced-no-good x f a))
+      bad-escape (Escape.braced x tt) y (subst No-escape (ap (λ (t : List ℕ). letters "u{" ++ t) (sym (append-assoc ds (letters "}") a)))
+      (braced-no-escape x f a))
 
   braced-judged : Judged q All
   braced-judged = go (decLt n 0xD800) (decLt n 0xE000) (decLe n 0x10FFFF)
@@ -205,11 +197,6 @@ viewed {q} (Chars.other-quote y) =
     }
 
 -- ---- a part that has closed with a bad escape in it is no good one
-
-abbrev Stops : Out St (List ℕ) → Type 0
-Stops (takes s) = ⊥
-Stops (stops v) = Unit {0}
-Stops (breaks r) = ⊥
 
 blamed-stops : (acc : List ℕ) {z : Bad} {q : ℕ} → z ≡ spoilt q → Stops (S.close acc z) → ⊥
 blamed-stops acc e h = rw e at h

@@ -29,20 +29,16 @@ use Rattle.machine.proofs.Whole.{absorbing}
 use Rattle.machine.proofs.Strings.Tests.{either, by-ltb, by-leb}
 use Rattle.machine.proofs.Strings.Back.{four-small}
 use Rattle.machine.proofs.Strings.Forward.{first-of, encode-some, plain-each, no-slash, clear}
-use Rattle.machine.proofs.Refusals.Chars.{CharsOf, escape-ctx, chars-ctx, first-char, Not-first, part-run}
+use Rattle.machine.proofs.Refusals.Chars.{CharsOf, No-escape, Low, escape-ctx, chars-ctx, first-char, Not-first, part-run}
 use Rattle.machine.proofs.Refusals.Left.{Stood, left-stood}
 use Rattle.machine.proofs.Refusals.Refuses.{init, adv-length}
 
 -- ---- a bad escape stays
 
--- the escape of a low surrogate comes next
-data Low-next : List ℕ → Type 0 where
-  low-next : {d : List ℕ} {w : ℕ} (r : List ℕ) → Hexadecimal 4 d w → In 0xDC00 0xDFFF w → Low-next (ch "\\" ∷ ((ch "u" ∷ d) ++ r))
-
 -- before the bytes a the first bad escape is the one at this backslash: it is known, or a high surrogate that its low one does not follow
 record Spoilt (at : ℕ) (c : Ctx) (a : List ℕ) : Type 0 where
   now : badNow c ≡ spoilt at
-  known : Low-next a → c .bad ≡ spoilt at
+  known : (t : List ℕ) → Low a t → c .bad ≡ spoilt at
 
 module _ (at : ℕ) where
   -- the bad escape that is known is the one at this backslash
@@ -60,7 +56,7 @@ module _ (at : ℕ) where
   known-now c e = lost-stays (c .high) e
 
   known-spoilt : (c : Ctx) → Known c → (a : List ℕ) → Spoilt at c a
-  known-spoilt c e a = record { now = known-now c e; known = λ l. e }
+  known-spoilt c e a = record { now = known-now c e; known = λ t l. e }
 
   alone-known : (c : Ctx) (p w : ℕ) → badNow c ≡ spoilt at → Known (S.alone c p w)
   unfolding S.alone
@@ -80,7 +76,8 @@ module _ (at : ℕ) where
   -- after an escape it is known
   escape-known : {k : Bool} {e v : List ℕ} (x : Escape k e v) (a : List ℕ) (p : ℕ) (c : Ctx) → Spoilt at c (ch "\\" ∷ (e ++ a)) → Known (escape-ctx x p c)
   escape-known (Escape.short y) a p c h = h .now
-  escape-known (Escape.unit {n = n} x s) a p c h = unit-known c p n (c .high) (h .now) (λ i. h .known (Low-next.low-next a x i))
+  escape-known (Escape.unit {a = b} {n = n} x s) a p c h =
+      unit-known c p n (c .high) (h .now) (λ i. h .known a (record { digits = b; number = n; is = refl; hexes = x; low = i }))
   escape-known (Escape.pair {a = b} {high = w} {low = l} x i y j) a p c h =
       let d = S.unit c p w (c .high) in
       let e = unit-known c p w (c .high) (h .now) (λ m. absurd (omega arith)) in
@@ -105,10 +102,6 @@ module _ (at : ℕ) where
   spoilt-stays {q = q} (Chars.other-quote y) p c h = now-stays y (suc p) (give c (mark (other q) ∷ [])) (h .now)
 
 -- ---- the first bad escape
-
--- no good escape begins these bytes
-abbrev No-escape : List ℕ → Type 0
-No-escape b = (e c w : List ℕ) → b ≡ e ++ c → Escape true e w → ⊥
 
 surrogate : {n : ℕ} → n ≤ 0x10FFFF → (Scalar n → ⊥) → In 0xD800 0xDFFF n
 surrogate {n} h f = go (decLt n 0xD800) (decLt 0xDFFF n)
@@ -137,9 +130,11 @@ braces-bad {w} f c at =
     P k = k ≡ blame c at
 
 -- a high surrogate and its low one next are a good escape
-pair-behind : {d a : List ℕ} {n : ℕ} → Hexadecimal 4 d n → In 0xD800 0xDBFF n → Low-next a → No-escape ((ch "u" ∷ d) ++ a) → ⊥
-pair-behind {d} x i (Low-next.low-next {d = b} r y j) lacks =
-    lacks (ch "u" ∷ (d ++ (letters "\\u" ++ b))) r _ (ap (λ (z : List ℕ). ch "u" ∷ z) (sym (append-assoc d (letters "\\u" ++ b) r))) (Escape.pair x i y j)
+pair-behind : {d a t : List ℕ} {n : ℕ} → Hexadecimal 4 d n → In 0xD800 0xDBFF n → Low a t → No-escape ((ch "u" ∷ d) ++ a) → ⊥
+pair-behind {d} {a} {t} x i l lacks =
+    let b = letters "\\u" ++ l .digits in
+    let e : d ++ a ≡ (d ++ b) ++ t = ap (λ (z : List ℕ). d ++ z) (l .is) ∙ sym (append-assoc d b t) in
+    lacks (ch "u" ∷ (d ++ b)) t _ (ap (λ (z : List ℕ). ch "u" ∷ z) e) (Escape.pair x i (l .hexes) (l .low))
 
 -- a surrogate by itself: a low one is blamed at once, a high one waits
 unit-bad : {d : List ℕ} {n : ℕ} → Hexadecimal 4 d n → In 0xD800 0xDFFF n → (a : List ℕ) → No-escape ((ch "u" ∷ d) ++ a)
@@ -149,7 +144,7 @@ unit-bad {n = n} x s a lacks at c e = go (decLt n 0xDC00)
     go : Dec (n < 0xDC00) → Spoilt at (S.alone c at n) a
     go (yes h) =
         let i : In 0xD800 0xDBFF n = omega arith in
-        rw (alone-high i c at) (record { now = ap (λ (z : Bad). first z at) e; known = λ l. absurd (pair-behind x i l lacks) })
+        rw (alone-high i c at) (record { now = ap (λ (z : Bad). first z at) e; known = λ t l. absurd (pair-behind x i l lacks) })
     go (no h) = rw (alone-low {w = n} (omega arith) c at) (known-spoilt at (blame c at) (ap (λ (z : Bad). first z at) e) a)
 
 -- where no escape was bad before it, an escape of the bare grammar that is no good one is the first bad one

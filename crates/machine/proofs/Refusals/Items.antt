@@ -42,7 +42,11 @@ module _ {X M : Type 0} where
   weaker f g (stops v) h = f v h
   weaker f g (breaks r) h = g r h
 
-  -- whatever its value, no 3
+  -- a value
+  abbrev pub Stops : Out X M → Type 0
+  Stops = Outcome (λ v. Unit {0}) (λ r. ⊥)
+
+  -- a value, or a refusal but for 3
   abbrev pub Ended : Out X M → Type 0
   Ended = Outcome (λ v. Unit {0}) Other
 

@@ -1,4 +1,4 @@
--- Where the grammar says that bytes stand left of a spot, the machine stands at that spot after them. Assumes nothing.
+-- Where the grammar says that bytes stand left of a spot, the machine stands at that spot after them; so 7 is given. Assumes nothing.
 use Prim.Native.Nat.{ℕ, zero, suc}
 use mathlib.Core.Path.{_≡_, refl, sym, ap, _∙_, subst}
 use mathlib.Core.Bool.{true}

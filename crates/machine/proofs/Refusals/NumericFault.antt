@@ -22,7 +22,7 @@ use Rattle.machine.proofs.Numeric.{NumericItem, NumericRest, numeric-is
 use Rattle.machine.proofs.Numeric.Complete.{number-goes}
 use Rattle.machine.proofs.Numeric.CompleteTime.{time-goes}
 use Rattle.machine.proofs.Refusals.Reason.{Faulty, Reason}
-use Rattle.machine.proofs.Refusals.Items.{Outcome, number-ends, time-ends}
+use Rattle.machine.proofs.Refusals.Items.{Stops, number-ends, time-ends}
 use Rattle.machine.proofs.Refusals.Untaken.{Takes, any-byte, after-space}
 use Rattle.machine.proofs.Refusals.Bases.{val-left}
 use Rattle.machine.proofs.Refusals.Confs.{ItemAt, Next}
@@ -40,7 +40,6 @@ ends-at f Next.end = Ends.over
 
 -- the item, behind f, has come to s and breaks with r before the rest
 module _ (f : List ℕ) (d : ℕ) (left : Left d value f) (s : St) (b : ℕ) (tail : List ℕ) (r : Refusal) where
-  -- the item would end
   abbrev Any : Meaning → Type 0
   Any m = Unit {0}
 
@@ -56,10 +55,10 @@ module _ (f : List ℕ) (d : ℕ) (left : Left d value f) (s : St) (b : ℕ) (ta
     untaken y (Numeric.time-value z) = not-taken (goes-on b y x (time-ends z (length f)))
 
     no-number : (n : N.Number) → Number true a n → ⊥
-    no-number n y = subst (Outcome Any None) e (any-byte Any None (value-goes scan tt (number-goes y (length f))) x b not-taken)
+    no-number n y = subst Stops e (any-byte Any None (value-goes scan tt (number-goes y (length f))) x b not-taken)
 
     no-time : (t : T.Time) → Time-value true a t → ⊥
-    no-time t y = subst (Outcome Any None) e (any-byte Any None (value-goes scan tt (time-goes y (length f))) x b not-taken)
+    no-time t y = subst Stops e (any-byte Any None (value-goes scan tt (time-goes y (length f))) x b not-taken)
 
   faults : {a : List ℕ} {m : Meaning} → Taken false a m → Steps scan (length f) begin a s → scan (adv (length f) a) s b ≡ breaks r → Next b tail
       → Faulty (f ++ (a ++ tail))
@@ -67,7 +66,7 @@ module _ (f : List ℕ) (d : ℕ) (left : Left d value f) (s : St) (b : ℕ) (ta
   faults (Taken.item (NumericItem.time-value y)) x e n = (_, Item-fault.time left y (no-time x e) (ends-at (untaken x e) n))
   -- a date and a space
   faults (Taken.trailed {a = c} y) x e n =
-      let none : (t : T.Time) → Time-value true c t → ⊥ = λ t z. subst (Outcome Any None) e
+      let none : (t : T.Time) → Time-value true c t → ⊥ = λ t z. subst Stops e
       (after-space Any None (value-goes scan tt (time-goes z (length f))) x b (not-taken x e)) in
       rw (append-assoc c (letters " ") tail) (_, Item-fault.time left (Time-value.local-date y) none (Ends.space (ends-at (untaken x e) n)))
 

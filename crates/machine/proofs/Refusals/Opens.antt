@@ -1,4 +1,4 @@
--- At each configuration some bytes finish a text of the bare grammar. Assumes nothing.
+-- Where a value, a key, a part or what may follow is expected, some bytes finish a text of the bare grammar. Assumes nothing.
 use Prim.Native.Nat.{ℕ, suc}
 use mathlib.Core.Path.{_≡_, sym, subst}
 use mathlib.Core.Bool.{true, false}

@@ -1,4 +1,4 @@
--- From every state of a string part some bytes finish a part of the bare grammar. Assumes nothing.
+-- A string part from every state: what may still come without checks, what each byte does, and that some bytes finish a part. Assumes nothing.
 use Prim.Native.Nat.{ℕ, zero, suc, _+_, _*_, _≤_, _<_}
 use mathlib.Core.Path.{_≡_, refl, sym, _∙_, ap, subst}
 use mathlib.Core.Bool.{Bool, false, cond}
