@@ -26,7 +26,5 @@ pub mod Whole
 pub mod Lift
 -- Texts with their refusal or canonical text, computed.
 pub mod Vectors
--- How far a text that 3 refuses was hopeless.
-pub mod Hopeless
 -- Which of 3 to 7, and where, by the grammar alone.
 pub mod Refusals

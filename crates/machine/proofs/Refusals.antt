@@ -1,48 +1,63 @@
--- Which of 3 to 7 the machine refuses a text with, and where, by the grammar alone (specs/Refused). Assumes nothing.
+-- Which of 3 to 7 the machine refuses a text with, and where, by the grammar alone (grammar/specs/Refused); 1 and 2 in front.
+-- Read `Whole` first: its theorems say it all. Assumes nothing.
 
--- An item of the bare grammar is taken whole; then it ends, or its check fails.
-pub mod Items
--- A bare text is never refused with 3.
-pub mod Bare
--- Where the machine refuses.
-pub mod Split
--- With the byte that 3 names, the bytes begin no bare text.
-pub mod Hopeless
--- A number or a time value, a binary part, an identifier, from every state.
-pub mod Numbers
--- A string part, from every state.
-pub mod Strings
+-- Why the machine refuses: with 3, or an item of the text fails its check.
+pub mod Reason
+-- ---- an item of the bare grammar, its checks left out
+
 -- With checks implies without.
 pub mod Loose
--- What the bytes so far are, at each configuration.
-pub mod Forward
--- Each byte keeps it.
+-- The state of a string part after characters, as a function of their derivation.
+pub mod Chars
+-- An item is taken whole; then it ends, or its check fails.
+pub mod Items
+-- What a number or a time value does at a byte that it does not take.
+pub mod Untaken
+-- A text of the bare grammar is never refused with 3.
+pub mod Bare
+-- ---- from every state some bytes finish an item
+
+-- A number or a time value, a binary part, an identifier.
+pub mod Finishes
+-- A string part; and what each byte does to one.
+pub mod Parts
+-- ---- where the machine stands
+
+-- Where it refuses: at a byte, or at the text's end.
+pub mod Refuses
+-- What the bytes so far are, where a value, a key, a part or what may follow is expected.
+pub mod Bases
+-- What they are at each configuration; where it fails, why.
+pub mod Confs
+-- Binary parts, identifiers and words break with 3 only.
+pub mod Only
+-- 5 and 6, from the machine to the grammar.
+pub mod NumericFault
+-- 4, from the machine to the grammar.
+pub mod EscapeFault
+-- Each byte keeps what the bytes so far are; 7, from the machine to the grammar.
 pub mod Reached
--- At each configuration some bytes finish a bare text.
+-- ---- 3
+
+-- Where something is expected, some bytes finish a bare text.
 pub mod Opens
 -- What the machine lives after begins a bare text.
 pub mod Viable
 -- 3 is given where the text is stuck.
 pub mod Stuck
--- Where the grammar says that bytes stand left of a spot, there the machine stands.
-pub mod Lead
--- One place, and the theorem from what is left.
+-- A text is stuck at one place only, and nowhere if it is accepted.
 pub mod Once
--- What a number or a time value does at a byte that it does not take.
-pub mod Enders
--- 5 and 6.
-pub mod Numerals
--- What is refused but with 3 is a fault.
-pub mod Why
--- The same at the end, and the theorem from what is left.
-pub mod Faulty
--- 6, from the grammar to the machine.
-pub mod Given
--- 5, from the grammar to the machine.
-pub mod Hours
+-- ---- faults
+
+-- At the end too: every refusal has its reason.
+pub mod AtEnd
+-- Where the grammar says that bytes stand left of a spot, there the machine stands; 7, from the grammar to the machine.
+pub mod Left
+-- 5 and 6, from the grammar to the machine.
+pub mod NumericGiven
 -- 4, from the grammar to the machine.
 pub mod EscapeGiven
--- 4, from the machine to the grammar.
-pub mod Escapes
--- The theorem, with 1 and 2 in front.
+-- All four.
+pub mod Given
+-- ---- the theorem, with 1 and 2 in front
 pub mod Whole

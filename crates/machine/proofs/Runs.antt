@@ -1,8 +1,8 @@
 -- Runs of a scanner: complete forwards (`Goes`), sound backwards (`OutIs`, `accepted`). Assumes nothing.
 use Prim.Native.Nat.{ℕ, suc, _<_}
-use mathlib.Core.Path.{_≡_, refl, sym, subst}
-use mathlib.Core.Logic.{_⊎_, inl, inr}
-use mathlib.Core.List.{List, [], _∷_, _++_}
+use mathlib.Core.Path.{_≡_, refl, sym, _∙_, subst}
+use mathlib.Core.List.{List, [], _∷_, _++_, append-nil}
+use native.Mathlib.Omega.{arith}
 use Rattle.meaning.specs.Letters.{ch}
 use Rattle.grammar.specs.Comments.{Blank}
 use Rattle.machine.specs.Scan.{Out, takes, stops, breaks, over}
@@ -82,6 +82,15 @@ module _ {S M : Type 0} (scan : ℕ → S → ℕ → Out S M) where
   value-goes h (Goes.ends k) = GoesTo.ends (λ b e. value-halt h (k b e))
   value-goes h (Goes.goes k e) = GoesTo.goes (value-goes h k) e
 
+  -- a weaker outcome
+  halt-weaker : {Q R : Out S M → Type 0} → ((o : Out S M) → Q o → R o) → {p b : ℕ} {s : S} → HaltTo Q p s b → HaltTo R p s b
+  halt-weaker f {p} {b} {s} (HaltTo.here h) = HaltTo.here (f (scan p s b) h)
+  halt-weaker f (HaltTo.spaced {s' = t} e k) = HaltTo.spaced e (λ q c n. f (scan q t c) (k q c n))
+
+  pub goes-weaker : {Q R : Out S M → Type 0} → ((o : Out S M) → Q o → R o) → {F : ℕ → Type 0} {p : ℕ} {s : S} {a : List ℕ} → GoesTo Q F p s a → GoesTo R F p s a
+  goes-weaker f (GoesTo.ends k) = GoesTo.ends (λ b e. halt-weaker f (k b e))
+  goes-weaker f (GoesTo.goes k e) = GoesTo.goes (goes-weaker f k) e
+
   -- `Steps p s a s'`: from s the bytes a lead to s'
   pub data Steps : ℕ → S → List ℕ → S → Type 0 where
     stay : {p : ℕ} {s : S} → Steps p s [] s
@@ -102,9 +111,34 @@ module _ {S M : Type 0} (scan : ℕ → S → ℕ → Out S M) where
   steps-to Steps.stay y = y
   steps-to (Steps.eat x e) y = GoesTo.goes (steps-to x y) e
 
+  -- the bytes lead to one state only
+  pub taken-once : {x y : S} → _≡_ {A = Out S M} (takes x) (takes y) → x ≡ y
+  taken-once e = cc
+
+  pub goes-end : {Q : Out S M → Type 0} {F : ℕ → Type 0} {p : ℕ} {s s' : S} {a : List ℕ} → Steps p s a s' → GoesTo Q F p s a → GoesTo Q F (adv p a) s' []
+  goes-end Steps.stay g = g
+  goes-end {Q = Q} {F = F} (Steps.eat {p = p} {a = a} x e) (GoesTo.goes g f) = goes-end x (subst (λ (t : S). GoesTo Q F (suc p) t a) (taken-once (sym f ∙ e)) g)
+
+  -- and there the outcome is known, at the text's end
+  pub end-out : {Q : Out S M → Type 0} {F : ℕ → Type 0} {p : ℕ} {s : S} → F over → GoesTo Q F p s [] → Q (scan p s over)
+  end-out {Q} {F} {p} {s} f (GoesTo.ends h) = go (h over f) refl
+    where
+      go : {b : ℕ} → HaltTo Q p s b → b ≡ over → Q (scan p s over)
+      go (HaltTo.here x) e = subst (λ (b : ℕ). Q (scan p s b)) e x
+      go (HaltTo.spaced x k) e = absurd (omega arith)
+
 -- What an outcome says, of a relation `Rest s a v`: from s, the bytes a end the item with the value v.
 module _ {S M : Type 0} (Rest : S → List ℕ → M → Type 0) where
   abbrev pub OutIs : S → ℕ → Out S M → Type 0
   OutIs s b (takes s') = (a : List ℕ) (v : M) → Rest s' a v → Rest s (b ∷ a) v
   OutIs s b (stops v) = Rest s [] v
   OutIs s b (breaks r) = Unit {0}
+
+-- back over the bytes of a run, with bytes that are still to come
+module _ {S M : Type 0} (scan : ℕ → S → ℕ → Out S M) (Rest : S → List ℕ → M → Type 0) (is : (p : ℕ) (s : S) (b : ℕ) → OutIs Rest s b (scan p s b)) where
+  pub steps-with : {p : ℕ} {s s' : S} {a r : List ℕ} {v : M} → Steps scan p s a s' → Rest s' r v → Rest s (a ++ r) v
+  steps-with Steps.stay h = h
+  steps-with {r = r} {v = v} (Steps.eat {p = p} {b = b} {a = a} {s = s} x e) h = subst (OutIs Rest s b) e (is p s b) (a ++ r) v (steps-with x h)
+
+  pub steps-back : {p : ℕ} {s s' : S} {a : List ℕ} {v : M} → Steps scan p s a s' → Rest s' [] v → Rest s a v
+  steps-back {s = s} {a = a} {v = v} x h = subst (λ (l : List ℕ). Rest s l v) (append-nil a) (steps-with x h)

@@ -1,5 +1,5 @@
 -- What the scanner takes, the rules derive: each state, and the whole. Assumes nothing.
-use Prim.Native.Nat.{ℕ, zero, suc, _+_, _*_, _-_, _^_}
+use Prim.Native.Nat.{ℕ, zero, suc, _+_, _*_, _^_}
 use mathlib.Core.Path.{_≡_, refl, _∙_, ap, subst}
 use mathlib.Core.Bool.{Bool, true, false, cond, _&&_}
 use mathlib.Core.Logic.{_⊎_, inl, inr}
@@ -14,7 +14,7 @@ use Rattle.meaning.specs.declared.Date as D
 use Rattle.meaning.specs.declared.Time as T
 use Rattle.meaning.specs.declared.Time.the-variants.{LocalDate, LocalTime, LocalDateTime, OffsetDateTime}
 use Rattle.meaning.specs.declared.Refusal.{Refusal}
-use Rattle.meaning.specs.declared.Refusal.the-variants.{TextTooLong, NotUtf8, NotGrammar, BadEscape, BadTime, BadNumber, TooDeep, TapeTooShort, StoreTooShort, NotWellFormed, NoJsonForm, OutputTooShort, WrittenTooLong, NoSuchRecord}
+use Rattle.meaning.specs.declared.Refusal.the-variants.{NotGrammar, BadNumber}
 use Rattle.meaning.specs.Limits.{coefficientLimit}
 use Rattle.meaning.specs.Letters.{ch}
 use Rattle.meaning.specs.Clock.{timeOfDay}
@@ -83,41 +83,17 @@ module _ (ck : Bool) where
   Loose true P = Unit
   Loose false P = P
 
+  -- where the item breaks: with 3, or where it may end without checks
   abbrev pub Broke : Refusal → (List ℕ → Meaning → Type 0) → Type 0
-  Broke TextTooLong R = Unit {0}
-  Broke (NotUtf8 p) R = Unit {0}
-  Broke (NotGrammar p) R = Unit {0}
-  Broke (BadEscape p) R = Unit {0}
-  Broke (BadTime p) R = Loose ck ((t : T.Time) × R [] (Meaning.time t))
-  Broke (BadNumber p) R = Loose ck ((n : N.Number) × R [] (Meaning.number n))
-  Broke (TooDeep p) R = Unit {0}
-  Broke (TapeTooShort p) R = Unit {0}
-  Broke (StoreTooShort p) R = Unit {0}
-  Broke (NotWellFormed p) R = Unit {0}
-  Broke (NoJsonForm p) R = Unit {0}
-  Broke (OutputTooShort p) R = Unit {0}
-  Broke (WrittenTooLong p) R = Unit {0}
-  Broke (NoSuchRecord p) R = Unit {0}
+  Broke r R = ((q : ℕ) × (r ≡ NotGrammar q)) ⊎ Loose ck ((w : Meaning) × R [] w)
 
   loose-map : (k : Bool) {P Q : Type 0} → (P → Q) → Loose k P → Loose k Q
   loose-map true f h = tt
   loose-map false f h = f h
 
   broke-map : (r : Refusal) (R Q : List ℕ → Meaning → Type 0) → ((a : List ℕ) (w : Meaning) → R a w → Q a w) → Broke r R → Broke r Q
-  broke-map TextTooLong R Q f h = tt
-  broke-map (NotUtf8 p) R Q f h = tt
-  broke-map (NotGrammar p) R Q f h = tt
-  broke-map (BadEscape p) R Q f h = tt
-  broke-map (BadTime p) R Q f h = loose-map ck (λ x. (x .0, f [] (Meaning.time (x .0)) (x .1))) h
-  broke-map (BadNumber p) R Q f h = loose-map ck (λ x. (x .0, f [] (Meaning.number (x .0)) (x .1))) h
-  broke-map (TooDeep p) R Q f h = tt
-  broke-map (TapeTooShort p) R Q f h = tt
-  broke-map (StoreTooShort p) R Q f h = tt
-  broke-map (NotWellFormed p) R Q f h = tt
-  broke-map (NoJsonForm p) R Q f h = tt
-  broke-map (OutputTooShort p) R Q f h = tt
-  broke-map (WrittenTooLong p) R Q f h = tt
-  broke-map (NoSuchRecord p) R Q f h = tt
+  broke-map r R Q f (inl h) = inl h
+  broke-map r R Q f (inr h) = inr (loose-map ck (λ x. (x .0, f [] (x .0) (x .1))) h)
 
   -- what an outcome says, where R is what may still come before it
   abbrev From : (List ℕ → Meaning → Type 0) → ℕ → Res → Type 0
@@ -131,19 +107,19 @@ module _ (ck : Bool) where
   widen R Q f b (breaks r) h = broke-map r R Q f h
 
   settled : (R : List ℕ → Meaning → Type 0) (q : ℕ) (g : Bool) (m up dn b : ℕ) → ((w : Meaning) → Fin ck g m up dn w → R [] w) → From R b (settle q g m up dn)
-  settled R q g m up dn b f = settle-is q g m up dn (λ o. From R b o) (λ n h. f (Meaning.number n) (Fin.number (finite-by ck h))) (out-of ck f)
+  settled R q g m up dn b f = settle-is q g m up dn (λ o. From R b o) (λ n h. f (Meaning.number n) (Fin.number (finite-by ck h))) (inr (out-of ck f))
     where
-      out-of : (k : Bool) → ((w : Meaning) → Fin k g m up dn w → R [] w) → Loose k ((n : N.Number) × R [] (Meaning.number n))
+      out-of : (k : Bool) → ((w : Meaning) → Fin k g m up dn w → R [] w) → Loose k ((w : Meaning) × R [] w)
       out-of true f = tt
-      out-of false f = let x = some-finite g m up dn in (x .0, f (Meaning.number (x .0)) (Fin.number (x .1)))
+      out-of false f = let x = some-finite g m up dn in (Meaning.number (x .0), f (Meaning.number (x .0)) (Fin.number (x .1)))
 
   test-is : (R : List ℕ → Meaning → Type 0) (q b : ℕ) (ok : Bool) (t : T.Time) → (Checked ck (ok ≡ true) → R [] (Meaning.time t)) → From R b (tested q ok t)
   test-is R q b true t f = f (check ck refl)
-  test-is R q b false t f = out-of ck f
+  test-is R q b false t f = inr (out-of ck f)
     where
-      out-of : (k : Bool) → (Checked k (false ≡ true) → R [] (Meaning.time t)) → Loose k ((t : T.Time) × R [] (Meaning.time t))
+      out-of : (k : Bool) → (Checked k (false ≡ true) → R [] (Meaning.time t)) → Loose k ((w : Meaning) × R [] w)
       out-of true f = tt
-      out-of false f = (t, f tt)
+      out-of false f = (Meaning.time t, f tt)
 
   -- one byte, and then the state s
   only-is : (p b c : ℕ) (s : St) → From (Then c (NumericRest s)) b (only p c s b)
@@ -151,7 +127,7 @@ module _ (ck : Bool) where
     where
       go : (t : Bool) → eqb b c ≡ t → From (Then c (NumericRest s)) b (cond t (takes s) (breaks (NotGrammar p)))
       go true e = λ a w k. (a, cc (eqb-true b c e), k)
-      go false e = tt
+      go false e = inl (p, refl)
 
   -- ---- numbers
 
@@ -194,17 +170,17 @@ module _ (ck : Bool) where
 
     point-step : (p : ℕ) {b : ℕ} {c : S.Dg} → DgIs b c → From (PointRest ck g) b (S.onPoint p q g b c)
     point-step p {b} (DgIs.digit i) = λ a w h. Sound.point-digit ck g b a w i h
-    point-step p DgIs.other = tt
+    point-step p DgIs.other = inl (p, refl)
 
     exp-step : (p m f : ℕ) {b : ℕ} {c : S.ExpB} → ExpIs b c → From (PowerRest ck g m f) b (S.onExp p q g m f b c)
     exp-step p m f {b} (ExpIs.digit i) = λ a w h. ([], b ∷ a, false, refl, Sign.unsigned, (h .0, h .1, Digits.next (Digit.digit i) (h .2), h .3))
     exp-step p m f ExpIs.plus = λ a w h. (ch "+" ∷ [], a, false, refl, Sign.plus, h)
     exp-step p m f ExpIs.minus = λ a w h. (ch "-" ∷ [], a, true, refl, Sign.minus, h)
-    exp-step p m f ExpIs.other = tt
+    exp-step p m f ExpIs.other = inl (p, refl)
 
     sign-step : (p m f : ℕ) (s : Bool) {b : ℕ} {c : S.Dg} → DgIs b c → From (SignRest ck g m f s) b (S.onExpSign p q g m f s b c)
     sign-step p m f s (DgIs.digit i) = λ a w h. (h .0, h .1, Digits.next (Digit.digit i) (h .2), h .3)
-    sign-step p m f s DgIs.other = tt
+    sign-step p m f s DgIs.other = inl (p, refl)
 
     digits-step : (m f : ℕ) (s : Bool) (e : ℕ) {b : ℕ} {c : S.Dg} → DgIs b c → From (ExpDigitsRest ck g m f s e) b (S.onExpDigits q g m f s e b c)
     digits-step m f s e (DgIs.digit i) = λ a w h. (h .0, suc (h .1), Digits.next (Digit.digit i) (h .2), h .3)
@@ -212,7 +188,7 @@ module _ (ck : Bool) where
 
     mark-step : (p : ℕ) {b : ℕ} {c : S.HexB} → HexIs b c → From (MarkRest ck g) b (S.onHexMark p q g c)
     mark-step p (HexIs.value x) = λ a w h. (h .0, h .1, Digits.next x (h .2), h .3, h .4)
-    mark-step p HexIs.other = tt
+    mark-step p HexIs.other = inl (p, refl)
 
     hex-step : (v : ℕ) {b : ℕ} {c : S.HexB} → HexIs b c → From (HexRest ck g v) b (S.onHex q g v c)
     hex-step v (HexIs.value x) = λ a w h. (h .0, suc (h .1), Digits.next x (h .2), h .3, h .4)
@@ -220,21 +196,21 @@ module _ (ck : Bool) where
       where
         go : (t : Bool) → ltb v coefficientLimit ≡ t → From (HexRest ck g v) b (cond t (settle q g v 0 0) (breaks (BadNumber q)))
         go true e = settled (HexRest ck g v) q g v 0 0 b (λ w h. (v, 0, Digits.over, check ck (ltb-true v coefficientLimit e), h))
-        go false e = too-large ck
+        go false e = inr (too-large ck)
           where
-            too-large : (k : Bool) → Loose k ((n : N.Number) × HexRest k g v [] (Meaning.number n))
+            too-large : (k : Bool) → Loose k ((w : Meaning) × HexRest k g v [] w)
             too-large true = tt
-            too-large false = let x = some-finite g v 0 0 in (x .0, (v, 0, Digits.over, tt, Fin.number (x .1)))
+            too-large false = let x = some-finite g v 0 0 in (Meaning.number (x .0), (v, 0, Digits.over, tt, Fin.number (x .1)))
 
     after-sign : (p : ℕ) {b : ℕ} {c : S.Fst} → FstIs b c → From (Bare ck g) b (S.onSign p q g b c)
     after-sign p {b} (FstIs.digit i) = λ a w h. Sound.int-dec ck g b a w i h
     after-sign p FstIs.nought = λ a w h. Sound.nought-dec ck g a w h
-    after-sign p FstIs.plus = tt
-    after-sign p FstIs.minus = tt
+    after-sign p FstIs.plus = inl (p, refl)
+    after-sign p FstIs.minus = inl (p, refl)
     after-sign p FstIs.point = λ a w h. Sound.point-dec ck g a w h
     after-sign p FstIs.nIs = λ a w h. rw (h .0, ← h .1) (Bare.number Unsigned.nan)
     after-sign p FstIs.iIs = λ a w h. rw (h .0, ← h .1) (Bare.number Unsigned.inf)
-    after-sign p FstIs.other = tt
+    after-sign p FstIs.other = inl (p, refl)
 
   word-step : (p : ℕ) (l : List ℕ) (n : N.Number) (b : ℕ) → From (λ a w. (a ≡ l) × (Meaning.number n ≡ w)) b (scan p (word l n) b)
   word-step p [] n b = (refl, refl)
@@ -242,7 +218,7 @@ module _ (ck : Bool) where
     where
       go : (t : Bool) → eqb b c ≡ t → From (λ a w. (a ≡ c ∷ l) × (Meaning.number n ≡ w)) b (cond t (takes (word l n)) (breaks (NotGrammar p)))
       go true e = λ a w h. (cc (eqb-true b c e, h .0), h .1)
-      go false e = tt
+      go false e = inl (p, refl)
 
   -- ---- times
 
@@ -282,7 +258,7 @@ module _ (ck : Bool) where
 
       sec-point-step : (p : ℕ) {b : ℕ} {k : S.Dg} → DgIs b k → From (SecPointRest ck c h m s) b (S.onSecPoint p q c h m s b k)
       sec-point-step p {b} (DgIs.digit i) = λ a w k. (b, a, refl, i, k)
-      sec-point-step p DgIs.other = tt
+      sec-point-step p DgIs.other = inl (p, refl)
 
       nanos-zone : (j v : ℕ) {b : ℕ} {k : S.Sec} → SecIs b k → From (NanosRest ck c h m s j v) b (onZone q c h m s (v * 10 ^ j) k)
       nanos-zone j v {b} {k} i = widen (EndRest ck c h m s (v * 10 ^ j)) (NanosRest ck c h m s j v) (λ a w e. ([], a, v * 10 ^ j, refl, Fraction.over, e)) b (onZone q c h m s (v * 10 ^ j) k) (zone-step c h m s (v * 10 ^ j) i)
@@ -322,7 +298,7 @@ module _ (ck : Bool) where
 
     field-step : (p : ℕ) (l : Slot) (n v : ℕ) {b : ℕ} {k : S.Dg} → DgIs b k → From (FieldRest (suc n) v (SlotRest ck l)) b (S.onField p q l n v b k)
     field-step p l n v {b} (DgIs.digit i) = λ a w k. field-digit n v b (SlotRest ck l) a w i k
-    field-step p l n v DgIs.other = tt
+    field-step p l n v DgIs.other = inl (p, refl)
 
     zulu-step : (d : D.Date) (h m s n b : ℕ) → From (NumericRest (zulu q d h m s n)) b (tested q (okDate d && okClock h m s) (OffsetDateTime d (timeOfDay h m s n) (pos 0)))
     zulu-step d h m s n b = test-is (NumericRest (zulu q d h m s n)) q b (okDate d && okClock h m s) (OffsetDateTime d (timeOfDay h m s n) (pos 0)) (λ e. let k = and-checked ck _ _ e in (refl, k .0, k .1, refl))
@@ -332,9 +308,9 @@ module _ (ck : Bool) where
     as-number : (p : ℕ) (k : Len) (z : Bool) (v : ℕ) {b : ℕ} {c : S.Num} → NumIs b c → From (NumericRest (both q k z v)) b (S.asNumber p q k z v b c)
     as-number p k false v {b} {c} i = widen (IntRest ck false v) (NumericRest (both q k false v)) (λ a w h. inl h) b (S.onInt q false v b c) (int-step q false v i)
     as-number p d1 true v {b} {c} i = widen (NoughtRest ck false) (NumericRest (both q d1 true v)) (λ a w h. inl h) b (S.onNought q false c) (nought-step q false i)
-    as-number p d2 true v i = tt
-    as-number p d3 true v i = tt
-    as-number p d4 true v i = tt
+    as-number p d2 true v i = inl (p, refl)
+    as-number p d3 true v i = inl (p, refl)
+    as-number p d4 true v i = inl (p, refl)
 
     digit-2 : (z : Bool) (v b : ℕ) → Decimal-digit b → (a : List ℕ) (w : Meaning) → NumericRest (both q d2 z (dig v b)) a w → NumericRest (both q d1 z v) (b ∷ a) w
     digit-2 false v b i a w (inl h) = inl (Sound.int-digit ck false v b a w i h)
@@ -408,7 +384,7 @@ module _ (ck : Bool) where
   begin-step p FstIs.point = λ a w h. bare (Sound.point-dec ck false a w h)
   begin-step p FstIs.nIs = λ a w h. rw (h .0, ← h .1) (bare (Bare.number Unsigned.nan))
   begin-step p FstIs.iIs = λ a w h. rw (h .0, ← h .1) (bare (Bare.number Unsigned.inf))
-  begin-step p FstIs.other = tt
+  begin-step p FstIs.other = inl (p, refl)
 
   scan-is : (p : ℕ) (s : St) (b : ℕ) → From (NumericRest s) b (scan p s b)
   scan-is p begin b = begin-step p (fst-class b)

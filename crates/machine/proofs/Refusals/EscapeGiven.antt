@@ -1,127 +1,48 @@
 -- 4, from the grammar to the machine: a part that closes, good up to a backslash behind which no good escape stands, is refused there.
--- What a string part's state is after characters of the bare grammar; its first bad escape stays. Assumes nothing.
+-- Assumes nothing.
 use Prim.Native.Nat.{ℕ, suc, _+_, _≤_, _<_}
 use mathlib.Core.Path.{_≡_, refl, sym, ap, _∙_, subst}
 use mathlib.Core.Bool.{Bool, true, false}
-use mathlib.Core.Logic.{inl, inr}
-use mathlib.Core.List.{List, [], _∷_, _++_, append-assoc, append-nil}
+use mathlib.Core.Logic.{_⊎_, inl, inr}
+use mathlib.Core.List.{List, [], _∷_, _++_, append-assoc}
 use native.Mathlib.Omega.{arith}
 use native.Mathlib.Decide.{decLt}
 use lib.Dec.{ltb, leb}
 use lib.ListN.{length}
-use borrow.Author.Tests.{eq-eqb, ne-eqb, lt-ltb, le-ltb}
-use Rattle.rules.specs.Rfc3629.{In, Scalar, encode}
-use Rattle.rules.proofs.Characters.{Each, all-none, all-more}
+use borrow.Author.Tests.{lt-ltb, le-ltb}
+use Rattle.rules.specs.Rfc3629.{In, Scalar}
+use Rattle.rules.proofs.Characters.{same-head}
 use Rattle.meaning.specs.declared.Refusal.the-variants.{BadEscape}
 use Rattle.meaning.specs.Letters.{letters, ch}
-use Rattle.grammar.specs.Characters.{Among, Digits, Hexadecimal}
-use Rattle.grammar.specs.Strings.{Quote, mark, other, Chars, Escape, unescaped}
+use Rattle.grammar.specs.Characters.{Among, Hexadecimal}
+use Rattle.grammar.specs.Strings.{Quote, mark, other, Chars, Escape}
 use Rattle.grammar.specs.Values.{elements, members}
-use Rattle.machine.specs.Scan.{Out, takes}
+use Rattle.machine.specs.Scan.{Out}
 use Rattle.machine.specs.Machine
 use Rattle.machine.specs.Machine.{Use, Got, Base, base, item, Frame, inside, read, lift, onOut, No, reading}
 use Rattle.machine.specs.Strings as S
-use Rattle.machine.specs.Strings.{St, Ctx, Half, Bad, mk, give, wait, blame, badNow, lost, first, scan, begin, one, body, esc, done, fine, spoilt, whole, half}
-use Rattle.grammar.specs.Refused.{Spot, value, part, among}
-use Rattle.machine.proofs.Runs.{adv, Steps, eats, steps-join}
+use Rattle.machine.specs.Strings.{St, Ctx, Half, Bad, give, wait, blame, badNow, lost, first, scan, begin, done, spoilt, fine, whole, half}
+use Rattle.grammar.specs.Refused.{Spot, value, part, among, Left}
+use Rattle.machine.proofs.Runs.{adv, Steps}
 use Rattle.machine.proofs.Complete.{begun, StartsString, starts-string, quote-class}
 use Rattle.machine.proofs.Whole.{absorbing}
-use Rattle.machine.proofs.Strings.Raw.{Plain}
-use Rattle.machine.proofs.Strings.Quotes.{between-other}
-use Rattle.machine.proofs.Strings.Tests.{by-ltb, by-leb, short-of}
+use Rattle.machine.proofs.Strings.Tests.{either, by-ltb, by-leb}
 use Rattle.machine.proofs.Strings.Back.{four-small}
-use Rattle.machine.proofs.Strings.Forward.{First, first-of, encode-some, uni-steps, brace-step, brace-steps, back-step, plain-each, chars-steps, one-step, no-slash, start-step, clear}
-use Rattle.machine.proofs.Refusals.Items.{either, unit-quote, braces-quote, plain-bare}
-use Rattle.machine.proofs.Refusals.Lead.{Stood, left-stood}
-use Rattle.machine.proofs.Refusals.Split.{init, adv-length}
-use Rattle.machine.proofs.Refusals.Faulty.{Escape-given}
-
--- the characters of a part of one line, with the checks or without
-abbrev pub CharsOf : Bool → Quote → List ℕ → List ℕ → Type 0
-CharsOf k q a u = Chars (Among unescaped) (Escape k) q a u
-
--- ---- the state after characters of the bare grammar
-
--- after an escape whose backslash stands at this place
-abbrev pub escape-ctx : {k : Bool} {e v : List ℕ} → Escape k e v → ℕ → Ctx → Ctx
-escape-ctx (Escape.short {c = x} y) at c = give c (encode x)
-escape-ctx (Escape.unit {n = n} x s) at c = S.unit c at n (c .high)
-escape-ctx (Escape.pair {a = a} {high = h} {low = l} x i y j) at c = let d = S.unit c at h (c .high) in S.unit d (adv (suc (suc at)) a) l (d .high)
-escape-ctx (Escape.braced {n = n} x s) at c = S.inBraces c at n
-
--- after characters the first of which stands at this place
-abbrev pub chars-ctx : {k : Bool} {q : Quote} {a u : List ℕ} → CharsOf k q a u → ℕ → Ctx → Ctx
-chars-ctx Chars.none p c = c
-chars-ctx (Chars.plain {c = b} x y) p c = chars-ctx y (adv p b) (give c b)
-chars-ctx (Chars.escaped {e = e} x y) p c = chars-ctx y (adv (suc p) e) (escape-ctx x p c)
-chars-ctx {q = q} (Chars.other-quote y) p c = chars-ctx y (suc p) (give c (mark (other q) ∷ []))
-
-pub escape-ctx-quote : {k : Bool} {e v : List ℕ} (x : Escape k e v) (at : ℕ) (c : Ctx) → escape-ctx x at c .quote ≡ c .quote
-escape-ctx-quote (Escape.short y) at c = refl
-escape-ctx-quote (Escape.unit {n = n} x s) at c = unit-quote c at n (c .high)
-escape-ctx-quote (Escape.pair {a = a} {high = h} {low = l} x i y j) at c =
-    let d = S.unit c at h (c .high) in unit-quote d (adv (suc (suc at)) a) l (d .high) ∙ unit-quote c at h (c .high)
-escape-ctx-quote (Escape.braced {n = n} x s) at c = braces-quote c at n
-
-pub chars-ctx-quote : {k : Bool} {q : Quote} {a u : List ℕ} (x : CharsOf k q a u) (p : ℕ) (c : Ctx) → chars-ctx x p c .quote ≡ c .quote
-chars-ctx-quote Chars.none p c = refl
-chars-ctx-quote (Chars.plain {c = b} x y) p c = chars-ctx-quote y (adv p b) (give c b)
-chars-ctx-quote (Chars.escaped {e = e} x y) p c = chars-ctx-quote y (adv (suc p) e) (escape-ctx x p c) ∙ escape-ctx-quote x p c
-chars-ctx-quote {q = q} (Chars.other-quote y) p c = chars-ctx-quote y (suc p) (give c (mark (other q) ∷ []))
-
--- ---- the machine comes to it
-
-pub escape-run : {k : Bool} {e v : List ℕ} (x : Escape k e v) (at : ℕ) (c : Ctx) → Steps scan (suc at) (esc c at) e (body (escape-ctx x at c))
-unfolding scan S.onShort
-escape-run (Escape.short {b = b} {c = x} y) at c =
-    let u = short-of y in eats scan Steps.stay (rw (ne-eqb b 0x75 (u .1 .no-u), u .0, lt-ltb x 256 (omega arith)))
-escape-run (Escape.unit x s) at c = eats scan (uni-steps x (suc (suc at)) c at _ refl) refl
-escape-run (Escape.pair {a = a} {high = h} x i y j) at c =
-    let q = adv (suc (suc at)) a in
-    let d = S.unit c at h (c .high) in
-    let low = eats scan (eats scan (uni-steps y (suc (suc q)) d q _ refl) refl) (back-step q d) in
-    eats scan (steps-join scan (uni-steps x (suc (suc at)) c at d refl) low) refl
-escape-run (Escape.braced (Digits.next h x) s) at c =
-    let p = suc (suc (suc at)) in
-    eats scan (eats scan (eats scan (steps-join scan (brace-steps x (suc p) c at) (eats scan Steps.stay refl)) (brace-step h p c at 0)) refl) refl
-
--- plain bytes where no high surrogate waits
-plains-run : {q : ℕ} {a : List ℕ} → Each (Plain q) a → (p j : ℕ) (z : Bad) (acc : List ℕ) → j ≡ q
-    → Steps scan p (body (mk j z whole acc)) a (body (mk j z whole (acc ++ a)))
-plains-run all-none p j z acc e = rw append-nil Steps.stay
-plains-run (all-more {b = b} x y) p j z acc e =
-    eats scan (rw append-assoc at (plains-run y (suc p) j z (acc ++ (b ∷ [])) e)) (plain-bare x p (mk j z whole acc) e)
-
--- the bytes of a plain character, from any state
-plain-run : {q : ℕ} {a : List ℕ} → First (Plain q) a → (p : ℕ) (c : Ctx) → c .quote ≡ q → Steps scan p (body c) a (body (give c a))
-plain-run f p c e =
-    let more = plains-run (f .all) (suc p) (c .quote) (badNow c) (c .acc ++ (f .byte ∷ [])) e in
-    rw (f .is) (eats scan (rw append-assoc at more) (plain-bare (f .has) p c e))
-
-pub chars-run : {k : Bool} {q : Quote} {a u : List ℕ} (x : CharsOf k q a u) (p : ℕ) (c : Ctx) → c .quote ≡ mark q
-    → Steps scan p (body c) a (body (chars-ctx x p c))
-chars-run Chars.none p c e = Steps.stay
-chars-run {q = q} (Chars.plain (Among.character {n = n} s o) y) p c e =
-    steps-join scan (plain-run (first-of (plain-each q n s o) (encode-some n s)) p c e) (chars-run y (adv p (encode n)) (give c (encode n)) e)
-chars-run (Chars.escaped {e = b} x y) p c e =
-    eats scan (steps-join scan (escape-run x p c) (chars-run y (adv (suc p) b) (escape-ctx x p c) (escape-ctx-quote x p c ∙ e))) (back-step p c)
-chars-run {q = q} (Chars.other-quote y) p c e =
-    eats scan (chars-run y (suc p) (give c (mark (other q) ∷ [])) e) (plain-bare (between-other q 0xFF (omega arith)) p c e)
+use Rattle.machine.proofs.Strings.Forward.{first-of, encode-some, plain-each, no-slash, clear}
+use Rattle.machine.proofs.Refusals.Chars.{CharsOf, No-escape, Low, escape-ctx, chars-ctx, first-char, Not-first, part-run}
+use Rattle.machine.proofs.Refusals.Left.{Stood, left-stood}
+use Rattle.machine.proofs.Refusals.Refuses.{init, adv-length}
 
 -- ---- a bad escape stays
 
--- the escape of a low surrogate comes next
-pub data Low-next : List ℕ → Type 0 where
-  low-next : {d : List ℕ} {w : ℕ} (r : List ℕ) → Hexadecimal 4 d w → In 0xDC00 0xDFFF w → Low-next (ch "\\" ∷ ((ch "u" ∷ d) ++ r))
-
 -- before the bytes a the first bad escape is the one at this backslash: it is known, or a high surrogate that its low one does not follow
-pub record Spoilt (at : ℕ) (c : Ctx) (a : List ℕ) : Type 0 where
-  pub now : badNow c ≡ spoilt at
-  pub known : Low-next a → c .bad ≡ spoilt at
+record Spoilt (at : ℕ) (c : Ctx) (a : List ℕ) : Type 0 where
+  now : badNow c ≡ spoilt at
+  known : (t : List ℕ) → Low a t → c .bad ≡ spoilt at
 
 module _ (at : ℕ) where
   -- the bad escape that is known is the one at this backslash
-  abbrev pub Known : Ctx → Type 0
+  abbrev Known : Ctx → Type 0
   Known c = c .bad ≡ spoilt at
 
   first-stays : (p : ℕ) {z : Bad} → z ≡ spoilt at → first z p ≡ spoilt at
@@ -131,11 +52,11 @@ module _ (at : ℕ) where
   lost-stays whole e = e
   lost-stays (half p w) e = first-stays p e
 
-  pub known-now : (c : Ctx) → Known c → badNow c ≡ spoilt at
+  known-now : (c : Ctx) → Known c → badNow c ≡ spoilt at
   known-now c e = lost-stays (c .high) e
 
-  pub known-spoilt : (c : Ctx) → Known c → (a : List ℕ) → Spoilt at c a
-  known-spoilt c e a = record { now = known-now c e; known = λ l. e }
+  known-spoilt : (c : Ctx) → Known c → (a : List ℕ) → Spoilt at c a
+  known-spoilt c e a = record { now = known-now c e; known = λ t l. e }
 
   alone-known : (c : Ctx) (p w : ℕ) → badNow c ≡ spoilt at → Known (S.alone c p w)
   unfolding S.alone
@@ -153,9 +74,10 @@ module _ (at : ℕ) where
       by-ltb Known w 0xDC00 _ _ (λ l. alone-known c p w e) λ l. by-ltb Known w 0xE000 _ _ (λ m. f (omega arith)) (λ m. alone-known c p w e)
 
   -- after an escape it is known
-  pub escape-known : {k : Bool} {e v : List ℕ} (x : Escape k e v) (a : List ℕ) (p : ℕ) (c : Ctx) → Spoilt at c (ch "\\" ∷ (e ++ a)) → Known (escape-ctx x p c)
+  escape-known : {k : Bool} {e v : List ℕ} (x : Escape k e v) (a : List ℕ) (p : ℕ) (c : Ctx) → Spoilt at c (ch "\\" ∷ (e ++ a)) → Known (escape-ctx x p c)
   escape-known (Escape.short y) a p c h = h .now
-  escape-known (Escape.unit {n = n} x s) a p c h = unit-known c p n (c .high) (h .now) (λ i. h .known (Low-next.low-next a x i))
+  escape-known (Escape.unit {a = b} {n = n} x s) a p c h =
+      unit-known c p n (c .high) (h .now) (λ i. h .known a (record { digits = b; number = n; is = refl; hexes = x; low = i }))
   escape-known (Escape.pair {a = b} {high = w} {low = l} x i y j) a p c h =
       let d = S.unit c p w (c .high) in
       let e = unit-known c p w (c .high) (h .now) (λ m. absurd (omega arith)) in
@@ -163,7 +85,7 @@ module _ (at : ℕ) where
   escape-known (Escape.braced {n = n} x s) a p c h = braces-known c p n (h .now)
 
   -- and what is known stays
-  pub known-stays : {k : Bool} {q : Quote} {a u : List ℕ} (x : CharsOf k q a u) (p : ℕ) (c : Ctx) → Known c → Known (chars-ctx x p c)
+  known-stays : {k : Bool} {q : Quote} {a u : List ℕ} (x : CharsOf k q a u) (p : ℕ) (c : Ctx) → Known c → Known (chars-ctx x p c)
   known-stays Chars.none p c h = h
   known-stays (Chars.plain {c = b} x y) p c h = known-stays y (adv p b) (give c b) (known-now c h)
   known-stays (Chars.escaped {e = e} {a = a} x y) p c h = known-stays y (adv (suc p) e) (escape-ctx x p c) (escape-known x a p c (known-spoilt c h _))
@@ -173,17 +95,13 @@ module _ (at : ℕ) where
   now-stays x p c h = known-now (chars-ctx x p c) (known-stays x p c h)
 
   -- characters that come after the first bad escape leave it so
-  pub spoilt-stays : {k : Bool} {q : Quote} {a u : List ℕ} (x : CharsOf k q a u) (p : ℕ) (c : Ctx) → Spoilt at c a → badNow (chars-ctx x p c) ≡ spoilt at
+  spoilt-stays : {k : Bool} {q : Quote} {a u : List ℕ} (x : CharsOf k q a u) (p : ℕ) (c : Ctx) → Spoilt at c a → badNow (chars-ctx x p c) ≡ spoilt at
   spoilt-stays Chars.none p c h = h .now
   spoilt-stays (Chars.plain {c = b} x y) p c h = now-stays y (adv p b) (give c b) (h .now)
   spoilt-stays (Chars.escaped {e = e} {a = a} x y) p c h = now-stays y (adv (suc p) e) (escape-ctx x p c) (escape-known x a p c h)
   spoilt-stays {q = q} (Chars.other-quote y) p c h = now-stays y (suc p) (give c (mark (other q) ∷ [])) (h .now)
 
 -- ---- the first bad escape
-
--- no good escape begins these bytes
-abbrev pub No-escape : List ℕ → Type 0
-No-escape b = (e c w : List ℕ) → b ≡ e ++ c → Escape true e w → ⊥
 
 surrogate : {n : ℕ} → n ≤ 0x10FFFF → (Scalar n → ⊥) → In 0xD800 0xDFFF n
 surrogate {n} h f = go (decLt n 0xD800) (decLt 0xDFFF n)
@@ -212,9 +130,11 @@ braces-bad {w} f c at =
     P k = k ≡ blame c at
 
 -- a high surrogate and its low one next are a good escape
-pair-behind : {d a : List ℕ} {n : ℕ} → Hexadecimal 4 d n → In 0xD800 0xDBFF n → Low-next a → No-escape ((ch "u" ∷ d) ++ a) → ⊥
-pair-behind {d} x i (Low-next.low-next {d = b} r y j) lacks =
-    lacks (ch "u" ∷ (d ++ (letters "\\u" ++ b))) r _ (ap (λ (z : List ℕ). ch "u" ∷ z) (sym (append-assoc d (letters "\\u" ++ b) r))) (Escape.pair x i y j)
+pair-behind : {d a t : List ℕ} {n : ℕ} → Hexadecimal 4 d n → In 0xD800 0xDBFF n → Low a t → No-escape ((ch "u" ∷ d) ++ a) → ⊥
+pair-behind {d} {a} {t} x i l lacks =
+    let b = letters "\\u" ++ l .digits in
+    let e : d ++ a ≡ (d ++ b) ++ t = ap (λ (z : List ℕ). d ++ z) (l .is) ∙ sym (append-assoc d b t) in
+    lacks (ch "u" ∷ (d ++ b)) t _ (ap (λ (z : List ℕ). ch "u" ∷ z) e) (Escape.pair x i (l .hexes) (l .low))
 
 -- a surrogate by itself: a low one is blamed at once, a high one waits
 unit-bad : {d : List ℕ} {n : ℕ} → Hexadecimal 4 d n → In 0xD800 0xDFFF n → (a : List ℕ) → No-escape ((ch "u" ∷ d) ++ a)
@@ -224,11 +144,11 @@ unit-bad {n = n} x s a lacks at c e = go (decLt n 0xDC00)
     go : Dec (n < 0xDC00) → Spoilt at (S.alone c at n) a
     go (yes h) =
         let i : In 0xD800 0xDBFF n = omega arith in
-        rw (alone-high i c at) (record { now = ap (λ (z : Bad). first z at) e; known = λ l. absurd (pair-behind x i l lacks) })
+        rw (alone-high i c at) (record { now = ap (λ (z : Bad). first z at) e; known = λ t l. absurd (pair-behind x i l lacks) })
     go (no h) = rw (alone-low {w = n} (omega arith) c at) (known-spoilt at (blame c at) (ap (λ (z : Bad). first z at) e) a)
 
 -- where no escape was bad before it, an escape of the bare grammar that is no good one is the first bad one
-pub first-bad : {e v : List ℕ} (x : Escape false e v) (a : List ℕ) → No-escape (e ++ a) → (at j : ℕ) (acc : List ℕ)
+first-bad : {e v : List ℕ} (x : Escape false e v) (a : List ℕ) → No-escape (e ++ a) → (at j : ℕ) (acc : List ℕ)
     → Spoilt at (escape-ctx x at (clear j acc)) a
 unfolding S.unit
 first-bad (Escape.short y) a lacks at j acc = absurd (lacks _ a _ refl (Escape.short y))
@@ -239,54 +159,28 @@ first-bad (Escape.braced x s) a lacks at j acc =
     rw (braces-bad (λ t. lacks _ a _ refl (Escape.braced x t)) (clear j acc) at) (known-spoilt at (blame (clear j acc) at) refl a)
 
 -- characters of the bare grammar that begin with a backslash, behind which no good escape stands
-pub chars-bad : {q : Quote} {x v : List ℕ} (y : CharsOf false q x v) (b : List ℕ) → x ≡ ch "\\" ∷ b → No-escape b → (p j : ℕ) (acc : List ℕ)
+chars-bad : {q : Quote} {x v : List ℕ} (y : CharsOf false q x v) (b : List ℕ) → x ≡ ch "\\" ∷ b → No-escape b → (p j : ℕ) (acc : List ℕ)
     → badNow (chars-ctx y p (clear j acc)) ≡ spoilt p
 chars-bad Chars.none b e lacks p j acc = absurd (let z : _≡_ {A = ℕ} 0 1 = cc in omega arith)
 chars-bad {q = q} (Chars.plain {a = a} (Among.character {n = n} s o) y) b e lacks p j acc =
     let f = first-of (plain-each q n s o) (encode-some n s) in
-    absurd (f .has .no-back (head (ap (λ (z : List ℕ). z ++ a) (sym (f .is)) ∙ e)))
-  where
-    head : {m n : ℕ} {x y : List ℕ} → m ∷ x ≡ n ∷ y → m ≡ n
-    head h = cc
+    absurd (f .has .no-back (same-head (ap (λ (z : List ℕ). z ++ a) (sym (f .is)) ∙ e)))
 chars-bad (Chars.escaped {e = d} {a = a} x y) b e lacks p j acc =
     let i : b ≡ d ++ a = cc in
     spoilt-stays p y (adv (suc p) d) (escape-ctx x p (clear j acc)) (first-bad x a (subst No-escape i lacks) p j acc)
 chars-bad {q = q} (Chars.other-quote y) b e lacks p j acc = absurd (no-slash (other q) (let i : mark (other q) ≡ ch "\\" = cc in sym i))
 
--- ---- the part
-
--- the first byte is there, and is another
-abbrev pub Not-first : ℕ → List ℕ → Type 0
-Not-first q [] = ⊥
-Not-first q (b ∷ l) = b ≡ q → ⊥
-
-not-closed : {k : Bool} {q : Quote} {a u : List ℕ} → CharsOf k q a u → (b : List ℕ) → Not-first (mark q) (a ++ (ch "\\" ∷ b))
-not-closed {q = q} Chars.none b = no-slash q
-not-closed {q = q} (Chars.plain (Among.character {n = n} s o) y) b = let f = first-of (plain-each q n s o) (encode-some n s) in rw (f .is) (f .has .no-end)
-not-closed {q = q} (Chars.escaped x y) b = no-slash q
-not-closed {q = q} (Chars.other-quote y) b = between-other q 0xFF (omega arith) .no-end
-
-one-run : {q p : ℕ} {t : St} (l : List ℕ) → Not-first q l → Steps scan p (body (clear q [])) l t → Steps scan p (one q) l t
-one-run [] h x = absurd h
-one-run {p = p} (b ∷ l) h (Steps.eat x e) = eats scan x (one-step h p ∙ e)
-
-shut-step : (q : Quote) (p : ℕ) (c : Ctx) → c .quote ≡ mark q → scan p (body c) (mark q) ≡ takes (done c)
-unfolding scan S.onBody
-shut-step q p c e = rw (e, ne-eqb (mark q) 0x5C (λ f. no-slash q (sym f)), eq-eqb (mark q) (mark q) refl)
-
--- good characters, then bare ones: the state where the part closes
-pub part-run : {q : Quote} {a u x v : List ℕ} → CharsOf true q a u → (y : CharsOf false q x v) → Not-first (mark q) (a ++ x)
-    → (p : ℕ) → Steps scan p begin (mark q ∷ ((a ++ x) ++ (mark q ∷ []))) (done (chars-ctx y (adv (suc p) a) (clear (mark q) u)))
-part-run {q} {a} {u} {x} w y n p =
-    let i = adv (suc p) a in
-    let c = clear (mark q) u in
-    eats scan (steps-join scan (one-run (a ++ x) n (steps-join scan (chars-steps w (suc p) []) (chars-run y i c refl)))
-    (eats scan Steps.stay (shut-step q (adv (suc p) (a ++ x)) (chars-ctx y i c) (chars-ctx-quote y i c)))) (start-step q p)
-
 -- ---- the run
 
+not-closed : {q : Quote} {a u : List ℕ} → CharsOf true q a u → (b : List ℕ) → Not-first (mark q) (a ++ (ch "\\" ∷ b))
+not-closed {q} {a} x b = go (first-char x)
+  where
+    go : (a ≡ []) ⊎ ((b : List ℕ) → Not-first (mark q) (a ++ b)) → Not-first (mark q) (a ++ (ch "\\" ∷ b))
+    go (inl e) = rw e (no-slash q)
+    go (inr f) = f (ch "\\" ∷ b)
+
 -- the bytes of a string part that lead from one state to another
-pub part-read : {p : ℕ} {s s' : St} {a : List ℕ} → Steps scan p s a s' → (z : Use) (v : List ℕ) (d : ℕ) (k : List Frame) (r : List ℕ)
+part-read : {p : ℕ} {s s' : St} {a : List ℕ} → Steps scan p s a s' → (z : Use) (v : List ℕ) (d : ℕ) (k : List Frame) (r : List ℕ)
     → read p (Machine.at (item (Machine.string-part z v s)) d k) (a ++ r) ≡ read (adv p a) (Machine.at (item (Machine.string-part z v s')) d k) r
 unfolding read
 part-read Steps.stay z v d k r = refl
@@ -295,7 +189,7 @@ part-read (Steps.eat {p = p} {b = b} {a = a} x e) z v d k r =
     ∙ part-read x z v d k r
 
 -- a part that has closed with a bad escape in it: 4, whatever follows
-pub done-read : (at : ℕ) (c : Ctx) → badNow c ≡ spoilt at → (p : ℕ) (z : Use) (v : List ℕ) (d : ℕ) (k : List Frame) (r : List ℕ)
+done-read : (at : ℕ) (c : Ctx) → badNow c ≡ spoilt at → (p : ℕ) (z : Use) (v : List ℕ) (d : ℕ) (k : List Frame) (r : List ℕ)
     → read p (Machine.at (item (Machine.string-part z v (done c))) d k) r ≡ No (BadEscape at)
 unfolding read scan
 done-read at c e p z v d k [] = rw e
@@ -310,14 +204,16 @@ bad-part {z} {s} {w} i {a} {u} {b} q x y lacks p d k r =
     let c = chars-ctx y j (clear (mark q) u) in
     begun p d k s (mark q) _ _ (starts-string i p d k (mark q) (quote-class q))
     ∙ ap (λ (t : List ℕ). read p (Machine.at (item (Machine.string-part z w begin)) d k) (mark q ∷ t)) (respelt a b (mark q ∷ []) r)
-    ∙ part-read (part-run x y (not-closed x b) p) z w d k r
-    ∙ done-read j c (chars-bad y b refl lacks j (mark q) u) (adv (suc p) ((a ++ (ch "\\" ∷ b)) ++ (mark q ∷ []))) z w d k r
+    ∙ part-read (part-run x y (not-closed x (b ++ (mark q ∷ []))) p) z w d k r
+    ∙ done-read j c (chars-bad y b refl lacks j (mark q) u) (adv (suc p) (a ++ (ch "\\" ∷ (b ++ (mark q ∷ []))))) z w d k r
   where
-    respelt : (a b m r : List ℕ) → a ++ (ch "\\" ∷ (b ++ (m ++ r))) ≡ ((a ++ (ch "\\" ∷ b)) ++ m) ++ r
-    respelt a b m r = sym (append-assoc (a ++ (ch "\\" ∷ b)) m r ∙ append-assoc a (ch "\\" ∷ b) (m ++ r))
+    respelt : (a b m r : List ℕ) → a ++ (ch "\\" ∷ (b ++ (m ++ r))) ≡ (a ++ (ch "\\" ∷ (b ++ m))) ++ r
+    respelt a b m r = simp append-assoc
 
 -- 4 is given at that backslash
-pub escape-given : Escape-given
+pub escape-given : (d : ℕ) (s : Spot) (l a u b v : List ℕ) (q : Quote) (r : List ℕ) → Left d s l → CharsOf true q a u → CharsOf false q (ch "\\" ∷ b) v
+    → No-escape b
+    → reading (l ++ (mark q ∷ (a ++ (ch "\\" ∷ (b ++ (mark q ∷ r)))))) ≡ No (BadEscape (length l + 1 + length a))
 unfolding reading
 escape-given d s l a u b v q r h x y lacks =
     go s (left-stood h) ∙ ap (λ (p : ℕ). No (BadEscape p)) (adv-length a (suc (adv 0 l)) ∙ place (adv 0 l) (adv-length l 0))

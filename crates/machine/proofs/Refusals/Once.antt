@@ -1,8 +1,8 @@
--- A text is stuck at one place only; and the theorem, from what is left to prove of faults. Assumes nothing.
-use Prim.Native.Nat.{ℕ, zero, suc, _+_, _≤_, _<_}
+-- A text is stuck at one place only, and nowhere if the machine accepts it. Assumes nothing.
+use Prim.Native.Nat.{ℕ, _<_}
 use mathlib.Core.Path.{_≡_, refl, sym, ap, _∙_, subst}
-use mathlib.Core.Logic.{_⊎_, inl, inr, _↔_}
-use mathlib.Core.Bool.{true, false}
+use mathlib.Core.Logic.{_⊎_, inl, inr}
+use mathlib.Core.Bool.{false}
 use mathlib.Core.List.{List, [], _∷_, _++_, append-assoc, append-nil}
 use native.Mathlib.Decide.{decLt}
 use native.Mathlib.Omega.{arith}
@@ -10,16 +10,12 @@ use lib.ListN.{length, length-append}
 use Rattle.rules.specs.Rfc3629.{Octets}
 use Rattle.rules.proofs.Characters.{same-head, same-tail}
 use Rattle.meaning.specs.Meaning.{Meaning}
-use Rattle.meaning.specs.declared.Refusal.{Refusal}
-use Rattle.meaning.specs.declared.Refusal.the-variants.{TextTooLong, NotUtf8, NotGrammar, BadEscape, BadTime, BadNumber, TooDeep, TapeTooShort, StoreTooShort, NotWellFormed, NoJsonForm, OutputTooShort, WrittenTooLong, NoSuchRecord}
 use Rattle.grammar.specs.Values.{Text}
-use Rattle.machine.specs.Machine.{Verdict, Ok, No, reading}
-use Rattle.grammar.specs.Refused.{Opens, Stuck, Item-fault, Refused}
+use Rattle.machine.specs.Machine.{Ok, reading}
+use Rattle.grammar.specs.Refused.{Opens, Stuck}
 use Rattle.machine.proofs.Sound.{derived}
 use Rattle.machine.proofs.Refusals.Loose.{loose-value}
 use Rattle.machine.proofs.Refusals.Opens.{fewer}
-use Rattle.machine.proofs.Refusals.Bare.{Other}
-use Rattle.machine.proofs.Refusals.Stuck.{stuck}
 
 -- ---- one place
 
@@ -50,7 +46,8 @@ found (Stuck.end t h n) = inr (h, refl, n)
 
 -- none is stuck before what opens
 not-before : (t : List ℕ) (p : ℕ) (h : Byte t p) (c s : List ℕ) → t ≡ c ++ s → Opens c → length (h .front) < length c → ⊥
-not-before t p h c s e o l = let w = longer (h .front) c (h .at) (h .rest) s (sym (h .split) ∙ e) l in h .stops (fewer (h .front ++ (h .at ∷ [])) (w .0) (subst Opens (w .1) o))
+not-before t p h c s e o l =
+    let w = longer (h .front) c (h .at) (h .rest) s (sym (h .split) ∙ e) l in h .stops (fewer (h .front ++ (h .at ∷ [])) (w .0) (subst Opens (w .1) o))
 
 inside : (t : List ℕ) (p : ℕ) (h : Byte t p) → length (h .front) < length t
 inside t p h = let e = ap length (h .split) ∙ length-append (h .front) (h .at ∷ h .rest) in omega arith
@@ -70,69 +67,13 @@ stuck-once t p q x y = go (found x) (found y)
     go (inr h) (inr g) = h .1 ∙ sym (g .1)
 
 -- what is accepted is stuck nowhere
-accepted : (t : List ℕ) (m : Meaning) (p : ℕ) → Octets t → reading t ≡ Ok m → Stuck t p → ⊥
+pub accepted : (t : List ℕ) (m : Meaning) (p : ℕ) → Octets t → reading t ≡ Ok m → Stuck t p → ⊥
 accepted t m p o e x = go (found x)
   where
     means : Text false t m
     means = let h = derived t m o e in subst (λ (s : List ℕ). Text false s m) (sym (h .split)) (Text.text (h .layout) (loose-value (h .value)) (h .last) tt)
 
     go : Found t p → ⊥
-    go (inl h) = h .stops (Opens.opens (h .rest) m (subst (λ (s : List ℕ). Text false s m) (h .split ∙ sym (append-assoc (h .front) (h .at ∷ []) (h .rest))) means))
+    go (inl h) =
+        h .stops (Opens.opens (h .rest) m (subst (λ (s : List ℕ). Text false s m) (h .split ∙ sym (append-assoc (h .front) (h .at ∷ []) (h .rest))) means))
     go (inr h) = h .2 m means
-
--- ---- the theorem
-
-abbrev pub Refusals : Type 0
-Refusals = (t : List ℕ) → Octets t → (r : Refusal) → (reading t ≡ No r) ↔ Refused t r
-
-three-or : (r : Refusal) → ((q : ℕ) × (r ≡ NotGrammar q)) ⊎ Other r
-three-or TextTooLong = inr (λ q e. let z : _≡_ {A = ℕ} 0 1 = cc in omega arith)
-three-or (NotUtf8 p) = inr (λ q e. let z : _≡_ {A = ℕ} 0 1 = cc in omega arith)
-three-or (NotGrammar p) = inl (p, refl)
-three-or (BadEscape p) = inr (λ q e. let z : _≡_ {A = ℕ} 0 1 = cc in omega arith)
-three-or (BadTime p) = inr (λ q e. let z : _≡_ {A = ℕ} 0 1 = cc in omega arith)
-three-or (BadNumber p) = inr (λ q e. let z : _≡_ {A = ℕ} 0 1 = cc in omega arith)
-three-or (TooDeep p) = inr (λ q e. let z : _≡_ {A = ℕ} 0 1 = cc in omega arith)
-three-or (TapeTooShort p) = inr (λ q e. let z : _≡_ {A = ℕ} 0 1 = cc in omega arith)
-three-or (StoreTooShort p) = inr (λ q e. let z : _≡_ {A = ℕ} 0 1 = cc in omega arith)
-three-or (NotWellFormed p) = inr (λ q e. let z : _≡_ {A = ℕ} 0 1 = cc in omega arith)
-three-or (NoJsonForm p) = inr (λ q e. let z : _≡_ {A = ℕ} 0 1 = cc in omega arith)
-three-or (OutputTooShort p) = inr (λ q e. let z : _≡_ {A = ℕ} 0 1 = cc in omega arith)
-three-or (WrittenTooLong p) = inr (λ q e. let z : _≡_ {A = ℕ} 0 1 = cc in omega arith)
-three-or (NoSuchRecord p) = inr (λ q e. let z : _≡_ {A = ℕ} 0 1 = cc in omega arith)
-
-fault-other : {t : List ℕ} {r : Refusal} → Item-fault t r → Other r
-fault-other (Item-fault.escape r x y z n) q e = let z : _≡_ {A = ℕ} 0 1 = cc in omega arith
-fault-other (Item-fault.time x y n h) q e = let z : _≡_ {A = ℕ} 0 1 = cc in omega arith
-fault-other (Item-fault.number x y n h) q e = let z : _≡_ {A = ℕ} 0 1 = cc in omega arith
-fault-other (Item-fault.depth r x y) q e = let z : _≡_ {A = ℕ} 0 1 = cc in omega arith
-
--- what is left: a fault is given, and what is given but for 3 is a fault
-abbrev pub Given : Type 0
-Given = (t : List ℕ) (r : Refusal) → Octets t → Item-fault t r → reading t ≡ No r
-
-abbrev pub Faulty : Type 0
-Faulty = (t : List ℕ) (r : Refusal) → Octets t → Other r → reading t ≡ No r → Item-fault t r
-
-module _ (given : Given) (faulty : Faulty) where
-  to : (t : List ℕ) → Octets t → (r : Refusal) → reading t ≡ No r → Refused t r
-  to t o r e = go (three-or r)
-    where
-      go : ((q : ℕ) × (r ≡ NotGrammar q)) ⊎ Other r → Refused t r
-      go (inl h) = rw (h .1) (Refused.grammar (λ s f. let g = given t s o f in fault-other f (h .0) (let i = h .1 in cc)) (stuck t (h .0) o (e ∙ ap No (h .1))))
-      go (inr n) = Refused.fault (faulty t r o n e)
-
-  from-3 : (t : List ℕ) → Octets t → (p : ℕ) → ((r : Refusal) → Item-fault t r → ⊥) → Stuck t p → (v : Verdict) → reading t ≡ v → reading t ≡ No (NotGrammar p)
-  from-3 t o p n s (Ok m) e = absurd (accepted t m p o e s)
-  from-3 t o p n s (No r) e = go (three-or r)
-    where
-      go : ((q : ℕ) × (r ≡ NotGrammar q)) ⊎ Other r → reading t ≡ No (NotGrammar p)
-      go (inl h) = let f = e ∙ ap No (h .1) in f ∙ ap (λ (q : ℕ). No (NotGrammar q)) (stuck-once t (h .0) p (stuck t (h .0) o f) s)
-      go (inr i) = absurd (n r (faulty t r o i e))
-
-  from : (t : List ℕ) → Octets t → {r : Refusal} → Refused t r → reading t ≡ No r
-  from t o (Refused.fault {r = r} f) = given t r o f
-  from t o (Refused.grammar {p = p} n s) = from-3 t o p n s (reading t) refl
-
-  pub refusals : Refusals
-  refusals t o r = (to t o r, λ x. from t o x)

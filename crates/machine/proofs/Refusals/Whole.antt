@@ -1,14 +1,14 @@
 -- The machine refuses a text exactly as the grammar does: the same refusal of 1 to 7, at the same place. Assumes nothing.
-use Prim.Native.Nat.{ℕ, _≤_, _<_}
+use Prim.Native.Nat.{ℕ, _≤_}
 use mathlib.Core.Path.{_≡_, refl, sym, ap, _∙_, subst}
-use mathlib.Core.Logic.{_↔_}
+use mathlib.Core.Logic.{_↔_, inl, inr}
 use mathlib.Core.Bool.{Bool, true, false, cond}
 use mathlib.Core.List.{List}
 use native.Mathlib.Omega.{arith}
 use lib.Dec.{leb}
 use lib.ListN.{length}
 use borrow.Author.Tests.{le-leb, lt-leb, leb-true, leb-false}
-use Rattle.rules.specs.Rfc3629.{Octets, Fault, Judged, ill}
+use Rattle.rules.specs.Rfc3629.{Octets, Judged, ill}
 use Rattle.rules.specs.declared.Utf8Answer.{Utf8Answer}
 use Rattle.rules.specs.declared.Utf8Answer.the-variants.{Done, IllFormed}
 use Rattle.rules.specs.Decided.{judged}
@@ -17,24 +17,61 @@ use Rattle.rules.proofs.Outcomes.{one-outcome-utf8, utf8-fault}
 use Rattle.meaning.specs.Limits.{textLimit}
 use Rattle.meaning.specs.Meaning.{Meaning}
 use Rattle.meaning.specs.declared.Refusal.{Refusal}
-use Rattle.meaning.specs.declared.Refusal.the-variants.{TextTooLong, NotUtf8}
+use Rattle.meaning.specs.declared.Refusal.the-variants.{TextTooLong, NotGrammar}
 use Rattle.grammar.specs.Values.{Text}
-use Rattle.grammar.specs.Refused.{Refused, Text-refused, too-long, not-utf8}
+use Rattle.grammar.specs.Refused.{Stuck, Item-fault, Refused, Text-refused, too-long, not-utf8}
 use Rattle.machine.specs.Machine.{Verdict, Ok, No, reading}
 use Rattle.machine.specs.Verdict.{decoded, verdict}
 use Rattle.machine.proofs.Whole.{complete}
-use Rattle.machine.proofs.Refusals.Once.{Refusals}
-use Rattle.machine.proofs.Refusals.Faulty.{refusals-by}
-use Rattle.machine.proofs.Refusals.EscapeGiven.{escape-given}
-use Rattle.machine.proofs.Refusals.Escapes.{escapes}
+use Rattle.machine.proofs.Refusals.Reason.{Other, Faulty, Reason}
+use Rattle.machine.proofs.Refusals.Stuck.{stuck}
+use Rattle.machine.proofs.Refusals.Once.{stuck-once, accepted}
+use Rattle.machine.proofs.Refusals.Given.{given}
+use Rattle.machine.proofs.Refusals.AtEnd.{reason}
 
 -- ---- 3 to 7, of UTF-8
 
-pub refusals : Refusals
-refusals = refusals-by escape-given escapes
+abbrev pub Refusals : Type 0
+Refusals = (t : List ℕ) → Octets t → (r : Refusal) → (reading t ≡ No r) ↔ Refused t r
 
 same-no : {r s : Refusal} → No r ≡ No s → r ≡ s
 same-no e = cc
+
+-- no fault is a 3
+fault-other : {t : List ℕ} {r : Refusal} → Item-fault t r → Other r
+fault-other (Item-fault.escape r x y z n) = omega arith
+fault-other (Item-fault.time x y n h) = omega arith
+fault-other (Item-fault.number x y n h) = omega arith
+fault-other (Item-fault.depth r x y) = omega arith
+
+module _ (t : List ℕ) (o : Octets t) where
+  -- the fault is the one that the machine gives
+  this-fault : (r : Refusal) → reading t ≡ No r → Faulty t → Item-fault t r
+  this-fault r e (s, f) = subst (Item-fault t) (same-no (sym (given f) ∙ e)) f
+
+  to : (r : Refusal) → reading t ≡ No r → Refused t r
+  to r e = go (reason t o r e)
+    where
+      go : Reason t r → Refused t r
+      go (inl (q, i)) =
+          let e' = e ∙ ap No i in
+          rw i (Refused.grammar (λ s f. fault-other (this-fault (NotGrammar q) e' (s, f)) refl) (stuck t q o e'))
+      go (inr f) = Refused.fault (this-fault r e f)
+
+  from-3 : (p : ℕ) → ((r : Refusal) → Item-fault t r → ⊥) → Stuck t p → (v : Verdict) → reading t ≡ v → reading t ≡ No (NotGrammar p)
+  from-3 p n s (Ok m) e = absurd (accepted t m p o e s)
+  from-3 p n s (No r) e = go (reason t o r e)
+    where
+      go : Reason t r → reading t ≡ No (NotGrammar p)
+      go (inl (q, i)) = let f = e ∙ ap No i in f ∙ ap (λ (q : ℕ). No (NotGrammar q)) (stuck-once t q p (stuck t q o f) s)
+      go (inr (s, f)) = absurd (n s f)
+
+  from : {r : Refusal} → Refused t r → reading t ≡ No r
+  from (Refused.fault f) = given f
+  from (Refused.grammar {p = p} n s) = from-3 p n s (reading t) refl
+
+pub refusals : Refusals
+refusals t o r = (to t o r, λ x. from t o x)
 
 pub one-refusal : {t : List ℕ} {r s : Refusal} → Octets t → Refused t r → Refused t s → r ≡ s
 one-refusal {t} {r} {s} o x y = same-no (sym (refusals t o r .1 x) ∙ refusals t o s .1 y)

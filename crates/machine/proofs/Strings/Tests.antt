@@ -19,6 +19,11 @@ module _ {A : Type 0} (P : A → Type 0) where
   by-bool true x y f g = f refl
   by-bool false x y f g = g refl
 
+  -- whatever the test says
+  pub either : (t : Bool) {x y : A} → P x → P y → P (cond t x y)
+  either true a b = a
+  either false a b = b
+
   pub by-eqb : (a b : ℕ) (x y : A) → (a ≡ b → P x) → ((a ≡ b → ⊥) → P y) → P (cond (eqb a b) x y)
   by-eqb a b x y f g = by-bool (eqb a b) x y (λ e. f (eqb-true a b e)) (λ e. g (eqb-false a b e))
 

@@ -1,13 +1,12 @@
 -- Where the machine refuses: at a byte, or at the text's end; up to there it lives. Assumes nothing.
-use Prim.Native.Nat.{ℕ, zero, suc, _+_, _≤_}
+use Prim.Native.Nat.{ℕ, suc, _+_}
 use mathlib.Core.Path.{_≡_, refl, sym, ap, _∙_, subst}
 use mathlib.Core.List.{List, [], _∷_, _++_}
 use native.Mathlib.Omega.{arith}
 use lib.ListN.{length}
 use Rattle.meaning.specs.Limits.{depthLimit}
 use Rattle.meaning.specs.declared.Refusal.{Refusal}
-use Rattle.meaning.specs.declared.Refusal.the-variants.{NotGrammar}
-use Rattle.machine.specs.Machine.{Verdict, Ok, No, reading, Conf, at, fail, base, want, step, read, finish}
+use Rattle.machine.specs.Machine.{Verdict, No, reading, Conf, at, fail, base, want, step, read, finish}
 use Rattle.machine.proofs.Runs.{adv}
 use Rattle.machine.proofs.Whole.{run, read-join, absorbing}
 use Rattle.machine.proofs.Places.{ConfKept, Live, Stepped, steps-on, stepped-kept, VerdictBlamed, ends-on}
@@ -43,7 +42,8 @@ module _ (r : Refusal) where
   refuses [] p c l k e = Refuses.at-end [] l (blamed-end p r (finish p c) (ends-on p c l k) e) e
   refuses (b ∷ t) p c l k e = go (λ l k. before p c b t (refuses t (suc p) (step p c b) l k e)) (step p c b) refl (steps-on p c b l k) e
     where
-      go : (Live (step p c b) → ConfKept (suc p) (step p c b) → Refuses p c r (b ∷ t)) → (d : Conf) → step p c b ≡ d → Stepped p d → read (suc p) d t ≡ No r → Refuses p c r (b ∷ t)
+      go : (Live (step p c b) → ConfKept (suc p) (step p c b) → Refuses p c r (b ∷ t)) → (d : Conf) → step p c b ≡ d → Stepped p d → read (suc p) d t ≡ No r
+          → Refuses p c r (b ∷ t)
       go w (fail x) f s e = let z : x ≡ r = no-refusal (sym (absorbing (suc p) x t) ∙ e) in Refuses.at-byte [] b t l (subst (Blame p) z s) (f ∙ ap fail z)
       go w (at m d k) f s e = w (subst Live (sym f) tt) (subst (ConfKept (suc p)) (sym f) (stepped-kept p (at m d k) s))
 

@@ -1,8 +1,8 @@
 -- From every state of a number or a time value, of a binary part and of an identifier some bytes finish one of the bare grammar. Assumes nothing.
 use Prim.Native.Nat.{ℕ, zero, suc, _+_, _*_, _^_}
-use mathlib.Core.Path.{_≡_, refl, sym, ap, _∙_}
+use mathlib.Core.Path.{_≡_, refl}
 use mathlib.Core.Bool.{Bool, true, false}
-use mathlib.Core.Logic.{_⊎_, inl, inr}
+use mathlib.Core.Logic.{inl, inr}
 use mathlib.Core.List.{List, [], _∷_, _++_, append-nil}
 use native.Mathlib.Omega.{arith}
 use lib.IntN.{pos}
@@ -17,9 +17,10 @@ use Rattle.grammar.specs.Numbers.{Finite, Sign, Int, Frac0, Exp, Dec, Unsigned,
 use Rattle.grammar.specs.Times.{Fraction, Time-secfrac, signed}
 use Rattle.grammar.specs.Strings.{Quote, mark, Short, Chars}
 use Rattle.grammar.specs.Binary.{B-part, B-direct, B-value, B-escape}
-use Rattle.grammar.specs.Keys.{i-continue, Identifier}
+use Rattle.grammar.specs.Keys.{Identifier}
 use Rattle.machine.specs.Numeric
-use Rattle.machine.specs.Numeric.{St, begin, sign, word, nought, int, point, frac, exp, expSign, expDigits, hexMark, hex, both, field, spaced, secPoint, nanos, zulu, Len, d1, d2, d3, d4, When, alone, on, Slot, month, day, hour, minute, second, offsetHour, offsetMinute, dated}
+use Rattle.machine.specs.Numeric.{St, begin, sign, word, nought, int, point, frac, exp, expSign, expDigits, hexMark, hex, both, field, spaced, secPoint}
+use Rattle.machine.specs.Numeric.{nanos, zulu, d1, d2, d3, d4, When, alone, on, Slot, month, day, hour, minute, second, offsetHour, offsetMinute, dated}
 use Rattle.machine.specs.Binaries
 use Rattle.machine.specs.Names
 use Rattle.machine.proofs.Numeric.{NumericItem, Taken, NumericRest}
@@ -99,17 +100,25 @@ bare-zero : (g : Bool) → (w : Meaning) × Bare false g (letters "0") w
 bare-zero g = (_, Bare.number (Unsigned.dec (Dec.whole Int.zero-digit Frac0.absent Exp.absent) (Finite.nought refl)))
 
 pub numeric-finish : (s : St) → Ends (NumericRest false s)
-numeric-finish begin = (letters "0", _, Taken.item (NumericItem.number (Number.number Sign.unsigned (Unsigned.dec (Dec.whole Int.zero-digit Frac0.absent Exp.absent) (Finite.nought refl)))))
+numeric-finish begin = (
+  letters "0",
+  _,
+  Taken.item (NumericItem.number (Number.number Sign.unsigned
+      (Unsigned.dec (Dec.whole Int.zero-digit Frac0.absent Exp.absent) (Finite.nought refl)))),
+)
 numeric-finish (sign q g) = let h = bare-zero g in (letters "0", h .0, h .1)
 numeric-finish (word l n) = (l, Meaning.number n, (refl, refl))
 numeric-finish (nought q g) = let h = nought-ends g in ([], h .0, h .1)
 numeric-finish (int q g m) = let h = int-ends g m in ([], h .0, h .1)
-numeric-finish (point q g) = let f = some-fin g (Numeric.dig 0 (ch "0")) 0 1 in (letters "0", f .0, Sound.point-digit false g (ch "0") [] (f .0) (omega arith) (Sound.frac-none false g (Numeric.dig 0 (ch "0")) 1 (f .0) (f .1)))
+numeric-finish (point q g) =
+    let f = some-fin g (Numeric.dig 0 (ch "0")) 0 1 in
+    (letters "0", f .0, Sound.point-digit false g (ch "0") [] (f .0) (omega arith) (Sound.frac-none false g (Numeric.dig 0 (ch "0")) 1 (f .0) (f .1)))
 numeric-finish (frac q g m f) = let h = some-fin g m 0 f in ([], h .0, Sound.frac-none false g m f (h .0) (h .1))
 numeric-finish (exp q g m f) = let h = some-fin g m 0 (f + 0) in (letters "0", h .0, ([], letters "0", false, refl, Sign.unsigned, (0, 0, one-zero 0, h .1)))
 numeric-finish (expSign q g m f s) = let h = some-fin g m (raised s 0) (f + lowered s 0) in (letters "0", h .0, (0, 0, one-zero 0, h .1))
 numeric-finish (expDigits q g m f s e) = let h = some-fin g m (raised s e) (f + lowered s e) in ([], h .0, (e, 0, Digits.over, h .1))
-numeric-finish (hexMark q g) = let h = some-fin g 0 0 0 in (letters "0", h .0, (0, 0, Digits.next (Hexdig.decimal {b = ch "0"} (omega arith)) Digits.over, tt, h .1))
+numeric-finish (hexMark q g) =
+    let h = some-fin g 0 0 0 in (letters "0", h .0, (0, 0, Digits.next (Hexdig.decimal {b = ch "0"} (omega arith)) Digits.over, tt, h .1))
 numeric-finish (hex q g v) = let h = some-fin g v 0 0 in ([], h .0, (v, 0, Digits.over, tt, h .1))
 numeric-finish (both q k false v) = let h = int-ends false v in ([], h .0, inl (h .1))
 numeric-finish (both q d1 true v) = let h = nought-ends false in ([], h .0, inl (h .1))
@@ -137,10 +146,14 @@ pub binary-finish : (s : Binaries.St) → (a : List ℕ) × (v : List ℕ) × Bi
 binary-finish Binaries.start = (letters "$", [], B-value.empty)
 binary-finish Binaries.dollar = ([], [], B-value.empty)
 binary-finish (Binaries.text q acc) = (q ∷ [], acc, text-ends q acc)
-binary-finish (Binaries.esc q acc) = (ch "n" ∷ q ∷ [], acc ++ (0x0A ∷ []), λ j i. (letters "n", 0x0A ∷ [], q ∷ [], refl, B-escape.short Short.line-feed, text-ends q (acc ++ (0x0A ∷ [])) j i))
-binary-finish (Binaries.hex q acc) = (letters "00" ++ (q ∷ []), acc ++ (0 ∷ []), λ j i. (letters "00", 0, q ∷ [], refl, two-zeros, text-ends q (acc ++ (0 ∷ [])) j i))
-binary-finish (Binaries.hexLow q acc x) = (ch "0" ∷ q ∷ [], acc ++ ((16 * x + 0) ∷ []), λ j i. (ch "0", 0, q ∷ [], refl, zero-hex, text-ends q (acc ++ ((16 * x + 0) ∷ [])) j i))
-binary-finish (Binaries.low acc x) = (letters "0", acc ++ ((16 * x + 0) ∷ []), (ch "0", 0, [], refl, zero-hex, ([], After-pair.over, append-nil (acc ++ ((16 * x + 0) ∷ [])))))
+binary-finish (Binaries.esc q acc) =
+    (ch "n" ∷ q ∷ [], acc ++ (0x0A ∷ []), λ j i. (letters "n", 0x0A ∷ [], q ∷ [], refl, B-escape.short Short.line-feed, text-ends q (acc ++ (0x0A ∷ [])) j i))
+binary-finish (Binaries.hex q acc) =
+    (letters "00" ++ (q ∷ []), acc ++ (0 ∷ []), λ j i. (letters "00", 0, q ∷ [], refl, two-zeros, text-ends q (acc ++ (0 ∷ [])) j i))
+binary-finish (Binaries.hexLow q acc x) =
+    (ch "0" ∷ q ∷ [], acc ++ ((16 * x + 0) ∷ []), λ j i. (ch "0", 0, q ∷ [], refl, zero-hex, text-ends q (acc ++ ((16 * x + 0) ∷ [])) j i))
+binary-finish (Binaries.low acc x) =
+    (letters "0", acc ++ ((16 * x + 0) ∷ []), (ch "0", 0, [], refl, zero-hex, ([], After-pair.over, append-nil (acc ++ ((16 * x + 0) ∷ [])))))
 binary-finish (Binaries.pairs acc) = ([], acc, ([], After-pair.over, append-nil acc))
 binary-finish (Binaries.dot acc) = (letters "00", acc ++ (0 ∷ []), (0 ∷ [], B-direct.part (B-part.last two-zeros), refl))
 binary-finish (Binaries.done acc) = ([], acc, (refl, refl))
