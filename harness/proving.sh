@@ -19,6 +19,7 @@ alone() {
 }
 
 interrupted() { # SIGNAL
+    set +e
     trap '' HUP INT QUIT TERM
     [ -z "${teller:-}" ] || kill "$teller" 2>/dev/null
     if [ -n "$group" ]; then
