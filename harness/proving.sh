@@ -101,7 +101,7 @@ proves() {
 
 # locked WHO: waits until no other run of these scripts proves in this checkout. Status 1: nothing can be written here.
 locked() {
-    { mkdir -p target/log && : >>target/log/lock; } 2>/dev/null || return 1
+    { mkdir -p target/log && true >>target/log/lock; } 2>/dev/null || return 1 # and not `:`, at whose failure sh would end
     exec 9>>target/log/lock
     command -v flock >/dev/null || return 0
     flock -n 9 && return 0
