@@ -78,11 +78,11 @@ tell() {
 }
 
 # proves WHO NAME WORDS..: runs rt WORDS, which proves the crate NAME, and gives its status. Standard error is told how far it is; all that
-# rt says is kept in target/log/WHO.rt, and where it fails the end of that is shown.
+# rt says is kept in target/log/WHO.log, and where it fails the end of that is shown.
 proves() {
     who=$1 name=$2
     shift 2
-    said=target/log/$who.rt
+    said=target/log/$who.log
     crates=$(needed "$name")
     rm -f "target/log/$who.over"
     for crate in $crates; do rm -f "target/log/$crate.res"; done
