@@ -1,25 +1,35 @@
-/* Lanternrung: JAXN (JSON with comments, NaN, dates and raw bytes) read into a tape and a store, and written back. The archive of
- * `rt staticlib lanternrung`.
+/* Lanternrung: JAXN (JSON with comments, NaN, dates and raw bytes) read into a tape and a store, and written back.
  *
- * Every call ends, on any bytes. It answers done (`refused` 0, `place` 0) or one refusal of the table below with its place; in a refusal all
- * other fields are 0, and every buffer that was lent holds what it held before. No call keeps a pointer. Lent buffers must not overlap.
- * With a length of 0 the pointer is not looked through, and may be null.
+ * The archive is made by `harness/archive lanternrung`, on x86-64 and on Arm (aarch64) alike, for the machine at hand:
+ * target/native/liblanternrung.a, and liblanternrung.so, which needs no other library. `rt staticlib lanternrung` writes the x86-64 archive
+ * on either machine. docs/LINKING.md has whole programs in C and Rust.
  *
- *   refused  given when                                            place
- *    1       text over 16,777,216 bytes                            16777216
- *    2       not UTF-8                                             first byte of the first ill-formed sequence
- *    3       not the grammar                                       first byte no rule allows there, or the text's length
- *    4       lone surrogate, surrogate in \u{}, above 10FFFF       its backslash
- *    5       time field outside its range or calendar              first byte of the time value; of lanternrung_date, 0
- *    6       number outside the range                              its first byte, sign included
- *    7       more than 64 arrays and objects open                  the opening bracket
- *    8       tape too short                                        tape bytes needed
- *    9       store too short                                       store bytes needed
- *   10       not a well-formed tape                                0; of lanternrung_look, the index
- *   11       no JSON form: non-finite, binary, time                index of the first such record
- *   12       output too short                                      bytes needed
- *   13       written text over 16,777,216 bytes                    length it would have
- *   14       index not below the number of whole records           the index
+ * Every call ends, on any bytes. It answers done (`refused` 0, `place` 0) or one refusal (enum lr_refusal) with its place; in a refusal all
+ * other fields are 0, and every buffer that was lent holds what it held before. No call keeps a pointer or allocates. Lent buffers must not
+ * overlap. With a length of 0 the pointer is not looked through, and may be null.
+ *
+ * How much to lend. For reading: lanternrung_measure answers the records, of 16 bytes of tape each, and the store bytes. For writing: a write
+ * with an output of length 0 answers 12 (LR_OUTPUT_TOO_SHORT), and its place is the length needed; lend that, and write again.
+ *
+ * The tape is one record of 16 bytes for each part of the text, in text order; numbers are little-endian, signed ones in two's complement,
+ * and bytes that a kind does not name are 0. lanternrung_look answers a record with its fields; a program may also read the bytes itself:
+ *
+ *   kind       mark (bytes 0-1)  fields
+ *   LR_NU      "nu"              none: null
+ *   LR_BO      "bo"              4: 0 false, 1 true
+ *   LR_NB      "nb"              2: 1 if minus; 4-7: power of ten, signed; 8-15: coefficient
+ *   LR_NX      "nx"              4: 0 NaN, 1 Infinity, 2 -Infinity
+ *   LR_ST      "st"              4-7: length; 8-15: start in the store: a string, in UTF-8
+ *   LR_KY      "ky"              alike: the key of the value that comes next
+ *   LR_BY      "by"              alike: binary
+ *   LR_LD      "ld"              2-3: year; 4: month; 5: day
+ *   LR_LT      "lt"              8-15: time of day, in nanoseconds
+ *   LR_DT      "dt"              as "ld", and 8-15: time of day
+ *   LR_OD      "od"              as "dt", and 6-7: offset in minutes, signed
+ *   LR_AR      "ar"              8-15: index just after the last record inside; its own index and 1 if it is empty
+ *   LR_OB      "ob"              alike
+ *
+ * The store holds the bytes of strings, keys and binary in tape order, without gaps.
  */
 #ifndef LANTERNRUNG_H
 #define LANTERNRUNG_H
@@ -27,14 +37,51 @@
 #include <stddef.h>
 #include <stdint.h>
 
+/* One more whenever a call, a struct, a number or a meaning here changes or is added. */
+#define LR_VERSION 1
+
 #ifdef __cplusplus
 extern "C" {
 #endif
 
+/* What `refused` holds. refusals: begin (made by harness/refusals from docs/refusals.txt) */
+enum lr_refusal {
+    LR_DONE = 0,
+    /* text over 16,777,216 bytes; place: 16777216 */
+    LR_TEXT_TOO_LONG = 1,
+    /* not UTF-8; place: first byte of the first ill-formed sequence */
+    LR_NOT_UTF8 = 2,
+    /* not the grammar; place: first byte no rule allows there, or the text's length */
+    LR_NOT_GRAMMAR = 3,
+    /* lone surrogate, surrogate in \u{}, above 10FFFF; place: its backslash */
+    LR_BAD_ESCAPE = 4,
+    /* time field outside its range or calendar; place: first byte of the time value; for date, 0 */
+    LR_BAD_TIME = 5,
+    /* number outside the range: its coefficient is 2^64 or more, or its power of ten is not from -9,999 to 9,999; place: its first byte, sign included */
+    LR_BAD_NUMBER = 6,
+    /* more than 64 arrays and objects open; place: the opening bracket */
+    LR_TOO_DEEP = 7,
+    /* tape too short; place: tape bytes needed */
+    LR_TAPE_TOO_SHORT = 8,
+    /* store too short; place: store bytes needed */
+    LR_STORE_TOO_SHORT = 9,
+    /* not a well-formed tape; place: 0; for look, the index */
+    LR_NOT_WELL_FORMED = 10,
+    /* no JSON form: non-finite, binary, time; place: index of the first such record */
+    LR_NO_JSON_FORM = 11,
+    /* output too short; place: bytes needed */
+    LR_OUTPUT_TOO_SHORT = 12,
+    /* written text over 16,777,216 bytes; place: length it would have */
+    LR_WRITTEN_TOO_LONG = 13,
+    /* index not below the number of whole records; place: the index */
+    LR_NO_SUCH_RECORD = 14
+};
+/* refusals: end. docs/REFUSALS.md says of each what was found, and what to do. */
+
 #ifndef LR_STATUS
 #define LR_STATUS
 typedef struct {
-    uint32_t refused; /* 0: done; otherwise the refusal's number */
+    uint32_t refused; /* enum lr_refusal; 0: done */
     uint64_t place;
 } lr_status;
 #endif
@@ -85,10 +132,10 @@ typedef struct {
     uint64_t end;
 } lr_record;
 
-/* Are the bytes UTF-8 (RFC 3629)? 2. */
+/* Are the bytes UTF-8 (RFC 3629)? If not, 2. */
 lr_status lanternrung_utf8(const uint8_t *bytes, size_t length);
 
-/* Is this a date in years 0000 to 9999 (RFC 3339)? 5 at 0. */
+/* Is this a date in years 0000 to 9999 (RFC 3339)? If not, 5 at 0. */
 lr_status lanternrung_date(uint64_t year, uint64_t month, uint64_t day);
 
 /* How many records and store bytes the text needs, or why it is none: 1, then 2, then 3 to 7. For every text that is taken, each count
@@ -103,7 +150,7 @@ lr_sizes lanternrung_read(const uint8_t *text, size_t text_length, uint8_t *tape
 lr_record lanternrung_look(const uint8_t *tape, size_t tape_length, const uint8_t *store, size_t store_length, uint64_t index);
 
 /* The canonical JAXN text of a tape and its store, each exactly as long as used, into the output from its start; what lies past it is
- * as it was. 10, then 13, then 12. */
+ * as it was. 10, then 13, then 12, whose place is the length of the text. */
 lr_written lanternrung_write_jaxn(const uint8_t *tape, size_t tape_length, const uint8_t *store, size_t store_length, uint8_t *out,
                                   size_t out_length);
 

@@ -1,6 +1,6 @@
-/* UTF-8 and the calendar by themselves: the archive of `rt staticlib rules`.
+/* UTF-8 and the calendar by themselves: target/native/librules.a and librules.so, made by `harness/archive rules` for the machine at hand.
  *
- * Every call ends, touches nothing, and answers done (refused 0, place 0) or one refusal of document 01 with its place.
+ * Every call ends, touches nothing, and answers done (refused 0, place 0) or one refusal with its place: 2, not UTF-8, or 5, no date.
  */
 #ifndef LANTERNRUNG_RULES_H
 #define LANTERNRUNG_RULES_H

@@ -42,13 +42,20 @@ int main(void)
             printf("  not finite\n");
     }
 
-    /* The canonical text: one record, one text, whatever it was written like. */
-    uint8_t out[256];
-    lr_written written = lanternrung_write_jaxn(tape, tape_length, store, store_length, out, sizeof out);
+    /* The canonical text: one record, one text, whatever it was written like. A write with no room answers its length. */
+    lr_written room = lanternrung_write_jaxn(tape, tape_length, store, store_length, NULL, 0);
+    if (room.refused != LR_OUTPUT_TOO_SHORT)
+        return refused(room.refused, room.place);
+    size_t out_length = room.place;
+    uint8_t *out = malloc(out_length);
+    if (!out)
+        return 1;
+    lr_written written = lanternrung_write_jaxn(tape, tape_length, store, store_length, out, out_length);
     if (written.refused)
         return refused(written.refused, written.place);
     printf("%.*s\n", (int)written.length, (const char *)out);
     free(tape);
     free(store);
+    free(out);
     return 0;
 }

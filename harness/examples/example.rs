@@ -60,10 +60,14 @@ fn read(text: &[u8]) -> Result<(Vec<u8>, Vec<u8>), String> {
     }
 }
 
-/// The canonical text of a tape and its store, or the refusal.
+/// The canonical text of a tape and its store, or the refusal. A write with no room answers 12, and its place is the length.
 fn write(tape: &[u8], store: &[u8]) -> Result<Vec<u8>, String> {
-    let mut out = vec![0; 256];
     let (t, s) = (tape, store);
+    let room = unsafe { lanternrung_write_jaxn(t.as_ptr(), t.len(), s.as_ptr(), s.len(), std::ptr::null_mut(), 0) };
+    if room.refused != 12 {
+        return Err(refused(room.refused, room.place));
+    }
+    let mut out = vec![0; room.place as usize];
     let got = unsafe { lanternrung_write_jaxn(t.as_ptr(), t.len(), s.as_ptr(), s.len(), out.as_mut_ptr(), out.len()) };
     out.truncate(got.length as usize);
     match got.refused {

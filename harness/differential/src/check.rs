@@ -7,6 +7,7 @@ use crate::guard::Guard;
 use second::{Refusal, Value};
 use std::cell::RefCell;
 use std::fmt::Debug;
+use std::thread::LocalKey;
 
 /// A call whose answer or buffers are not as they should be.
 #[derive(Debug)]
@@ -91,10 +92,15 @@ thread_local! {
     static STORE: RefCell<Guard> = RefCell::new(Guard::new());
 }
 
+/// What `with_borrow_mut` does, which Rust has from 1.73 on.
+fn lent<R>(guard: &'static LocalKey<RefCell<Guard>>, with: impl FnOnce(&mut Guard) -> R) -> R {
+    guard.with(|g| with(&mut g.borrow_mut()))
+}
+
 /// A text through utf8, measure and read; where it is accepted, its tape through look and the writers.
 pub fn text(text: &[u8], effort: Effort) -> Check {
     let should = reading(text);
-    TEXT.with_borrow_mut(|guard| {
+    lent(&TEXT, |guard| {
         let placed = guard.place(text);
         read_calls(placed, &should, effort)?;
         same(|| "the text after the calls".into(), placed == text, true)
@@ -116,8 +122,8 @@ fn read_calls(text: &[u8], should: &Reading, effort: Effort) -> Check {
 
 /// Look and the writers on a tape that has this meaning, or none.
 fn tape_calls(value: Option<&Value>, tape: &[u8], store: &[u8], effort: Effort) -> Check {
-    TAPE.with_borrow_mut(|tape_guard| {
-        STORE.with_borrow_mut(|store_guard| {
+    lent(&TAPE, |tape_guard| {
+        lent(&STORE, |store_guard| {
             let (placed_tape, placed_store) = (tape_guard.place(tape), store_guard.place(store));
             match value {
                 Some(value) => meaning(value, placed_tape, placed_store, effort)?,
@@ -244,7 +250,7 @@ fn broken(tape: &[u8], store: &[u8]) -> Check {
 /// Bytes that are no text, through utf8 alone.
 pub fn utf8(bytes: &[u8]) -> Check {
     let should = LrStatus::from(second::utf8(bytes));
-    TEXT.with_borrow_mut(|guard| {
+    lent(&TEXT, |guard| {
         same(|| format!("utf8 {}", bytes.escape_ascii()), archive::utf8(guard.place(bytes)), should)
     })
 }
