@@ -26,7 +26,7 @@ pub fn utf8(s: &[u8]) -> Utf8Answer
     let mut i = blocks::passed(s);
     while i < s.len() {
         if s[i] < 0x80 {
-            i = octets::ascii_run(s, i + 1);
+            i = octets::ascii_bytes(s, i + 1);
         } else {
             let n = octets::char_at(s, i);
             if n == 0 {

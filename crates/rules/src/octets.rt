@@ -22,7 +22,7 @@ pub(crate) fn greatest(s: &[u8], at: usize) -> u8
 }
 
 // The place after the ASCII bytes from `from` on, one at a time.
-fn ascii_bytes(s: &[u8], from: usize) -> usize
+pub(crate) fn ascii_bytes(s: &[u8], from: usize) -> usize
     requires { ⌜ from ≤ length (now s) ⌝ }
     ensures { λ r. ⌜ Ascii (now (s .entry)) from r ⌝ }
 {
@@ -34,21 +34,6 @@ fn ascii_bytes(s: &[u8], from: usize) -> usize
         i += 1;
     }
     i
-}
-
-// The same, in blocks of 32 as long as all of a block is ASCII.
-pub(crate) fn ascii_run(s: &[u8], from: usize) -> usize
-    requires { ⌜ from ≤ length (now s) ⌝ }
-    ensures { λ r. ⌜ Ascii (now (s .entry)) from r ⌝ }
-{
-    let mut i = from;
-    while s.len() - i >= 32 {
-        if greatest(s, i) >= 0x80 {
-            return ascii_bytes(s, i);
-        }
-        i += 32;
-    }
-    ascii_bytes(s, i)
 }
 
 // The place after the blocks of 32 bytes from `from` on that are ASCII, no byte alone.

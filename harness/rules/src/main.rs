@@ -45,6 +45,58 @@ fn short_sequences() -> u64 {
     n
 }
 
+/// Where the first fault of these bytes is, counted from their start, with a plain byte behind them.
+fn fault_in(piece: &[u8]) -> Option<usize> {
+    std::str::from_utf8(&[piece, b"y"].concat()).err().map(|e| e.valid_up_to())
+}
+
+fn check_at(text: &[u8], fault: Option<usize>) {
+    let should = fault.map_or(DONE, |at| Status { refused: 2, place: at as u64 });
+    let got = utf8(text);
+    assert!(got == should, "utf8 {text:02x?}: {got:?}, should be {should:?}");
+}
+
+/// Every sequence of three bytes at each remainder of 32, among ASCII: the blocks of `utf8` see it at each of their places,
+/// and astride two of them.
+fn sequences_in_blocks() -> u64 {
+    let mut texts: Vec<Vec<u8>> = (32..64).map(|at| vec![b'a' + at % 26; 96]).collect();
+    for a in 0..=255u8 {
+        for b in 0..=255u8 {
+            for c in 0..=255u8 {
+                let fault = fault_in(&[a, b, c]);
+                for (at, text) in (32..64).zip(&mut texts) {
+                    text[at..at + 3].copy_from_slice(&[a, b, c]);
+                    check_at(text, fault.map(|k| at + k));
+                }
+            }
+        }
+    }
+    32 << 24
+}
+
+/// Sequences of four bytes at the edges of the rules at each remainder of 32, among characters of one to four bytes, and at
+/// each distance from the end.
+fn edges_in_blocks() -> u64 {
+    let edges = [0x00, 0x7F, 0x80, 0x8F, 0x90, 0x9F, 0xA0, 0xBF, 0xC0, 0xC1, 0xC2, 0xDF, 0xE0, 0xE1, 0xED, 0xEF, 0xF0, 0xF1, 0xF4, 0xF5, 0xFF];
+    let fillers: [&[u8]; 4] = [b"x", b"\xc3\xa9", b"\xe2\x82\xac", b"\xf0\x9d\x84\x9e"];
+    let mut n = 0;
+    for index in 0..21usize.pow(4) {
+        let piece = [edges[index / 9261], edges[index / 441 % 21], edges[index / 21 % 21], edges[index % 21]];
+        let fault = fault_in(&piece);
+        // a filler whose length does not divide 32 comes to each remainder after some turns of the index
+        let filler = fillers[index % 4];
+        for before in 0..12 {
+            let at = (before + index % 32) * filler.len();
+            let mut text = filler.repeat(before + index % 32);
+            text.extend_from_slice(&piece);
+            text.extend_from_slice(&[b'y'; 40][..1 + index % 40]);
+            check_at(&text, fault.map(|k| at + k));
+            n += 1;
+        }
+    }
+    n
+}
+
 /// Runs of ASCII of every length around the blocks of 32, with one character or one bad byte at each place.
 fn runs() -> u64 {
     let mut n = 0;
@@ -121,7 +173,7 @@ fn dates() -> u64 {
 }
 
 fn main() {
-    let n = short_sequences() + runs() + mixed(200_000);
+    let n = short_sequences() + sequences_in_blocks() + edges_in_blocks() + runs() + mixed(200_000);
     println!("rules: {n} texts agree with Rust's own check");
     println!("rules: {} dates agree", dates());
 }

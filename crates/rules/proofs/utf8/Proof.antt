@@ -10,7 +10,7 @@ use Rattle.rules.proofs.utf8.Tie as tie
 use Rattle.rules.proofs.utf8.Reads as reads
 use Rattle.rules.proofs.utf8.Lts as lts
 use Rattle.rules.proofs.blocks.passed.Reads as passed-reads
-use Rattle.rules.proofs.octets.ascii_run.Reads as ascii-run-reads
+use Rattle.rules.proofs.octets.ascii_bytes.Reads as ascii-bytes-reads
 use Rattle.rules.proofs.octets.char_at.Reads as char-at-reads
 
 abbrev Inv-loop : tie.InvT-loop
@@ -28,17 +28,17 @@ loop-holds c = c .passed .ensures
 shared-slice-read-if1 : tie.Need-shared-slice-read-if1 Inv-loop μ-loop
 shared-slice-read-if1 c = omega arith
 
-add-ascii-run : tie.Need-add-ascii-run Inv-loop μ-loop
-add-ascii-run c = omega arith
+add-ascii-bytes : tie.Need-add-ascii-bytes Inv-loop μ-loop
+add-ascii-bytes c = omega arith
 
-ascii-run-requires : tie.Need-ascii-run-requires Inv-loop μ-loop
-ascii-run-requires c κs = omega arith
+ascii-bytes-requires : tie.Need-ascii-bytes-requires Inv-loop μ-loop
+ascii-bytes-requires c κs = omega arith
 
 loop-less : tie.Need-loop-less Inv-loop μ-loop
 loop-less c = omega arith
 
 loop-again : tie.Need-loop-again Inv-loop μ-loop
-loop-again c = passed-run _ _ _ (c .before .before .before .before .loop .inv) (omega arith) (c .before .if1 .taken) (c .ascii-run .ensures)
+loop-again c = passed-run _ _ _ (c .before .before .before .before .loop .inv) (omega arith) (c .before .if1 .taken) (c .ascii-bytes .ensures)
 
 char-at-requires : tie.Need-char-at-requires Inv-loop μ-loop
 char-at-requires c κs = omega arith
@@ -67,8 +67,8 @@ utf8-spec =
     passed-requires
     loop-holds
     shared-slice-read-if1
-    add-ascii-run
-    ascii-run-requires
+    add-ascii-bytes
+    ascii-bytes-requires
     loop-less
     loop-again
     char-at-requires
