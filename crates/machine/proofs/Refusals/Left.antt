@@ -40,8 +40,8 @@ LeadsBy l c b = (r : List ℕ) → read 0 init (l ++ (b ∷ r)) ≡ read (adv 0 
 then-layout : (l : List ℕ) (c : Conf) (b : ℕ) (w : List ℕ) (s : Base) (d : ℕ) (k : List Frame) → LeadsBy l c b → Ws w → ((p : ℕ) → step p c b ≡ at (base s) d k)
     → Leads (l ++ (b ∷ w)) (at (base s) d k)
 then-layout l c b w s d k h x e r =
-    ap (read 0 init) (append-assoc l (b ∷ w) r) ∙ h (w ++ r) ∙ stepped (adv 0 l) c b (w ++ r) (at (base s) d k) (e (adv 0 l))
-    (layout-run x s (suc (adv 0 l)) d k r)
+    ap (read 0 init) (append-assoc l (b ∷ w) r) ∙ h (w ++ r)
+    ∙ stepped (adv 0 l) c b (w ++ r) (at (base s) d k) (e (adv 0 l)) (layout-run x s (suc (adv 0 l)) d k r)
     ∙ ap (λ (p : ℕ). read p (at (base s) d k) r) (sym (adv-join 0 l (b ∷ w)))
 
 -- an item from c to what is got, layout behind it, and the byte b
@@ -84,8 +84,8 @@ comma-then (Item.member {d = d} {x = x} {c = c} {u = u} {v = y} {w = z} {a = a} 
   k,
   item-then l (c ++ (y ++ (ch ":" ∷ (z ++ a)))) v w (ch ",") (at (base wantKey) d (inside (members x) ∷ k)) (gotOf m) wantKey d (pair x u ∷ k)
       (inside (members (Members.member x u m)) ∷ k) h
-      (λ p r. simp (append-assoc, adv-join) (key-run q e x p d k (z ++ (a ++ (v ++ (ch "," ∷ r)))) ∙ layout-run f want (suc (adv (adv p c) y)) d (pair x u ∷ k)
-      (a ++ (v ++ (ch "," ∷ r)))
+      (λ p r. simp (append-assoc, adv-join) (key-run q e x p d k (z ++ (a ++ (v ++ (ch "," ∷ r))))
+      ∙ layout-run f want (suc (adv (adv p c) y)) d (pair x u ∷ k) (a ++ (v ++ (ch "," ∷ r)))
       ∙ value-run t (adv (suc (adv (adv p c) y)) z) (pair x u ∷ k) (v ++ (ch "," ∷ r))
       (after-layout i (ch "," ∷ r) (one-more r Ends.comma (λ e. omega arith))))) i j (λ p. comma-after Adds.member p d k),
 )
@@ -105,8 +105,8 @@ left-stood (Left.colon {d = d} {x = m} {l = l} {c = c} {u = u} {v = v} {w = w} h
     colon-leads : (k : List Frame) → Leads l (at (base wantKey) d (inside (members m) ∷ k))
         → Leads (l ++ (c ++ (v ++ (ch ":" ∷ w)))) (at (base want) d (pair m u ∷ k))
     colon-leads k g r =
-        simp (append-assoc, adv-join) (g (c ++ (v ++ (ch ":" ∷ (w ++ r)))) ∙ key-run i x m (adv 0 l) d k (w ++ r) ∙ layout-run y want
-        (suc (adv (adv (adv 0 l) c) v)) d (pair m u ∷ k) r)
+        simp (append-assoc, adv-join) (g (c ++ (v ++ (ch ":" ∷ (w ++ r)))) ∙ key-run i x m (adv 0 l) d k (w ++ r)
+        ∙ layout-run y want (suc (adv (adv (adv 0 l) c) v)) d (pair m u ∷ k) r)
 left-stood (Left.plus {d = d} {s = s} {l = l} {a = a} {u = u} {v = v} {w = w} h i x y) = go s (left-stood h)
   where
     go : (s : Spot) → Stood d s l → Stood d part (l ++ (a ++ (v ++ (ch "+" ∷ w))))

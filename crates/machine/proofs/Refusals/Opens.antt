@@ -60,7 +60,8 @@ plug-key (inside (members y) ∷ k) d l h b w u v x =
     let t = a ++ letters "}" in
     let e = Item.member v x Ws.none Value.null-word in
     let r : Rest false depthLimit (members Members.bare) (i ++ t) y' = h .so false t y' (Rest.item Ws.none e (After.end Ws.none Closes.brace)) in
-    let o = plug k (suc d) (h .outer) (h .stands) (ch "{" ∷ (i ++ t)) [] (Meaning.object (Members.member y u Meaning.null)) (Value.object Room.stays r) Ws.none in
+    let n = Meaning.object (Members.member y u Meaning.null) in
+    let o = plug k (suc d) (h .outer) (h .stands) (ch "{" ∷ (i ++ t)) [] n (Value.object Room.stays r) Ws.none in
     fewer (l ++ (b ++ w)) (letters ":null}") (subst Opens (rw (h .split, append-nil) (closes (h .outer) i b w (letters ":null") (letters "}") (ch "{"))) o)
   where
     closes : (o i b w n e : List ℕ) (c : ℕ) → o ++ (c ∷ (i ++ ((b ++ (w ++ n)) ++ e))) ≡ ((o ++ (c ∷ i)) ++ (b ++ w)) ++ (n ++ e)
