@@ -338,19 +338,21 @@ module _ (s : List ℕ) (q : ℕ) (w : S.When) (h m c at : ℕ) where
     pub second-none : (r : Scanned) → (getD s at 0 ≡ ch "." → ⊥) → ((st : St) → scan at st (byteAt s at) ≡ onZone q w h m c 0 (secOf (byteAt s at)) → Reads s at st r) → Reads s at secondAt r
     second-none r x k = let p = byte-in s at l in k secondAt (sec-other q w h m c (sec-class (byteAt s at)) (λ j. x (sym p ∙ j)))
 
-    module _ (e : getD s at 0 ≡ ch ".") where
-      point-on : Onto s at secondAt (at + 1) (secPoint q w h m c)
-      point-on = λ r k. took (secPoint q w h m c) l (rw e) k
+    pub second-point : (r : Scanned) → getD s at 0 ≡ ch "." → Reads s (at + 1) (secPoint q w h m c) r → Reads s at secondAt r
+    second-point r e k = took (secPoint q w h m c) l (rw e) k
 
-      pub second-bare : Edge s (at + 1) → Reads s at secondAt (Refused (NotGrammar (at + 1)))
-      second-bare d = point-on _ (breaks-at (rw (dg-none (edge-none d))))
+-- ---- after a second's point
 
-      pub second-nanos : (r : Scanned) → at + 1 < length s → ch "0" ≤ getD s (at + 1) 0 → getD s (at + 1) 0 ≤ ch "9" → (n : Nanos) → NanosSays s (at + 1) n → (x : ℕ) → x ≡ n .v * 10 ^ n .left → ((st : St) → scan (n .at) st (byteAt s (n .at)) ≡ onZone q w h m c x (secOf (byteAt s (n .at))) → Reads s (n .at) st r) → Reads s at secondAt r
-      second-nanos r u a b n p x y k =
-          let o = byte-in s (at + 1) u in
-          let d : IsDigit (getD s (at + 1) 0) = omega arith in
-          point-on r (same (nanos q w h m c fractionDigits 0) (rw (o, dg-digit (getD s (at + 1) 0) d, sec-digit (getD s (at + 1) 0) d))
-          (p .goes q w h m c r (k (nanos q w h m c (n .left) (n .v)) (nano-other q w h m c (n .left) (n .v) (sec-class (byteAt s (n .at))) (edge-none (p .edge)) ∙ ap (λ (z : ℕ). onZone q w h m c z (secOf (byteAt s (n .at)))) (sym y)))))
+module _ (s : List ℕ) (q : ℕ) (w : S.When) (h m c i : ℕ) where
+  pub part-bare : Edge s i → Reads s i (secPoint q w h m c) (Refused (NotGrammar i))
+  part-bare d = breaks-at (rw (dg-none (edge-none d)))
+
+  pub part-nanos : (r : Scanned) → i < length s → ch "0" ≤ getD s i 0 → getD s i 0 ≤ ch "9" → (n : Nanos) → NanosSays s i n → (x : ℕ) → x ≡ n .v * 10 ^ n .left → ((st : St) → scan (n .at) st (byteAt s (n .at)) ≡ onZone q w h m c x (secOf (byteAt s (n .at))) → Reads s (n .at) st r) → Reads s i (secPoint q w h m c) r
+  part-nanos r u a b n p x y k =
+      let o = byte-in s i u in
+      let d : IsDigit (getD s i 0) = omega arith in
+      same (nanos q w h m c fractionDigits 0) (rw (o, dg-digit (getD s i 0) d, sec-digit (getD s i 0) d))
+      (p .goes q w h m c r (k (nanos q w h m c (n .left) (n .v)) (nano-other q w h m c (n .left) (n .v) (sec-class (byteAt s (n .at))) (edge-none (p .edge)) ∙ ap (λ (z : ℕ). onZone q w h m c z (secOf (byteAt s (n .at)))) (sym y))))
 
 -- ---- after an hour, after a date, after a year
 
