@@ -185,35 +185,38 @@ module _ (s : List ℕ) (q : ℕ) (d : Date) (c : Clock) (g : Bool) (i : ℕ) (f
   pub offset-bad : (p : ℕ) → f ≡ Bad p → Reads s i (field q offsetAt 2 0) (Refused (NotGrammar p))
   offset-bad p e = mark-bad s i (ch ":") f t p e q offsetAt (λ v. S.offsetMinute d (c .hour) (c .minute) (c .second) (c .nanos) g v) (λ p q v b. refl)
 
-  module _ (h k : ℕ) (e : f ≡ Got h k) (b : Field) (u : TwoSays s k b) where
-    on-minute : Onto s i (field q offsetAt 2 0) k (field q (S.offsetMinute d (c .hour) (c .minute) (c .second) (c .nanos) g h) 2 0)
-    on-minute = mark-got s i (ch ":") f t h k e .2 q offsetAt (λ v. S.offsetMinute d (c .hour) (c .minute) (c .second) (c .nanos) g v) (λ p q v b. refl)
+  pub offset-got : (h k : ℕ) → f ≡ Got h k → Onto s i (field q offsetAt 2 0) k (field q (S.offsetMinute d (c .hour) (c .minute) (c .second) (c .nanos) g h) 2 0)
+  offset-got h k e = mark-got s i (ch ":") f t h k e .2 q offsetAt (λ v. S.offsetMinute d (c .hour) (c .minute) (c .second) (c .nanos) g v) (λ p q v b. refl)
 
-    pub offset-bad-minute : (p : ℕ) → b ≡ Bad p → Reads s i (field q offsetAt 2 0) (Refused (NotGrammar p))
-    offset-bad-minute p j = on-minute _ (two-bad s k b u p j q (S.offsetMinute d (c .hour) (c .minute) (c .second) (c .nanos) g h))
+module _ (s : List ℕ) (q : ℕ) (d : Date) (c : Clock) (g : Bool) (h i : ℕ) (b : Field) (u : TwoSays s i b) where
+  abbrev minuteAt : Slot
+  minuteAt = S.offsetMinute d (c .hour) (c .minute) (c .second) (c .nanos) g h
 
-    module _ (m at : ℕ) (j : b ≡ Got m at) where
-      abbrev offsetTest : Bool
-      offsetTest = (okDate d && okClock (c .hour) (c .minute) (c .second)) && (leb h 23 && leb m 59)
+  pub offset-bad-minute : (p : ℕ) → b ≡ Bad p → Reads s i (field q minuteAt 2 0) (Refused (NotGrammar p))
+  offset-bad-minute p j = two-bad s i b u p j q minuteAt
 
-      abbrev offsetTime : Time
-      offsetTime = OffsetDateTime d (timeOfDay (c .hour) (c .minute) (c .second) (c .nanos)) (signed g (h * 60 + m))
+  module _ (m at : ℕ) (j : b ≡ Got m at) where
+    abbrev offsetTest : Bool
+    offsetTest = (okDate d && okClock (c .hour) (c .minute) (c .second)) && (leb h 23 && leb m 59)
 
-      ends : (r : Scanned) → Closes at (tested q offsetTest offsetTime) r → Reads s i (field q offsetAt 2 0) r
-      ends r x = on-minute r (two-got s k b u m at j .2 q (S.offsetMinute d (c .hour) (c .minute) (c .second) (c .nanos) g h) r (halts (tested q offsetTest offsetTime) refl x))
+    abbrev offsetTime : Time
+    offsetTime = OffsetDateTime d (timeOfDay (c .hour) (c .minute) (c .second) (c .nanos)) (signed g (h * 60 + m))
 
-      pub offset-hour : 23 < h → Reads s i (field q offsetAt 2 0) (Refused (BadTime q))
-      offset-hour l = ends _ (test-no q at offsetTest offsetTime (second-false (okDate d && clockTest c) (leb h 23 && leb m 59) (first-false (leb h 23) (leb m 59) (lt-leb h 23 l))))
+    ends : (r : Scanned) → Closes at (tested q offsetTest offsetTime) r → Reads s i (field q minuteAt 2 0) r
+    ends r x = two-got s i b u m at j .2 q minuteAt r (halts (tested q offsetTest offsetTime) refl x)
 
-      pub offset-minute : 59 < m → Reads s i (field q offsetAt 2 0) (Refused (BadTime q))
-      offset-minute l = ends _ (test-no q at offsetTest offsetTime (second-false (okDate d && clockTest c) (leb h 23 && leb m 59) (second-false (leb h 23) (leb m 59) (lt-leb m 59 l))))
+    pub offset-hour : 23 < h → Reads s i (field q minuteAt 2 0) (Refused (BadTime q))
+    offset-hour l = ends _ (test-no q at offsetTest offsetTime (second-false (okDate d && clockTest c) (leb h 23 && leb m 59) (first-false (leb h 23) (leb m 59) (lt-leb h 23 l))))
 
-      pub offset-ends : h ≤ 23 → m ≤ 59 → (o : ℤ) → o ≡ signed g (h * 60 + m) → (r : Scanned) → Closes at (tested q (okDate d && clockTest c) (OffsetDateTime d (timeOfDay (c .hour) (c .minute) (c .second) (c .nanos)) o)) r → Reads s i (field q offsetAt 2 0) r
-      offset-ends l n o v r x = ends r (closes-by _ _ (same-test (okDate d && clockTest c) (leb h 23) (leb m 59) (le-leb h 23 l) (le-leb m 59 n)) (rw v at x))
-        where
-          same-test : (a b c : Bool) → b ≡ true → c ≡ true → tested q (a && (b && c)) offsetTime ≡ tested q a offsetTime
-          same-test true b c y z = rw (y, z)
-          same-test false b c y z = refl
+    pub offset-minute : 59 < m → Reads s i (field q minuteAt 2 0) (Refused (BadTime q))
+    offset-minute l = ends _ (test-no q at offsetTest offsetTime (second-false (okDate d && clockTest c) (leb h 23 && leb m 59) (second-false (leb h 23) (leb m 59) (lt-leb m 59 l))))
+
+    pub offset-ends : h ≤ 23 → m ≤ 59 → (o : ℤ) → o ≡ signed g (h * 60 + m) → (r : Scanned) → Closes at (tested q (okDate d && clockTest c) (OffsetDateTime d (timeOfDay (c .hour) (c .minute) (c .second) (c .nanos)) o)) r → Reads s i (field q minuteAt 2 0) r
+    offset-ends l n o v r x = ends r (closes-by _ _ (same-test (okDate d && clockTest c) (leb h 23) (leb m 59) (le-leb h 23 l) (le-leb m 59 n)) (rw v at x))
+      where
+        same-test : (a b c : Bool) → b ≡ true → c ≡ true → tested q (a && (b && c)) offsetTime ≡ tested q a offsetTime
+        same-test true b c y z = rw (y, z)
+        same-test false b c y z = refl
 
 -- ---- after a clock
 

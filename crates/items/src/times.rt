@@ -191,6 +191,25 @@ fn minutes(minus: bool, hour: u8, minute: u8) -> i16
     if minus { -x } else { x }
 }
 
+// After an offset's hour and its colon.
+fn offset_minute(s: &[u8], q: usize, d: Date, c: Clock, minus: bool, hour: u8, i: usize) -> Scanned
+    requires { ⌜ Place (now s) i × Parted c ⌝ }
+    ensures { λ r. ⌜ Reads (now (s .entry)) i (field q (Numeric.offsetMinute d (c .hour) (c .minute) (c .second) (c .nanos) minus hour) 2 0) r ⌝ }
+{
+    match two(s, i) {
+        Field::Bad(p) => Scanned::Refused(Refusal::NotGrammar(p)),
+        Field::Got(minute, at) => {
+            if hour > 23 {
+                return Scanned::Refused(Refusal::BadTime(q));
+            }
+            if minute > 59 {
+                return Scanned::Refused(Refusal::BadTime(q));
+            }
+            offset_date_time(q, d, c, minutes(minus, hour, minute), at)
+        }
+    }
+}
+
 // After an offset's sign.
 fn offset(s: &[u8], q: usize, d: Date, c: Clock, minus: bool, i: usize) -> Scanned
     requires { ⌜ Place (now s) i × Parted c ⌝ }
@@ -198,18 +217,7 @@ fn offset(s: &[u8], q: usize, d: Date, c: Clock, minus: bool, i: usize) -> Scann
 {
     match two_then(s, i, b':') {
         Field::Bad(p) => Scanned::Refused(Refusal::NotGrammar(p)),
-        Field::Got(hour, k) => match two(s, k) {
-            Field::Bad(p) => Scanned::Refused(Refusal::NotGrammar(p)),
-            Field::Got(minute, at) => {
-                if hour > 23 {
-                    return Scanned::Refused(Refusal::BadTime(q));
-                }
-                if minute > 59 {
-                    return Scanned::Refused(Refusal::BadTime(q));
-                }
-                offset_date_time(q, d, c, minutes(minus, hour, minute), at)
-            }
-        },
+        Field::Got(hour, k) => offset_minute(s, q, d, c, minus, hour, k),
     }
 }
 
