@@ -186,35 +186,38 @@ module _ (s : List ℕ) (q : ℕ) (d : Date) (c : Clock) (g : Bool) (i : ℕ) (f
   pub offset-bad : (p : ℕ) → f ≡ Bad p → Reads s i (field q offsetAt 2 0) (Refused (NotGrammar p))
   offset-bad p e = mark-bad s i (ch ":") f t p e q offsetAt (λ v. S.offsetMinute d (c .hour) (c .minute) (c .second) (c .nanos) g v) (λ p q v b. refl)
 
-  module _ (h k : ℕ) (e : f ≡ Got h k) (b : Field) (u : TwoSays s k b) where
-    on-minute : Onto s i (field q offsetAt 2 0) k (field q (S.offsetMinute d (c .hour) (c .minute) (c .second) (c .nanos) g h) 2 0)
-    on-minute = mark-got s i (ch ":") f t h k e .2 q offsetAt (λ v. S.offsetMinute d (c .hour) (c .minute) (c .second) (c .nanos) g v) (λ p q v b. refl)
+  pub offset-got : (h k : ℕ) → f ≡ Got h k → Onto s i (field q offsetAt 2 0) k (field q (S.offsetMinute d (c .hour) (c .minute) (c .second) (c .nanos) g h) 2 0)
+  offset-got h k e = mark-got s i (ch ":") f t h k e .2 q offsetAt (λ v. S.offsetMinute d (c .hour) (c .minute) (c .second) (c .nanos) g v) (λ p q v b. refl)
 
-    pub offset-bad-minute : (p : ℕ) → b ≡ Bad p → Reads s i (field q offsetAt 2 0) (Refused (NotGrammar p))
-    offset-bad-minute p j = on-minute _ (two-bad s k b u p j q (S.offsetMinute d (c .hour) (c .minute) (c .second) (c .nanos) g h))
+module _ (s : List ℕ) (q : ℕ) (d : Date) (c : Clock) (g : Bool) (h i : ℕ) (b : Field) (u : TwoSays s i b) where
+  abbrev minuteAt : Slot
+  minuteAt = S.offsetMinute d (c .hour) (c .minute) (c .second) (c .nanos) g h
 
-    module _ (m at : ℕ) (j : b ≡ Got m at) where
-      abbrev offsetTest : Bool
-      offsetTest = (okDate d && okClock (c .hour) (c .minute) (c .second)) && (leb h 23 && leb m 59)
+  pub offset-bad-minute : (p : ℕ) → b ≡ Bad p → Reads s i (field q minuteAt 2 0) (Refused (NotGrammar p))
+  offset-bad-minute p j = two-bad s i b u p j q minuteAt
 
-      abbrev offsetTime : Time
-      offsetTime = OffsetDateTime d (timeOfDay (c .hour) (c .minute) (c .second) (c .nanos)) (signed g (h * 60 + m))
+  module _ (m at : ℕ) (j : b ≡ Got m at) where
+    abbrev offsetTest : Bool
+    offsetTest = (okDate d && okClock (c .hour) (c .minute) (c .second)) && (leb h 23 && leb m 59)
 
-      ends : (r : Scanned) → Closes at (tested q offsetTest offsetTime) r → Reads s i (field q offsetAt 2 0) r
-      ends r x = on-minute r (two-got s k b u m at j .2 q (S.offsetMinute d (c .hour) (c .minute) (c .second) (c .nanos) g h) r (halts (tested q offsetTest offsetTime) refl x))
+    abbrev offsetTime : Time
+    offsetTime = OffsetDateTime d (timeOfDay (c .hour) (c .minute) (c .second) (c .nanos)) (signed g (h * 60 + m))
 
-      pub offset-hour : 23 < h → Reads s i (field q offsetAt 2 0) (Refused (BadTime q))
-      offset-hour l = ends _ (test-no q at offsetTest offsetTime (second-false (okDate d && clockTest c) (leb h 23 && leb m 59) (first-false (leb h 23) (leb m 59) (lt-leb h 23 l))))
+    ends : (r : Scanned) → Closes at (tested q offsetTest offsetTime) r → Reads s i (field q minuteAt 2 0) r
+    ends r x = two-got s i b u m at j .2 q minuteAt r (halts (tested q offsetTest offsetTime) refl x)
 
-      pub offset-minute : 59 < m → Reads s i (field q offsetAt 2 0) (Refused (BadTime q))
-      offset-minute l = ends _ (test-no q at offsetTest offsetTime (second-false (okDate d && clockTest c) (leb h 23 && leb m 59) (second-false (leb h 23) (leb m 59) (lt-leb m 59 l))))
+    pub offset-hour : 23 < h → Reads s i (field q minuteAt 2 0) (Refused (BadTime q))
+    offset-hour l = ends _ (test-no q at offsetTest offsetTime (second-false (okDate d && clockTest c) (leb h 23 && leb m 59) (first-false (leb h 23) (leb m 59) (lt-leb h 23 l))))
 
-      pub offset-ends : h ≤ 23 → m ≤ 59 → (o : ℤ) → o ≡ signed g (h * 60 + m) → (r : Scanned) → Closes at (tested q (okDate d && clockTest c) (OffsetDateTime d (timeOfDay (c .hour) (c .minute) (c .second) (c .nanos)) o)) r → Reads s i (field q offsetAt 2 0) r
-      offset-ends l n o v r x = ends r (closes-by _ _ (same-test (okDate d && clockTest c) (leb h 23) (leb m 59) (le-leb h 23 l) (le-leb m 59 n)) (rw v at x))
-        where
-          same-test : (a b c : Bool) → b ≡ true → c ≡ true → tested q (a && (b && c)) offsetTime ≡ tested q a offsetTime
-          same-test true b c y z = rw (y, z)
-          same-test false b c y z = refl
+    pub offset-minute : 59 < m → Reads s i (field q minuteAt 2 0) (Refused (BadTime q))
+    offset-minute l = ends _ (test-no q at offsetTest offsetTime (second-false (okDate d && clockTest c) (leb h 23 && leb m 59) (second-false (leb h 23) (leb m 59) (lt-leb m 59 l))))
+
+    pub offset-ends : h ≤ 23 → m ≤ 59 → (o : ℤ) → o ≡ signed g (h * 60 + m) → (r : Scanned) → Closes at (tested q (okDate d && clockTest c) (OffsetDateTime d (timeOfDay (c .hour) (c .minute) (c .second) (c .nanos)) o)) r → Reads s i (field q minuteAt 2 0) r
+    offset-ends l n o v r x = ends r (closes-by _ _ (same-test (okDate d && clockTest c) (leb h 23) (leb m 59) (le-leb h 23 l) (le-leb m 59 n)) (rw v at x))
+      where
+        same-test : (a b c : Bool) → b ≡ true → c ≡ true → tested q (a && (b && c)) offsetTime ≡ tested q a offsetTime
+        same-test true b c y z = rw (y, z)
+        same-test false b c y z = refl
 
 -- ---- after a clock
 
@@ -339,19 +342,21 @@ module _ (s : List ℕ) (q : ℕ) (w : S.When) (h m c at : ℕ) where
     pub second-none : (r : Scanned) → (getD s at 0 ≡ ch "." → ⊥) → ((st : St) → scan at st (byteAt s at) ≡ onZone q w h m c 0 (secOf (byteAt s at)) → Reads s at st r) → Reads s at secondAt r
     second-none r x k = let p = byte-in s at l in k secondAt (sec-other q w h m c (sec-class (byteAt s at)) (λ j. x (sym p ∙ j)))
 
-    module _ (e : getD s at 0 ≡ ch ".") where
-      point-on : Onto s at secondAt (at + 1) (secPoint q w h m c)
-      point-on = λ r k. took (secPoint q w h m c) l (rw e) k
+    pub second-point : (r : Scanned) → getD s at 0 ≡ ch "." → Reads s (at + 1) (secPoint q w h m c) r → Reads s at secondAt r
+    second-point r e k = took (secPoint q w h m c) l (rw e) k
 
-      pub second-bare : Edge s (at + 1) → Reads s at secondAt (Refused (NotGrammar (at + 1)))
-      second-bare d = point-on _ (breaks-at (rw (dg-none (edge-none d))))
+-- ---- after a second's point
 
-      pub second-nanos : (r : Scanned) → at + 1 < length s → ch "0" ≤ getD s (at + 1) 0 → getD s (at + 1) 0 ≤ ch "9" → (n : Nanos) → NanosSays s (at + 1) n → (x : ℕ) → x ≡ n .v * 10 ^ n .left → ((st : St) → scan (n .at) st (byteAt s (n .at)) ≡ onZone q w h m c x (secOf (byteAt s (n .at))) → Reads s (n .at) st r) → Reads s at secondAt r
-      second-nanos r u a b n p x y k =
-          let o = byte-in s (at + 1) u in
-          let d : IsDigit (getD s (at + 1) 0) = omega arith in
-          point-on r (same (nanos q w h m c fractionDigits 0) (rw (o, dg-digit (getD s (at + 1) 0) d, sec-digit (getD s (at + 1) 0) d))
-          (p .goes q w h m c r (k (nanos q w h m c (n .left) (n .v)) (nano-other q w h m c (n .left) (n .v) (sec-class (byteAt s (n .at))) (edge-none (p .edge)) ∙ ap (λ (z : ℕ). onZone q w h m c z (secOf (byteAt s (n .at)))) (sym y)))))
+module _ (s : List ℕ) (q : ℕ) (w : S.When) (h m c i : ℕ) where
+  pub part-bare : Edge s i → Reads s i (secPoint q w h m c) (Refused (NotGrammar i))
+  part-bare d = breaks-at (rw (dg-none (edge-none d)))
+
+  pub part-nanos : (r : Scanned) → i < length s → ch "0" ≤ getD s i 0 → getD s i 0 ≤ ch "9" → (n : Nanos) → NanosSays s i n → (x : ℕ) → x ≡ n .v * 10 ^ n .left → ((st : St) → scan (n .at) st (byteAt s (n .at)) ≡ onZone q w h m c x (secOf (byteAt s (n .at))) → Reads s (n .at) st r) → Reads s i (secPoint q w h m c) r
+  part-nanos r u a b n p x y k =
+      let o = byte-in s i u in
+      let d : IsDigit (getD s i 0) = omega arith in
+      same (nanos q w h m c fractionDigits 0) (rw (o, dg-digit (getD s i 0) d, sec-digit (getD s i 0) d))
+      (p .goes q w h m c r (k (nanos q w h m c (n .left) (n .v)) (nano-other q w h m c (n .left) (n .v) (sec-class (byteAt s (n .at))) (edge-none (p .edge)) ∙ ap (λ (z : ℕ). onZone q w h m c z (secOf (byteAt s (n .at)))) (sym y))))
 
 -- ---- after an hour, after a date, after a year
 

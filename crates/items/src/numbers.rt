@@ -23,6 +23,21 @@ pub struct Acc {
     pub z: usize,
 }
 
+// No digit so far, or noughts alone.
+pub const NONE: Acc = Acc {
+    c: 0,
+    over: false,
+    z: 0,
+};
+
+// Too large to keep.
+const OVER: Acc = Acc {
+    c: 0,
+    over: true,
+    z: 0,
+};
+
+// A coefficient that fits, or that is too large to keep.
 pub enum Coef {
     Fits(u64),
     Over,
@@ -86,26 +101,14 @@ pub fn push(a: Acc, b: u8) -> Acc
         };
     }
     if a.over {
-        return Acc {
-            c: 0,
-            over: true,
-            z: 0,
-        };
+        return OVER;
     }
     let d = (b - b'0') as u64;
     match shift(a.c, a.z + 1) {
-        Coef::Over => Acc {
-            c: 0,
-            over: true,
-            z: 0,
-        },
+        Coef::Over => OVER,
         Coef::Fits(v) => {
             if v > 18446744073709551615 - d {
-                return Acc {
-                    c: 0,
-                    over: true,
-                    z: 0,
-                };
+                return OVER;
             }
             Acc {
                 c: v + d,
@@ -159,15 +162,15 @@ fn exp_digits(s: &[u8], from: usize) -> Power
     while i < s.len() {
         let b = s[i];
         if b < b'0' {
-            return Power { e: e, at: i };
+            return Power { e, at: i };
         }
         if b > b'9' {
-            return Power { e: e, at: i };
+            return Power { e, at: i };
         }
         e = raise(e, b);
         i += 1;
     }
-    Power { e: e, at: i }
+    Power { e, at: i }
 }
 
 // A magnitude with its sign.
@@ -179,6 +182,7 @@ fn with_sign(minus: bool, m: usize) -> i32
     if minus { -x } else { x }
 }
 
+// The finite number c * 10 ^ power, with its sign, before the place `at`.
 fn finite(g: bool, c: u64, power: i32, at: usize) -> Scanned
     ensures { λ r. ⌜ r ≡ Scanned.Item (Item.Number (Number.Finite g c power)) at ⌝ }
 {
@@ -186,7 +190,7 @@ fn finite(g: bool, c: u64, power: i32, at: usize) -> Scanned
         Item::Number(Number::Finite {
             minus: g,
             coefficient: c,
-            power: power,
+            power,
         }),
         at,
     )
@@ -321,17 +325,7 @@ pub fn point(s: &[u8], q: usize, g: bool, i: usize) -> Scanned
     if b > b'9' {
         return Scanned::Refused(Refusal::NotGrammar(i));
     }
-    fraction(
-        s,
-        q,
-        g,
-        Acc {
-            c: 0,
-            over: false,
-            z: 0,
-        },
-        i,
-    )
+    fraction(s, q, g, NONE, i)
 }
 
 // A number that is not 0, without the zeros at its end.
@@ -346,11 +340,7 @@ fn stripped(v: u64) -> Acc
         c = c / 10;
         z += 1;
     }
-    Acc {
-        c: c,
-        over: false,
-        z: z,
-    }
+    Acc { c, over: false, z }
 }
 
 // Any number without the zeros at its end.
@@ -359,11 +349,7 @@ fn held(v: u64) -> Acc
     ensures holds { λ r. ⌜ Holds v r ⌝ }
 {
     if v == 0 {
-        return Acc {
-            c: 0,
-            over: false,
-            z: 0,
-        };
+        return NONE;
     }
     stripped(v)
 }
@@ -378,18 +364,18 @@ pub fn plain_digits(s: &[u8], from: usize, had: u64) -> Plain
     while i < s.len() {
         let b = s[i];
         if b < b'0' {
-            return Plain { v: v, at: i };
+            return Plain { v, at: i };
         }
         if b > b'9' {
-            return Plain { v: v, at: i };
+            return Plain { v, at: i };
         }
         if v > 1844674407370955160 {
-            return Plain { v: v, at: i };
+            return Plain { v, at: i };
         }
         v = v * 10 + (b - b'0') as u64;
         i += 1;
     }
-    Plain { v: v, at: i }
+    Plain { v, at: i }
 }
 
 // Whether a number that has digits before this place ends here: no digit, no point and no exponent follows.
@@ -449,11 +435,7 @@ fn hex_digits(s: &[u8], from: usize) -> Hex
     while i < s.len() {
         let d = hexes::hex(s[i]) as u64;
         if 16 <= d {
-            return Hex {
-                v: v,
-                over: over,
-                at: i,
-            };
+            return Hex { v, over, at: i };
         }
         if v > 1152921504606846975 {
             over = true;
@@ -463,11 +445,7 @@ fn hex_digits(s: &[u8], from: usize) -> Hex
             i += 1;
         }
     }
-    Hex {
-        v: v,
-        over: over,
-        at: i,
-    }
+    Hex { v, over, at: i }
 }
 
 // A hexadecimal number, after its mark. It must itself be below 2^64.
@@ -506,45 +484,13 @@ pub fn nought(s: &[u8], q: usize, g: bool, at: usize) -> Scanned
         return hexadecimal(s, q, g, at + 1);
     }
     if b == b'.' {
-        return fraction(
-            s,
-            q,
-            g,
-            Acc {
-                c: 0,
-                over: false,
-                z: 0,
-            },
-            at + 1,
-        );
+        return fraction(s, q, g, NONE, at + 1);
     }
     if b == b'e' {
-        return exponent(
-            s,
-            q,
-            g,
-            Acc {
-                c: 0,
-                over: false,
-                z: 0,
-            },
-            0,
-            at,
-        );
+        return exponent(s, q, g, NONE, 0, at);
     }
     if b == b'E' {
-        return exponent(
-            s,
-            q,
-            g,
-            Acc {
-                c: 0,
-                over: false,
-                z: 0,
-            },
-            0,
-            at,
-        );
+        return exponent(s, q, g, NONE, 0, at);
     }
     finite(g, 0, 0, at)
 }

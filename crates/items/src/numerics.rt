@@ -1,6 +1,7 @@
 // A number or a time value. Digits with no sign stay open as both while both are possible.
 use crate::numbers;
 use crate::numbers::Acc;
+use crate::numbers::NONE;
 use crate::times;
 use crate::times::When;
 use crate::words;
@@ -55,59 +56,33 @@ pub enum Mark {
     Other,
 }
 
+// Up to four digits from the first on, as a number and as a time's.
 fn first_digits(s: &[u8], q: usize) -> Few
     requires { ⌜ AtDigit (now s) q ⌝ }
     ensures { λ r. ⌜ FewSays (now (s .entry)) q r ⌝ }
 {
     let d = s[q];
-    let mut x = numbers::push(
-        Acc {
-            c: 0,
-            over: false,
-            z: 0,
-        },
-        d,
-    );
+    let mut acc = numbers::push(NONE, d);
     let mut v = (d - b'0') as u16;
     let mut n: usize = 1;
-    let mut i = q + 1;
-    while i < s.len() {
+    let mut at = q + 1;
+    while at < s.len() {
         if n >= 4 {
-            return Few {
-                n: n,
-                v: v,
-                acc: x,
-                at: i,
-            };
+            return Few { n, v, acc, at };
         }
-        let b = s[i];
+        let b = s[at];
         if b < b'0' {
-            return Few {
-                n: n,
-                v: v,
-                acc: x,
-                at: i,
-            };
+            return Few { n, v, acc, at };
         }
         if b > b'9' {
-            return Few {
-                n: n,
-                v: v,
-                acc: x,
-                at: i,
-            };
+            return Few { n, v, acc, at };
         }
-        x = numbers::push(x, b);
+        acc = numbers::push(acc, b);
         v = 10 * v + (b - b'0') as u16;
         n += 1;
-        i += 1;
+        at += 1;
     }
-    Few {
-        n: n,
-        v: v,
-        acc: x,
-        at: i,
-    }
+    Few { n, v, acc, at }
 }
 
 // What the byte b after n digits, the first of which is d, makes of them.
@@ -224,6 +199,7 @@ fn unsigned(s: &[u8], q: usize) -> Scanned
     numbers::rest(s, q, false, v, at)
 }
 
+// A number that is a word, after its first letter.
 fn named(s: &[u8], from: usize, spelt: &[u8], n: Number) -> Scanned
     requires { ⌜ Place (now s) from ⌝ }
     ensures { λ r. ⌜ Reads (now (s .entry)) from (Numeric.word (now (spelt .entry)) n) r ⌝ }
@@ -270,17 +246,7 @@ fn signed(s: &[u8], q: usize, g: bool, i: usize) -> Scanned
     if b > b'9' {
         return undigited(s, q, g, i);
     }
-    numbers::decimal(
-        s,
-        q,
-        g,
-        Acc {
-            c: 0,
-            over: false,
-            z: 0,
-        },
-        i,
-    )
+    numbers::decimal(s, q, g, NONE, i)
 }
 
 // A number or a time value, where its first byte is at q.

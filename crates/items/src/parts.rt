@@ -2,11 +2,11 @@
 use crate::hexes;
 use crate::stores;
 ghost use mathlib.Core.Path.{_≡_};
-ghost use Prim.Native.Nat.{_+_, _≤_, _<_, _^_};
+ghost use Prim.Native.Nat.{ℕ, _+_, _≤_, _<_, _^_};
 ghost use lib.ListN.{length, getD};
 ghost use Rattle.meaning.specs.Letters.{ch};
 ghost use Rattle.machine.specs.Strings.{lineByte};
-ghost use Rattle.items.specs.Parts.{EscapeSays, Grown, CharSays, gap, BlockSays, Passed, Earlier, InnerSays, OneSays, ThreeSays, PartSays, Begun, LinesSays};
+ghost use Rattle.items.specs.Parts.{EscapeSays, Halved, Grown, CharSays, gap, BlockSays, Passed, Earlier, InnerSays, OneSays, ThreeSays, PartSays, Begun, LinesSays};
 
 // What a part comes to: the bytes taken and the store bytes put; the backslash of the first bad escape; a byte that no
 // rule allows.
@@ -135,6 +135,49 @@ fn escape_at(s: &[u8], at: usize) -> Escape
     four(s, at)
 }
 
+// After the first half of a pair, w: the second is the escape at `next`, or w is alone.
+fn second_half(s: &[u8], next: usize, w: u32) -> Char
+    requires { ⌜ (0xD800 ≤ w) × (w < 0xDC00) ⌝ }
+    ensures { λ r. ⌜ ((at : ℕ) → Halved (now (s .entry)) at next w → CharSays (now (s .entry)) at r) ⌝ }
+{
+    if s.len() <= next {
+        return Char::Stop(next);
+    }
+    if s[next] != b'\\' {
+        return Char::Lone(next);
+    }
+    match escape_at(s, next) {
+        Escape::Code(_, _) => Char::Lone(next),
+        Escape::Odd(_) => Char::Lone(next),
+        Escape::Break(p) => Char::Stop(p),
+        Escape::Half(after, l) => {
+            if l < 0xDC00 {
+                return Char::Lone(next);
+            }
+            if 0xE000 <= l {
+                return Char::Lone(next);
+            }
+            Char::Whole(after, 0x10000 + (w - 0xD800) * 1024 + (l - 0xDC00))
+        }
+    }
+}
+
+// After the unit w of an escape: a character by itself, half of a pair, or neither.
+fn unit(s: &[u8], next: usize, w: u32) -> Char
+    ensures { λ r. ⌜ ((at : ℕ) → Halved (now (s .entry)) at next w → CharSays (now (s .entry)) at r) ⌝ }
+{
+    if w < 0xD800 {
+        return Char::Whole(next, w);
+    }
+    if 0xE000 <= w {
+        return Char::Whole(next, w);
+    }
+    if 0xDC00 <= w {
+        return Char::Lone(next);
+    }
+    second_half(s, next, w)
+}
+
 // One escape, or two that make one character.
 fn character(s: &[u8], at: usize) -> Char
     requires { ⌜ (at < length (now s)) × (getD (now s) at 0 ≡ ch "\\") ⌝ }
@@ -144,37 +187,7 @@ fn character(s: &[u8], at: usize) -> Char
         Escape::Code(next, c) => Char::Whole(next, c),
         Escape::Odd(next) => Char::Lone(next),
         Escape::Break(p) => Char::Stop(p),
-        Escape::Half(next, w) => {
-            if w < 0xD800 {
-                return Char::Whole(next, w);
-            }
-            if 0xE000 <= w {
-                return Char::Whole(next, w);
-            }
-            if 0xDC00 <= w {
-                return Char::Lone(next);
-            }
-            if s.len() <= next {
-                return Char::Stop(next);
-            }
-            if s[next] != b'\\' {
-                return Char::Lone(next);
-            }
-            match escape_at(s, next) {
-                Escape::Code(_, _) => Char::Lone(next),
-                Escape::Odd(_) => Char::Lone(next),
-                Escape::Break(p) => Char::Stop(p),
-                Escape::Half(after, l) => {
-                    if l < 0xDC00 {
-                        return Char::Lone(next);
-                    }
-                    if 0xE000 <= l {
-                        return Char::Lone(next);
-                    }
-                    Char::Whole(after, 0x10000 + (w - 0xD800) * 1024 + (l - 0xDC00))
-                }
-            }
-        }
+        Escape::Half(next, w) => unit(s, next, w),
     }
 }
 
@@ -185,6 +198,7 @@ fn apart(a: u8, b: u8) -> u8
     if a < b { b - a } else { a - b }
 }
 
+// The lesser of two bytes.
 fn lesser(a: u8, b: u8) -> u8
     ensures { λ r. ⌜ (r ≤ a) × (r ≤ b) ⌝ }
 {
@@ -257,6 +271,7 @@ fn plain_end(s: &[u8], from: usize, q: u8) -> usize
     plain_bytes(s, at, q)
 }
 
+// The first bad escape so far: `bad`, or the one at `at` where there is none.
 fn earlier(bad: usize, at: usize) -> usize
     ensures { λ r. ⌜ Earlier bad at r ⌝ }
 {
@@ -282,22 +297,7 @@ fn inner(s: &[u8], q: u8, store: &mut [u8], at: usize) -> Part
             return Part::Wrong(e);
         }
         let b = s[e];
-        if b == b'\\' {
-            match character(s, e) {
-                Char::Stop(p) => {
-                    return Part::Wrong(p);
-                }
-                Char::Lone(next) => {
-                    bad = earlier(bad, e);
-                    out = o;
-                    i = next;
-                }
-                Char::Whole(next, c) => {
-                    out = stores::encode(c, store, o);
-                    i = next;
-                }
-            }
-        } else {
+        if b != b'\\' {
             if b != q {
                 return Part::Wrong(e);
             }
@@ -308,6 +308,18 @@ fn inner(s: &[u8], q: u8, store: &mut [u8], at: usize) -> Part
                 taken: e + 1,
                 bytes: o - at,
             };
+        }
+        match character(s, e) {
+            Char::Stop(p) => return Part::Wrong(p),
+            Char::Lone(next) => {
+                bad = earlier(bad, e);
+                out = o;
+                i = next;
+            }
+            Char::Whole(next, c) => {
+                out = stores::encode(c, store, o);
+                i = next;
+            }
         }
     }
 }
@@ -336,6 +348,7 @@ fn lines_start(s: &[u8]) -> usize
     3
 }
 
+// Whether a byte may stand in a multiline part.
 fn line_byte(b: u8) -> bool
     ensures { λ r. ⌜ r ≡ lineByte b ⌝ }
 {

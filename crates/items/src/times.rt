@@ -29,6 +29,7 @@ pub enum When {
     On(Date),
 }
 
+// A time of day as it is written: each part is a number of digits, in range or not.
 pub struct Clock {
     pub hour: u8,
     pub minute: u8,
@@ -91,6 +92,7 @@ fn two_then(s: &[u8], i: usize, mark: u8) -> Field
     }
 }
 
+// Whether a date is one of the calendar's.
 fn is_date(d: Date) -> bool
     ensures { λ r. ⌜ r ≡ Numeric.okDate d ⌝ }
 {
@@ -100,6 +102,7 @@ fn is_date(d: Date) -> bool
     }
 }
 
+// Whether hour, minute and second are in range.
 fn is_clock(c: Clock) -> bool
     ensures { λ r. ⌜ r ≡ clockTest c ⌝ }
 {
@@ -112,6 +115,7 @@ fn is_clock(c: Clock) -> bool
     c.second <= 59
 }
 
+// The nanoseconds since midnight.
 fn time_of_day(c: Clock) -> u64
     requires { ⌜ Parted c ⌝ }
     ensures { λ r. ⌜ r ≡ timeOfDay (c .hour) (c .minute) (c .second) (c .nanos) ⌝ }
@@ -122,12 +126,14 @@ fn time_of_day(c: Clock) -> u64
     ((h * 60 + m) * 60 + s) * 1000000000 + c.nanos
 }
 
+// A time value before the place `at`.
 fn time(t: Time, at: usize) -> Scanned
     ensures { λ r. ⌜ r ≡ Scanned.Item (Item.Time t) at ⌝ }
 {
     Scanned::Item(Item::Time(t), at)
 }
 
+// A date that ends before the place `at`.
 fn date_done(q: usize, d: Date, at: usize) -> Scanned
     ensures { λ r. ⌜ Closes at (Numeric.dateDone q d) r ⌝ }
 {
@@ -137,6 +143,7 @@ fn date_done(q: usize, d: Date, at: usize) -> Scanned
     Scanned::Refused(Refusal::BadTime(q))
 }
 
+// A time of day that ends before the place `at`.
 fn local_time(q: usize, c: Clock, at: usize) -> Scanned
     requires { ⌜ Parted c ⌝ }
     ensures { λ r. ⌜ Closes at (Numeric.clockDone q Numeric.alone (c .hour) (c .minute) (c .second) (c .nanos)) r ⌝ }
@@ -147,6 +154,7 @@ fn local_time(q: usize, c: Clock, at: usize) -> Scanned
     Scanned::Refused(Refusal::BadTime(q))
 }
 
+// A date and a time of day that end before the place `at`.
 fn local_date_time(q: usize, d: Date, c: Clock, at: usize) -> Scanned
     requires { ⌜ Parted c ⌝ }
     ensures { λ r. ⌜ Closes at (Numeric.clockDone q (Numeric.on d) (c .hour) (c .minute) (c .second) (c .nanos)) r ⌝ }
@@ -160,6 +168,7 @@ fn local_date_time(q: usize, d: Date, c: Clock, at: usize) -> Scanned
     Scanned::Refused(Refusal::BadTime(q))
 }
 
+// The same with an offset.
 fn offset_date_time(q: usize, d: Date, c: Clock, offset: i16, at: usize) -> Scanned
     requires { ⌜ Parted c ⌝ }
     ensures { λ r. ⌜ Closes at (Numeric.tested q (Numeric.okDate d && clockTest c) (Time.OffsetDateTime d (timeOfDay (c .hour) (c .minute) (c .second) (c .nanos)) offset)) r ⌝ }
@@ -182,6 +191,25 @@ fn minutes(minus: bool, hour: u8, minute: u8) -> i16
     if minus { -x } else { x }
 }
 
+// After an offset's hour and its colon.
+fn offset_minute(s: &[u8], q: usize, d: Date, c: Clock, minus: bool, hour: u8, i: usize) -> Scanned
+    requires { ⌜ Place (now s) i × Parted c ⌝ }
+    ensures { λ r. ⌜ Reads (now (s .entry)) i (field q (Numeric.offsetMinute d (c .hour) (c .minute) (c .second) (c .nanos) minus hour) 2 0) r ⌝ }
+{
+    match two(s, i) {
+        Field::Bad(p) => Scanned::Refused(Refusal::NotGrammar(p)),
+        Field::Got(minute, at) => {
+            if hour > 23 {
+                return Scanned::Refused(Refusal::BadTime(q));
+            }
+            if minute > 59 {
+                return Scanned::Refused(Refusal::BadTime(q));
+            }
+            offset_date_time(q, d, c, minutes(minus, hour, minute), at)
+        }
+    }
+}
+
 // After an offset's sign.
 fn offset(s: &[u8], q: usize, d: Date, c: Clock, minus: bool, i: usize) -> Scanned
     requires { ⌜ Place (now s) i × Parted c ⌝ }
@@ -189,18 +217,7 @@ fn offset(s: &[u8], q: usize, d: Date, c: Clock, minus: bool, i: usize) -> Scann
 {
     match two_then(s, i, b':') {
         Field::Bad(p) => Scanned::Refused(Refusal::NotGrammar(p)),
-        Field::Got(hour, k) => match two(s, k) {
-            Field::Bad(p) => Scanned::Refused(Refusal::NotGrammar(p)),
-            Field::Got(minute, at) => {
-                if hour > 23 {
-                    return Scanned::Refused(Refusal::BadTime(q));
-                }
-                if minute > 59 {
-                    return Scanned::Refused(Refusal::BadTime(q));
-                }
-                offset_date_time(q, d, c, minutes(minus, hour, minute), at)
-            }
-        },
+        Field::Got(hour, k) => offset_minute(s, q, d, c, minus, hour, k),
     }
 }
 
@@ -247,18 +264,10 @@ fn nano_digits(s: &[u8], from: usize) -> Nanos
     while i < s.len() {
         let b = s[i];
         if b < b'0' {
-            return Nanos {
-                v: v,
-                left: left,
-                at: i,
-            };
+            return Nanos { v, left, at: i };
         }
         if b > b'9' {
-            return Nanos {
-                v: v,
-                left: left,
-                at: i,
-            };
+            return Nanos { v, left, at: i };
         }
         if left > 0 {
             v = 10 * v + (b - b'0') as u64;
@@ -268,11 +277,7 @@ fn nano_digits(s: &[u8], from: usize) -> Nanos
             i += 1;
         }
     }
-    Nanos {
-        v: v,
-        left: left,
-        at: i,
-    }
+    Nanos { v, left, at: i }
 }
 
 // v * 10 ^ k.
@@ -289,40 +294,11 @@ fn scaled(v: u64, k: usize) -> u64
     n
 }
 
-// After a second's digits.
-fn after_second(s: &[u8], q: usize, w: When, hour: u8, minute: u8, second: u8, at: usize) -> Scanned
-    requires { ⌜ Place (now s) at ⌝ }
-    ensures { λ r. ⌜ Reads (now (s .entry)) at (field q (Numeric.second (whenOf w) hour minute) 0 second) r ⌝ }
+// After a second's point: the digits of its fraction. c is the time of day without it.
+fn second_part(s: &[u8], q: usize, w: When, mut c: Clock, i: usize) -> Scanned
+    requires { ⌜ Place (now s) i ⌝ }
+    ensures { λ r. ⌜ Reads (now (s .entry)) i (Numeric.secPoint q (whenOf w) (c .hour) (c .minute) (c .second)) r ⌝ }
 {
-    if at >= s.len() {
-        return clocked(
-            s,
-            q,
-            w,
-            Clock {
-                hour: hour,
-                minute: minute,
-                second: second,
-                nanos: 0,
-            },
-            at,
-        );
-    }
-    if s[at] != b'.' {
-        return clocked(
-            s,
-            q,
-            w,
-            Clock {
-                hour: hour,
-                minute: minute,
-                second: second,
-                nanos: 0,
-            },
-            at,
-        );
-    }
-    let i = at + 1;
     if i >= s.len() {
         return Scanned::Refused(Refusal::NotGrammar(i));
     }
@@ -337,18 +313,28 @@ fn after_second(s: &[u8], q: usize, w: When, hour: u8, minute: u8, second: u8, a
     let v = n.v;
     let left = n.left;
     let next = n.at;
-    clocked(
-        s,
-        q,
-        w,
-        Clock {
-            hour: hour,
-            minute: minute,
-            second: second,
-            nanos: scaled(v, left),
-        },
-        next,
-    )
+    c.nanos = scaled(v, left);
+    clocked(s, q, w, c, next)
+}
+
+// After a second's digits.
+fn after_second(s: &[u8], q: usize, w: When, hour: u8, minute: u8, second: u8, at: usize) -> Scanned
+    requires { ⌜ Place (now s) at ⌝ }
+    ensures { λ r. ⌜ Reads (now (s .entry)) at (field q (Numeric.second (whenOf w) hour minute) 0 second) r ⌝ }
+{
+    let c = Clock {
+        hour,
+        minute,
+        second,
+        nanos: 0,
+    };
+    if at >= s.len() {
+        return clocked(s, q, w, c, at);
+    }
+    if s[at] != b'.' {
+        return clocked(s, q, w, c, at);
+    }
+    second_part(s, q, w, c, at + 1)
 }
 
 // After an hour and its colon.
@@ -421,16 +407,7 @@ pub fn after_year(s: &[u8], q: usize, year: u16, i: usize) -> Scanned
         Field::Bad(p) => Scanned::Refused(Refusal::NotGrammar(p)),
         Field::Got(month, k) => match two(s, k) {
             Field::Bad(p) => Scanned::Refused(Refusal::NotGrammar(p)),
-            Field::Got(day, at) => dated(
-                s,
-                q,
-                Date {
-                    year: year,
-                    month: month,
-                    day: day,
-                },
-                at,
-            ),
+            Field::Got(day, at) => dated(s, q, Date { year, month, day }, at),
         },
     }
 }

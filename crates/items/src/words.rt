@@ -3,6 +3,7 @@ ghost use Prim.Native.Nat.{_≤_};
 ghost use lib.ListN.{length};
 ghost use Rattle.items.specs.Spelling.{WordSays};
 
+// The place after a word, or the first where it is broken off.
 pub enum Word {
     Whole(usize),
     Cut(usize),

@@ -11,10 +11,10 @@ use Rattle.items.proofs.numerics.first_digits.Statement.{statement}
 use Rattle.items.proofs.numerics.first_digits.Tie as tie
 
 abbrev Inv-loop : tie.InvT-loop
-Inv-loop s q d x₀ v₀ n₀ i₀ x v n i = Among s q x v n i
+Inv-loop s q d acc₀ v₀ n₀ at₀ acc v n at = Among s q acc v n at
 
 abbrev μ-loop : tie.MeasureT-loop
-μ-loop s q d x₀ v₀ n₀ i₀ x v n i = length s - i
+μ-loop s q d acc₀ v₀ n₀ at₀ acc v n at = length s - at
 
 shared-slice-read-d : tie.Need-shared-slice-read-d Inv-loop μ-loop
 shared-slice-read-d c = omega arith
@@ -28,8 +28,8 @@ sub-v c = omega (arith, c .before .before .before .pre .digit)
 cast-v : tie.Need-cast-v Inv-loop μ-loop
 cast-v c = omega (arith, c .before .before .before .pre .digit)
 
-add-i : tie.Need-add-i Inv-loop μ-loop
-add-i c = omega (arith, c .before .before .before .pre .short)
+add-at : tie.Need-add-at Inv-loop μ-loop
+add-at c = omega (arith, c .before .before .before .pre .short)
 
 loop-holds : tie.Need-loop-holds Inv-loop μ-loop
 loop-holds c = among-start (c .before .before .before .args .s .now) (c .before .before .before .args .q) (record { c = 0; over = false; z = 0 }) (c .push .result) (c .before .before .before .pre .within) (c .before .before .before .pre .digit) refl (c .push .ensures .0) (refl, inl refl) (c .push .ensures .1)
@@ -61,14 +61,14 @@ add-v c = omega (arith, among-room (c .before .before .before .before .before .b
 add-n : tie.Need-add-n Inv-loop μ-loop
 add-n c = omega arith
 
-add-i-2 : tie.Need-add-i-2 Inv-loop μ-loop
-add-i-2 c = omega (arith, c .before .before .before .before .before .before .before .before .before .before .pre .short)
+add-at-2 : tie.Need-add-at-2 Inv-loop μ-loop
+add-at-2 c = omega (arith, c .before .before .before .before .before .before .before .before .before .before .pre .short)
 
 loop-less : tie.Need-loop-less Inv-loop μ-loop
 loop-less c = omega arith
 
 loop-again : tie.Need-loop-again Inv-loop μ-loop
-loop-again c = among-next (c .before .before .before .before .before .before .before .before .before .before .args .s .now) (c .before .before .before .before .before .before .before .before .before .before .args .q) (c .before .before .before .before .before .before .loop .x) (c .push2 .result) (c .before .before .before .before .before .before .loop .v) (c .before .before .before .before .before .before .loop .n) (c .before .before .before .before .before .before .loop .i) (c .before .before .before .before .before .before .loop .inv) (omega arith) (c .before .before .before .before .before .loop-test .taken) (omega arith) (omega arith) (c .push2 .ensures .0) (c .push2 .ensures .1)
+loop-again c = among-next (c .before .before .before .before .before .before .before .before .before .before .args .s .now) (c .before .before .before .before .before .before .before .before .before .before .args .q) (c .before .before .before .before .before .before .loop .acc) (c .push2 .result) (c .before .before .before .before .before .before .loop .v) (c .before .before .before .before .before .before .loop .n) (c .before .before .before .before .before .before .loop .at) (c .before .before .before .before .before .before .loop .inv) (omega arith) (c .before .before .before .before .before .loop-test .taken) (omega arith) (omega arith) (c .push2 .ensures .0) (c .push2 .ensures .1)
 
 returns-4 : tie.Need-returns-4 Inv-loop μ-loop
 returns-4 c = among-says _ _ _ _ _ _ (c .before .loop .inv) (inr (Edge.ends (omega arith)))
@@ -83,7 +83,7 @@ first-digits-spec =
     push-requires
     sub-v
     cast-v
-    add-i
+    add-at
     loop-holds
     returns
     shared-slice-read-b
@@ -94,7 +94,7 @@ first-digits-spec =
     cast-v-2
     add-v
     add-n
-    add-i-2
+    add-at-2
     loop-less
     loop-again
     returns-4)

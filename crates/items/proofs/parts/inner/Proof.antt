@@ -7,13 +7,6 @@ use lib.ListN.{length}
 use Rattle.items.proofs.PartsTurns.{Turn, turn-start, turn-plain, turn-end, turn-stop, turn-lone, turn-char, turn-wrong, turn-bad, turn-close}
 use Rattle.items.proofs.parts.inner.Statement.{statement}
 use Rattle.items.proofs.parts.inner.Tie as tie
-use Rattle.items.proofs.parts.inner.Reads as reads
-use Rattle.items.proofs.parts.inner.Lts as lts
-use Rattle.items.proofs.parts.character.Reads as character-reads
-use Rattle.items.proofs.parts.earlier.Reads as earlier-reads
-use Rattle.items.proofs.parts.plain_end.Reads as plain-end-reads
-use Rattle.items.proofs.stores.copy.Reads as copy-reads
-use Rattle.items.proofs.stores.encode.Reads as encode-reads
 
 abbrev Inv-loop : tie.InvT-loop
 Inv-loop s q store₀ at i₀ out₀ bad₀ store i out bad = Turn s q at store₀ store i out bad × (length store ≡ length store₀)
@@ -45,17 +38,41 @@ returns c = turn-end (turn-plain (c .before .before .before .before .before .bef
 shared-slice-read-b : tie.Need-shared-slice-read-b Inv-loop μ-loop
 shared-slice-read-b c = omega arith
 
+same-length-2 : tie.Need-same-length-2 Inv-loop μ-loop
+same-length-2 c = c .before .before .before .before .before .before .copy .kept .1 .1 .1 .0 ∙ c .before .before .before .before .before .before .before .before .before .loop .inv .1
+
+returns-2 : tie.Need-returns-2 Inv-loop μ-loop
+returns-2 c = let p = c .before .before .before .before .before .before .before .before .plain-end .ensures in turn-wrong (turn-plain (c .before .before .before .before .before .before .before .before .before .loop .inv .0) (c .before .before .before .before .before .before .before .before .plain-end .ensures) (c .before .before .before .before .before .before .copy .ensures)) (c .before .before .before .if1 .left) (c .before .if2 .taken) (p .stopped) (c .if3 .taken)
+
+same-length-3 : tie.Need-same-length-3 Inv-loop μ-loop
+same-length-3 c = c .before .before .before .before .before .before .before .copy .kept .1 .1 .1 .0 ∙ c .before .before .before .before .before .before .before .before .before .before .loop .inv .1
+
+returns-3 : tie.Need-returns-3 Inv-loop μ-loop
+returns-3 c = turn-bad (turn-plain (c .before .before .before .before .before .before .before .before .before .before .loop .inv .0) (c .before .before .before .before .before .before .before .before .before .plain-end .ensures) (c .before .before .before .before .before .before .before .copy .ensures)) (c .before .before .before .before .if1 .left) (c .before .before .if2 .taken) (c .before .if3 .left) (c .if4 .taken)
+
+add-t23 : tie.Need-add-t23 Inv-loop μ-loop
+add-t23 c = omega arith
+
+sub-t24 : tie.Need-sub-t24 Inv-loop μ-loop
+sub-t24 c = let t = c .before .before .before .before .before .before .before .before .before .before .loop .inv .0 in omega (arith, t .counted)
+
+same-length-4 : tie.Need-same-length-4 Inv-loop μ-loop
+same-length-4 c = c .before .before .before .before .before .before .before .copy .kept .1 .1 .1 .0 ∙ c .before .before .before .before .before .before .before .before .before .before .loop .inv .1
+
+returns-4 : tie.Need-returns-4 Inv-loop μ-loop
+returns-4 c = turn-close (turn-plain (c .before .before .before .before .before .before .before .before .before .before .loop .inv .0) (c .before .before .before .before .before .before .before .before .before .plain-end .ensures) (c .before .before .before .before .before .before .before .copy .ensures)) (c .before .before .before .before .if1 .left) (c .before .before .if2 .taken) (c .before .if3 .left) (c .if4 .left)
+
 character-requires : tie.Need-character-requires Inv-loop μ-loop
-character-requires c κs = (omega arith, c .if2 .taken)
+character-requires c κs = (omega arith, c .if2 .left)
 
 enum-known-p : tie.Need-enum-known-p Inv-loop μ-loop
 enum-known-p c = search needs
 
-same-length-2 : tie.Need-same-length-2 Inv-loop μ-loop
-same-length-2 c = c .before .before .before .before .before .before .before .before .before .copy .kept .1 .1 .1 .0 ∙ c .before .before .before .before .before .before .before .before .before .before .before .before .loop .inv .1
+same-length-5 : tie.Need-same-length-5 Inv-loop μ-loop
+same-length-5 c = c .before .before .before .before .before .before .before .before .before .copy .kept .1 .1 .1 .0 ∙ c .before .before .before .before .before .before .before .before .before .before .before .before .loop .inv .1
 
-returns-2 : tie.Need-returns-2 Inv-loop μ-loop
-returns-2 c = turn-stop (turn-plain (c .before .before .before .before .before .before .before .before .before .before .before .before .loop .inv .0) (c .before .before .before .before .before .before .before .before .before .before .before .plain-end .ensures) (c .before .before .before .before .before .before .before .before .before .copy .ensures)) (omega arith) (rw (c .before .p .given .1) at (c .before .before .before .character .ensures))
+returns-5 : tie.Need-returns-5 Inv-loop μ-loop
+returns-5 c = turn-stop (turn-plain (c .before .before .before .before .before .before .before .before .before .before .before .before .loop .inv .0) (c .before .before .before .before .before .before .before .before .before .before .before .plain-end .ensures) (c .before .before .before .before .before .before .before .before .before .copy .ensures)) (omega arith) (rw (c .before .p .given .1) at (c .before .before .before .character .ensures))
 
 enum-known-next : tie.Need-enum-known-next Inv-loop μ-loop
 enum-known-next c = search needs
@@ -81,30 +98,6 @@ loop-less-2 c = let u = (rw (c .before .before .before .before .before .next2 .g
 loop-again-2 : tie.Need-loop-again-2 Inv-loop μ-loop
 loop-again-2 c = (turn-char (turn-plain (c .before .before .before .before .before .before .before .before .before .before .before .before .before .before .before .before .loop .inv .0) (c .before .before .before .before .before .before .before .before .before .before .before .before .before .before .before .plain-end .ensures) (c .before .before .before .before .before .before .before .before .before .before .before .before .before .copy .ensures)) (rw (c .before .before .before .before .before .next2 .given .1) at (c .before .before .before .before .before .before .before .character .ensures)) (c .before .before .encode .ensures .0) (c .before .before .encode .ensures .1), c .before .before .encode .kept .1 .0 ∙ c .before .before .before .before .before .before .before .before .before .before .before .before .before .copy .kept .1 .1 .1 .0 ∙ c .before .before .before .before .before .before .before .before .before .before .before .before .before .before .before .before .loop .inv .1)
 
-same-length-3 : tie.Need-same-length-3 Inv-loop μ-loop
-same-length-3 c = c .before .before .before .before .before .before .copy .kept .1 .1 .1 .0 ∙ c .before .before .before .before .before .before .before .before .before .loop .inv .1
-
-returns-3 : tie.Need-returns-3 Inv-loop μ-loop
-returns-3 c = let p = c .before .before .before .before .before .before .before .before .plain-end .ensures in turn-wrong (turn-plain (c .before .before .before .before .before .before .before .before .before .loop .inv .0) (c .before .before .before .before .before .before .before .before .plain-end .ensures) (c .before .before .before .before .before .before .copy .ensures)) (c .before .before .before .if1 .left) (c .before .if2 .left) (p .stopped) (c .if3 .taken)
-
-same-length-4 : tie.Need-same-length-4 Inv-loop μ-loop
-same-length-4 c = c .before .before .before .before .before .before .before .copy .kept .1 .1 .1 .0 ∙ c .before .before .before .before .before .before .before .before .before .before .loop .inv .1
-
-returns-4 : tie.Need-returns-4 Inv-loop μ-loop
-returns-4 c = turn-bad (turn-plain (c .before .before .before .before .before .before .before .before .before .before .loop .inv .0) (c .before .before .before .before .before .before .before .before .before .plain-end .ensures) (c .before .before .before .before .before .before .before .copy .ensures)) (c .before .before .before .before .if1 .left) (c .before .before .if2 .left) (c .before .if3 .left) (c .if4 .taken)
-
-add-t26 : tie.Need-add-t26 Inv-loop μ-loop
-add-t26 c = omega arith
-
-sub-t27 : tie.Need-sub-t27 Inv-loop μ-loop
-sub-t27 c = let t = c .before .before .before .before .before .before .before .before .before .before .loop .inv .0 in omega (arith, t .counted)
-
-same-length-5 : tie.Need-same-length-5 Inv-loop μ-loop
-same-length-5 c = c .before .before .before .before .before .before .before .copy .kept .1 .1 .1 .0 ∙ c .before .before .before .before .before .before .before .before .before .before .loop .inv .1
-
-returns-5 : tie.Need-returns-5 Inv-loop μ-loop
-returns-5 c = turn-close (turn-plain (c .before .before .before .before .before .before .before .before .before .before .loop .inv .0) (c .before .before .before .before .before .before .before .before .before .plain-end .ensures) (c .before .before .before .before .before .before .before .copy .ensures)) (c .before .before .before .before .if1 .left) (c .before .before .if2 .left) (c .before .if3 .left) (c .if4 .left)
-
 pub inner-spec : {M : Type 1} → statement M
 inner-spec =
     tie.close
@@ -119,10 +112,18 @@ inner-spec =
     same-length
     returns
     shared-slice-read-b
-    character-requires
-    enum-known-p
     same-length-2
     returns-2
+    same-length-3
+    returns-3
+    add-t23
+    sub-t24
+    same-length-4
+    returns-4
+    character-requires
+    enum-known-p
+    same-length-5
+    returns-5
     enum-known-next
     earlier-requires
     loop-less
@@ -130,12 +131,4 @@ inner-spec =
     enum-known-next-2
     encode-requires
     loop-less-2
-    loop-again-2
-    same-length-3
-    returns-3
-    same-length-4
-    returns-4
-    add-t26
-    sub-t27
-    same-length-5
-    returns-5)
+    loop-again-2)

@@ -1,10 +1,6 @@
--- Hour and minute must come, and each is judged. Assumes nothing.
-use Prim.Native.Nat.{_+_, _*_}
-use native.Mathlib.Omega.{arith}
-use mir.Syntax.{w16}
-use Rattle.items.proofs.NumericsSettled.{back}
+-- The hour and its colon must come. Assumes nothing.
 use Rattle.meaning.specs.Letters.{ch}
-use Rattle.items.proofs.NumericsTimes.{mark-got, offset-bad, offset-bad-minute, offset-hour, offset-minute, offset-ends}
+use Rattle.items.proofs.NumericsTimes.{mark-got, offset-bad, offset-got}
 use borrow.Author.Needs.{needs}
 use Rattle.items.proofs.times.offset.Statement.{statement}
 use Rattle.items.proofs.times.offset.Tie as tie
@@ -18,35 +14,14 @@ enum-known-p c = search needs
 enum-known-hour : tie.Need-enum-known-hour
 enum-known-hour c = search needs
 
-two-requires : tie.Need-two-requires
-two-requires c κs = let g = mark-got (c .before .before .before .before .before .args .s .now) (c .before .before .before .before .before .args .i) (ch ":") _ (c .before .before .before .two-then .ensures) _ _ (c .before .hour .given .1) in record { within = g .0; short = c .before .before .before .before .before .pre .0 .short }
-
-enum-known-p-2 : tie.Need-enum-known-p-2
-enum-known-p-2 c = search needs
-
-enum-known-minute : tie.Need-enum-known-minute
-enum-known-minute c = search needs
+offset-minute-requires : tie.Need-offset-minute-requires
+offset-minute-requires c κs = let g = mark-got (c .before .before .before .before .before .args .s .now) (c .before .before .before .before .before .args .i) (ch ":") _ (c .before .before .before .two-then .ensures) _ _ (c .before .hour .given .1) in (record { within = g .0; short = c .before .before .before .before .before .pre .0 .short }, c .before .before .before .before .before .pre .1)
 
 returns : tie.Need-returns
-returns c = offset-hour _ _ _ _ _ _ _ (c .before .before .before .before .before .before .before .before .two-then .ensures) _ _ (c .before .before .before .before .before .before .hour .given .1) _ (c .before .before .before .before .two .ensures) _ _ (c .before .before .minute .given .1) (c .if1 .taken)
+returns c = offset-bad _ _ _ _ _ _ _ (c .before .before .before .two-then .ensures) _ (c .before .p .given .1)
 
 returns-2 : tie.Need-returns-2
-returns-2 c = offset-minute _ _ _ _ _ _ _ (c .before .before .before .before .before .before .before .before .before .two-then .ensures) _ _ (c .before .before .before .before .before .before .before .hour .given .1) _ (c .before .before .before .before .before .two .ensures) _ _ (c .before .before .before .minute .given .1) (c .if2 .taken)
-
-minutes-requires : tie.Need-minutes-requires
-minutes-requires c κs = search needs
-
-offset-date-time-requires : tie.Need-offset-date-time-requires
-offset-date-time-requires c κs = search needs
-
-returns-3 : tie.Need-returns-3
-returns-3 c = offset-bad _ _ _ _ _ _ _ (c .before .before .before .two-then .ensures) _ (c .before .p .given .1)
-
-returns-4 : tie.Need-returns-4
-returns-4 c = offset-bad-minute _ _ _ _ _ _ _ (c .before .before .before .before .before .before .before .two-then .ensures) _ _ (c .before .before .before .before .before .hour .given .1) _ (c .before .before .before .two .ensures) _ (c .before .p2 .given .1)
-
-returns-5 : tie.Need-returns-5
-returns-5 c = offset-ends _ _ _ _ _ _ _ (c .before .before .before .before .before .before .before .before .before .before .before .two-then .ensures) _ _ (c .before .before .before .before .before .before .before .before .before .hour .given .1) _ (c .before .before .before .before .before .before .before .two .ensures) _ _ (c .before .before .before .before .before .minute .given .1) (omega arith) (omega arith) _ (back w16 _ (c .before .before .before .before .before .before .before .before .before .before .before .before .before .args .minus) (c .before .before .before .before .before .before .before .before .before .hour .given .0 .0 * 60 + c .before .before .before .before .before .minute .given .0 .0) (omega arith) (c .before .minutes .ensures)) _ (c .offset-date-time .ensures)
+returns-2 c = offset-got _ _ _ _ _ _ _ (c .before .before .before .before .two-then .ensures) _ _ (c .before .before .hour .given .1) _ (c .offset-minute .ensures)
 
 pub offset-spec : {M : Type 1} → statement M
 offset-spec =
@@ -55,13 +30,6 @@ offset-spec =
     two-then-requires
     enum-known-p
     enum-known-hour
-    two-requires
-    enum-known-p-2
-    enum-known-minute
+    offset-minute-requires
     returns
-    returns-2
-    minutes-requires
-    offset-date-time-requires
-    returns-3
-    returns-4
-    returns-5)
+    returns-2)
