@@ -306,7 +306,8 @@ static void time_all(const std::string &name, const Texts &texts, int rounds) {
         }
     for (auto &c : contestants) {
         std::sort(c.times.begin(), c.times.end());
-        printf("%s\t%s\t%s\t%zu\t%zu\t%.9f\t%.9f\n", name.c_str(), c.group.c_str(), c.name.c_str(), texts.size(), length, c.times[c.times.size() / 2], c.times[0]);
+        printf("%s\t%s\t%s\t%zu\t%zu\t%.9f\t%.9f\n", name.c_str(), c.group.c_str(), c.name.c_str(), texts.size(), length,
+               c.times[c.times.size() / 2], c.times[0]);
     }
     fflush(stdout);
 }
