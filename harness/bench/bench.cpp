@@ -1,9 +1,10 @@
 // Lanternrung beside what users would pick instead, in one process: measure, read, and read then write, on the same texts.
 //   bench ROUNDS FOLDER FILE..
 // FOLDER has the peers that stand in shared objects of their own, and takes the JSON text that Lanternrung writes. Every
-// contestant takes a FILE.json; of a FILE.jaxn only Lanternrung is timed, of a FILE.txt only the UTF-8 checks and copying.
-// Prints lines "file group name bytes median fastest" with tabs between, times in seconds; chart.py makes the table and the
-// chart. Interleaved: in each round every contestant runs once. Allocating and freeing a tree is part of a peer's time;
+// contestant takes a FILE.json; of a FILE.jaxn only Lanternrung is timed, of a FILE.txt only the UTF-8 checks and copying. A
+// FILE.seq has many texts, each with its length before it, which three peers read one after the other in each round.
+// Prints lines "file group name texts bytes median fastest" with tabs between, times in seconds; chart.py makes the tables and
+// the chart. Interleaved: in each round every contestant runs once. Allocating and freeing a tree is part of a peer's time;
 // simdjson keeps its parser, and Lanternrung its buffers, from round to round. A peer whose header is missing is left out.
 #include <algorithm>
 #include <cstdint>
@@ -77,47 +78,90 @@ static Text load(const char *file) {
     return text;
 }
 
+using Texts = std::vector<Text>;
+
+// The call on each text in turn; 0 where one is refused.
+template <typename Call> static std::function<size_t()> each(const Texts &texts, Call call) {
+    return [&texts, call] {
+        size_t all = 0;
+        for (auto &text : texts) {
+            size_t one = call(text);
+            if (!one) return one;
+            all += one;
+        }
+        return all;
+    };
+}
+
+static const uint8_t *bytes(const Text &text) { return (const uint8_t *)text.data(); }
+
 // Lanternrung with lent buffers: no text needs more store bytes than its length. `json` says which of the two writers is meant.
 struct Ours {
-    const uint8_t *text;
-    size_t length;
     std::vector<uint8_t> tape, store, out;
     lr_sizes sizes{};
     lr_written written{};
     decltype(&lanternrung_write_json) write;
 
-    Ours(const Text &t, bool json)
-        : text((const uint8_t *)t.data()), length(t.size()), store(t.size(), 1), out(2 * t.size(), 1),
-          write(json ? lanternrung_write_json : lanternrung_write_jaxn) {
-        tape.assign(16 * lanternrung_measure(text, length).records, 1);
+    Ours(const Texts &texts, bool json) : write(json ? lanternrung_write_json : lanternrung_write_jaxn) {
+        size_t records = 0, longest = 0;
+        for (auto &text : texts) {
+            records = std::max(records, (size_t)lanternrung_measure(bytes(text), text.size()).records);
+            longest = std::max(longest, text.size());
+        }
+        tape.assign(16 * records, 1);
+        store.assign(longest, 1);
+        out.assign(2 * longest, 1);
     }
-    size_t read() {
-        sizes = lanternrung_read(text, length, tape.data(), tape.size(), store.data(), store.size());
+    size_t read(const Text &text) {
+        sizes = lanternrung_read(bytes(text), text.size(), tape.data(), tape.size(), store.data(), store.size());
         return sizes.refused ? 0 : sizes.records;
     }
-    size_t round() {
-        if (!read()) return 0;
+    size_t round(const Text &text) {
+        if (!read(text)) return 0;
         written = write(tape.data(), 16 * sizes.records, store.data(), sizes.bytes, out.data(), out.size());
         return written.refused ? 0 : written.length;
     }
 };
 
-static void add_ours(Ours &ours) {
-    add("read", "Lanternrung measure", [&] { return (size_t)lanternrung_measure(ours.text, ours.length).records; });
-    add("read", "Lanternrung read", [&] { return ours.read(); });
-    add("round", "Lanternrung", [&] { return ours.round(); });
+static void add_ours(Ours &ours, const Texts &texts) {
+    add("read", "Lanternrung measure", each(texts, [](const Text &text) { return (size_t)lanternrung_measure(bytes(text), text.size()).records; }));
+    add("read", "Lanternrung read", each(texts, [&ours](const Text &text) { return ours.read(text); }));
+    add("round", "Lanternrung", each(texts, [&ours](const Text &text) { return ours.round(text); }));
 }
 
-static void add_simdjson(const Text &in) {
 #ifdef HAS_SIMDJSON
-    static simdjson::dom::parser parser;
-    static simdjson::padded_string padded;
-    padded = simdjson::padded_string(in);
-    add("read", "simdjson", [] { simdjson::dom::element e; return (size_t)!parser.parse(padded).get(e); });
-    add("round", "simdjson", [] {
-        simdjson::dom::element e;
-        return parser.parse(padded).get(e) ? (size_t)0 : simdjson::minify(e).size();
-    });
+static simdjson::dom::parser parser;
+
+static size_t simd_read(const simdjson::padded_string &in) {
+    simdjson::dom::element e;
+    return !parser.parse(in).get(e);
+}
+
+static size_t simd_round(const simdjson::padded_string &in) {
+    simdjson::dom::element e;
+    return parser.parse(in).get(e) ? (size_t)0 : simdjson::minify(e).size();
+}
+#endif
+
+// simdjson wants room behind a text: it is given its own copies, made before the time begins.
+static void add_simdjson(const Texts &texts) {
+#ifdef HAS_SIMDJSON
+    static std::vector<simdjson::padded_string> padded;
+    padded.clear();
+    for (auto &text : texts) padded.emplace_back(text);
+    auto all = [](size_t (*call)(const simdjson::padded_string &)) {
+        return [call] {
+            size_t done = 0;
+            for (auto &in : padded) {
+                size_t one = call(in);
+                if (!one) return one;
+                done += one;
+            }
+            return done;
+        };
+    };
+    add("read", "simdjson", all(simd_read));
+    add("round", "simdjson", all(simd_round));
 #endif
 }
 
@@ -161,20 +205,20 @@ static boost::json::value boost_value(const Text &in, boost::system::error_code 
 }
 #endif
 
-static void add_boost(const Text &in) {
+static void add_boost(const Texts &texts) {
 #ifdef HAS_BOOST
-    add("read", "Boost.JSON", [&] {
+    add("read", "Boost.JSON", each(texts, [](const Text &in) {
         boost::system::error_code e;
         boost::json::monotonic_resource memory;
         auto v = boost_value(in, e, memory);
         return (size_t)!e;
-    });
-    add("round", "Boost.JSON", [&] {
+    }));
+    add("round", "Boost.JSON", each(texts, [](const Text &in) {
         boost::system::error_code e;
         boost::json::monotonic_resource memory;
         auto v = boost_value(in, e, memory);
         return e ? (size_t)0 : boost::json::serialize(v).size();
-    });
+    }));
 #endif
 }
 
@@ -224,10 +268,11 @@ static void add_checks(const Text &in, Text &copy, const std::string &folder) {
 #endif
 }
 
-static void add_peers(const Text &in, const std::string &folder) {
-    add_simdjson(in);
+static void add_peers(const Texts &texts, const std::string &folder) {
+    const Text &in = texts[0];
+    add_simdjson(texts);
     add_rapidjson(in);
-    add_boost(in);
+    add_boost(texts);
     add_shared(in, folder, "read", "serde_json", "peer_serde.so", "peer_parse");
     add_shared(in, folder, "round", "serde_json", "peer_serde.so", "peer_round");
     add_nlohmann(in);
@@ -238,7 +283,19 @@ static void add_peers(const Text &in, const std::string &folder) {
     add_cjson(in);
 }
 
-static void time_all(const std::string &name, size_t length, int rounds) {
+// The peers that a reader of small texts would take.
+static void add_small_peers(const Texts &texts) {
+    add_simdjson(texts);
+#ifdef HAS_RAPIDJSON
+    add("read", "RapidJSON, UTF-8 not checked", each(texts, rapid_read<rapidjson::kParseDefaultFlags>));
+    add("round", "RapidJSON, UTF-8 not checked", each(texts, rapid_round<rapidjson::kParseDefaultFlags>));
+#endif
+    add_boost(texts);
+}
+
+static void time_all(const std::string &name, const Texts &texts, int rounds) {
+    size_t length = 0;
+    for (auto &text : texts) length += text.size();
     for (int r = 0; r < rounds; r++)
         for (auto &c : contestants) {
             double start = now();
@@ -249,7 +306,8 @@ static void time_all(const std::string &name, size_t length, int rounds) {
         }
     for (auto &c : contestants) {
         std::sort(c.times.begin(), c.times.end());
-        printf("%s\t%s\t%s\t%zu\t%.9f\t%.9f\n", name.c_str(), c.group.c_str(), c.name.c_str(), length, c.times[c.times.size() / 2], c.times[0]);
+        printf("%s\t%s\t%s\t%zu\t%zu\t%.9f\t%.9f\n", name.c_str(), c.group.c_str(), c.name.c_str(), texts.size(), length,
+               c.times[c.times.size() / 2], c.times[0]);
     }
     fflush(stdout);
 }
@@ -258,15 +316,30 @@ static bool ends(const std::string &name, const std::string &with) {
     return name.size() >= with.size() && name.compare(name.size() - with.size(), with.size(), with) == 0;
 }
 
+static Texts cut(const Text &all) {
+    Texts texts;
+    for (size_t at = 0; at + 4 <= all.size();) {
+        auto b = bytes(all) + at;
+        size_t length = b[0] | b[1] << 8 | b[2] << 16 | (size_t)b[3] << 24;
+        texts.push_back(all.substr(at + 4, length));
+        at += 4 + length;
+    }
+    return texts;
+}
+
 static void run(const std::string &file, const std::string &folder, int rounds) {
-    Text in = load(file.c_str()), copy(in.size(), 1);
     std::string name = file.substr(file.rfind('/') + 1);
-    Ours ours(in, ends(name, ".json"));
+    bool many = ends(name, ".seq"), json = ends(name, ".json"), jaxn = name.find("jaxn") != name.npos;
+    Texts texts = many ? cut(load(file.c_str())) : Texts{load(file.c_str())};
+    Text copy(texts[0].size(), 1);
+    Ours ours(texts, !jaxn);
     contestants.clear();
-    if (!ends(name, ".jaxn")) add_checks(in, copy, folder);
-    if (!ends(name, ".txt")) add_ours(ours);
-    if (ends(name, ".json")) add_peers(in, folder);
-    time_all(name, in.size(), rounds);
+    if (!many && !jaxn && name != "indented.json") add_checks(texts[0], copy, folder);
+    if (!ends(name, ".txt")) add_ours(ours, texts);
+    if (json) add_peers(texts, folder);
+    if (many && !jaxn) add_small_peers(texts);
+    time_all(name, texts, rounds);
+    if (many) return;
     if (FILE *o = fopen((folder + "/" + name + ".written").c_str(), "wb")) {
         fwrite(ours.out.data(), 1, ours.written.length, o);
         fclose(o);

@@ -13,6 +13,8 @@ from xml.sax.saxutils import escape
 BEGIN, END = "<!-- figures: written by harness/bench/run -->", "<!-- end of figures -->"
 GROUPS = {"read": "Read", "round": "Read, then write", "utf8": "UTF-8 checked alone, and copying as the limit"}
 OWN = {"read": "Lanternrung read", "round": "Lanternrung", "utf8": "Lanternrung utf8"}
+KINDS = {"records": "Small records", "nested": "Small nested texts", "jaxn": "Small JAXN texts"}
+SIZES = {"50": "50 bytes", "1k": "1 KiB", "4k": "4 KiB", "16k": "16 KiB"}
 WHOLE = "RapidJSON, UTF-8 checked, numbers kept whole"
 RUST = "Rust str::from_utf8"
 OURS, PEER, INK, GREY, LINE = "#c2410c", "#94a3b8", "#1f2937", "#64748b", "#e2e8f0"
@@ -20,13 +22,19 @@ BAR, GAP, LABEL, WIDTH, SPACE = 15, 5, 310, 185, 60
 
 
 def load(path):
-    """{(group, name): {file: MB/s by the median}}, in the order of the file."""
-    rows = {}
+    """By the medians, in the order of TIMES: {(group, name): {file: MB/s}} of the files, {kind: {name: {size: (ns, MB/s)}}} of the small texts."""
+    rows, small = {}, {}
     with open(path) as f:
         for line in f:
-            file, group, name, size, median, _ = line.rstrip("\n").split("\t")
-            rows.setdefault((group, name), {})[file] = int(size) / 1e6 / float(median)
-    return rows
+            file, group, name, texts, size, median, _ = line.rstrip("\n").split("\t")
+            speed, call = int(size) / 1e6 / float(median), float(median) / int(texts) * 1e9
+            if not file.endswith(".seq"):
+                rows.setdefault((group, name), {})[file] = speed
+                continue
+            kind, length = file[:-4].split("-")
+            label = name if name.startswith("Lanternrung ") else name + (", read" if group == "read" else ", read then write")
+            small.setdefault(kind, {}).setdefault(label, {})[SIZES[length]] = (call, speed)
+    return rows, small
 
 
 def said(command, pattern):
@@ -84,6 +92,22 @@ def table(rows, group):
     return out
 
 
+def small_table(kind, lines):
+    sizes = list(SIZES.values())
+    out = ["", f"### {KINDS[kind]}", "", "| ns a call (MB/s) | " + " | ".join(sizes) + " |", "|---" * (len(sizes) + 1) + "|"]
+    for name, cells in sorted(lines.items(), key=lambda line: "write" in line[0]):
+        shown = f"**{name}**" if name.startswith("Lanternrung") else name
+        out.append(f"| {shown} | " + " | ".join("{:.0f} ({:.0f})".format(*cells[size]) for size in sizes) + " |")
+    return out
+
+
+def small_tables(small):
+    out = ["", "## Small texts", "", "What plants have: many different texts of about each size, one call for each. Nanoseconds a call, and MB/s in brackets."]
+    for kind, lines in small.items():
+        out += small_table(kind, lines)
+    return out if small else []
+
+
 def aims(rows):
     """The three aims as ratios; 1 or more is met."""
     read, round_ = rows["read", OWN["read"]], rows["round", OWN["round"]]
@@ -113,15 +137,15 @@ def own_only(rows):
     return out
 
 
-def figures(rows):
+def figures(rows, small):
     out = [BEGIN, "", f"One run on {machine()}."]
     out += aims(rows)
     for group in GROUPS:
         out += table(rows, group)
-    return "\n".join(out + own_only(rows) + ["", END])
+    return "\n".join(out + own_only(rows) + small_tables(small) + ["", END])
 
 
-def page(path, rows):
+def page(path, rows, small):
     try:
         with open(path) as f:
             before = f.read()
@@ -130,39 +154,45 @@ def page(path, rows):
     if BEGIN not in before:
         before = f"# Speed beside peers\n\n![Bar chart](benchmark.svg)\n\n{BEGIN}\n{END}\n"
     head, tail = before.split(BEGIN)[0], before.split(END)[1]
-    return head + figures(rows) + tail
+    return head + figures(rows, small) + tail
 
 
-def bars(rows, group, y):
-    """One panel: names at the left, a column of bars for each file."""
-    files = files_of(rows, group)
-    out = [f'<text x="20" y="{y + 14}" font-size="14" font-weight="600">{escape(GROUPS[group])}</text>']
+def panel(title, files, speeds, y):
+    """Names at the left, a column of bars for each file. speeds: {name: {file: MB/s}}."""
+    out = [f'<text x="20" y="{y + 14}" font-size="14" font-weight="600">{escape(title)}</text>']
     y += 24
     for i, file in enumerate(files):
         x = 20 + LABEL + i * (WIDTH + SPACE)
         out.append(f'<text x="{x}" y="{y + 12}" fill="{GREY}">{escape(file)}</text>')
     y += 20
-    for name in names(rows, group):
+    for name, cells in speeds.items():
         ours = name.startswith("Lanternrung")
         weight = ' font-weight="600"' if ours else ""
         out.append(f'<text x="{20 + LABEL - 10}" y="{y + 12}" text-anchor="end"{weight}>{escape(name)}</text>')
         for i, file in enumerate(files):
             x = 20 + LABEL + i * (WIDTH + SPACE)
-            speed = rows[group, name].get(file)
-            if speed is not None:
-                top = max(s[file] for (g, _), s in rows.items() if g == group and file in s)
-                length = max(1.0, WIDTH * speed / top)
+            if file in cells:
+                length = max(1.0, WIDTH * cells[file] / max(s[file] for s in speeds.values() if file in s))
                 out.append(f'<rect x="{x}" y="{y}" width="{length:.1f}" height="{BAR}" rx="2" fill="{OURS if ours else PEER}"/>')
-                out.append(f'<text x="{x + length + 5:.1f}" y="{y + 12}" fill="{GREY}">{speed:.0f}</text>')
+                out.append(f'<text x="{x + length + 5:.1f}" y="{y + 12}" fill="{GREY}">{cells[file]:.0f}</text>')
         y += BAR + GAP
     return out, y + 22
 
 
-def chart(rows):
+def panels(rows, small):
+    """(title, files, speeds) of each panel."""
+    out = [(title, files_of(rows, group), {n: rows[group, n] for n in names(rows, group)}) for group, title in GROUPS.items()]
+    for kind, lines in small.items():
+        lines = dict(sorted(lines.items(), key=lambda line: "write" in line[0]))
+        out.append((KINDS[kind], list(SIZES.values()), {n: {size: speed for size, (_, speed) in cells.items()} for n, cells in lines.items()}))
+    return out
+
+
+def chart(rows, small):
     width = 40 + LABEL + 4 * (WIDTH + SPACE)
     out, y = [], 66
-    for group in GROUPS:
-        part, y = bars(rows, group, y)
+    for title, files, speeds in panels(rows, small):
+        part, y = panel(title, files, speeds, y)
         out += part
     head = [f'<svg xmlns="http://www.w3.org/2000/svg" viewBox="0 0 {width} {y}" width="{width}" height="{y}" '
             f'font-family="system-ui, sans-serif" font-size="12" fill="{INK}">',
@@ -175,8 +205,8 @@ def chart(rows):
 
 def main():
     times, md, svg = sys.argv[1:]
-    rows = load(times)
-    text, image = page(md, rows), chart(rows)
+    rows, small = load(times)
+    text, image = page(md, rows, small), chart(rows, small)
     with open(md, "w") as f:
         f.write(text)
     with open(svg, "w") as f:
