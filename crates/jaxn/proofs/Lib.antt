@@ -1,2 +1,3 @@
--- Rewriting: a text read, and its tape and store written
+-- Rewriting: a text read, and its tape and store written. Lines: the whole line, and that there is one
 pub mod Rewriting
+pub mod Lines

@@ -1,37 +1,88 @@
--- A text read into a tape and a store, and these written: the canonical text of its meaning. Assumes nothing.
+-- A text read into a tape and a store, and these written: the line that is printed. Assumes nothing.
 use mathlib.Core.Path.{_≡_, refl, sym, ap, _∙_, subst}
 use mathlib.Core.Bool.{true}
 use mathlib.Core.List.{List, _++_}
-use Prim.Native.Nat.{ℕ, _*_, _≤_}
+use Prim.Native.Nat.{ℕ, _*_, _≤_, _<_}
 use native.Mathlib.Omega.{arith}
 use lib.ListN.{length, take, drop}
 use lib.Seq.{take-at}
-use borrow.Author.Tests.{le-ltb}
+use Rattle.rules.specs.Paper.{Said, refused, numberSaid, placeSaid}
+use Rattle.rules.proofs.Outcomes.{done-apart}
 use Rattle.meaning.specs.declared.Refusal.{Refusal}
+use Rattle.meaning.specs.Bytes.{laid}
 use Rattle.meaning.specs.Meaning.{Meaning}
 use Rattle.meaning.specs.Limits.{textLimit}
+use Rattle.meaning.specs.Paper.{numberOf, placeOf, refusalSaid}
 use Rattle.meaning.specs.Canonical.{canonical}
 use Rattle.meaning.specs.Tape.{tapeOf, storeOf, records, bytes, WellFormed}
+use Rattle.meaning.proofs.Text.{canonical-short}
 use Rattle.meaning.proofs.Whole.{tape-length}
-use Rattle.grammar.specs.Values.{Text, text}
+use Rattle.grammar.specs.Values.{Text}
 use Rattle.grammar.proofs.Good.{text-good}
 use Rattle.grammar.proofs.Sizes.{text-fits}
-use Rattle.machine.specs.Machine.{Verdict}
-use Rattle.machine.specs.Verdict.{verdict}
-use Rattle.machine.proofs.Whole.{complete, unambiguous}
 use Rattle.reader.specs.declared.Answer.{Answer}
-use Rattle.reader.specs.declared.Answer.the-variants.{Counts, Refused}
-use Rattle.reader.specs.Answers.{Reads, answered, tapeBytes}
+use Rattle.reader.specs.declared.Answer.the-variants.{Counts}
+use Rattle.reader.specs.Answers.{Reads, answerSaid, tapeBytes, filled, tape-short, store-short}
 use Rattle.reader.proofs.Claims.{Held, read-accepts}
 use Rattle.writer.specs.declared.Written.{Written}
-use Rattle.writer.specs.declared.Written.the-variants.{Wrote}
+use Rattle.writer.specs.declared.Written.the-variants.{Wrote, Refused}
+use Rattle.writer.specs.Paper.{writeSaid}
 use Rattle.writer.specs.Written.{Writes, WritesJaxn, too-long, too-short, written}
-use Rattle.writer.proofs.Outcomes.{written-jaxn, one-outcome-jaxn}
-use Rattle.jaxn.specs.Rewrites.{Rewrites, refused, taken}
+use Rattle.writer.proofs.Outcomes.{written-jaxn, wrote-length, refused-apart}
+use Rattle.jaxn.specs.Line.{room, refusedLine, Line, output-short, printed}
+use Rattle.jaxn.specs.Steps.{Rewrites, refusing, printing}
+
+-- ---- what cannot be
+
+-- a text of at most 65,536 bytes needs no longer store
+store-enough : {t : List ℕ} {m : Meaning} → Text true t m → length t ≤ room → bytes m ≤ room
+store-enough x h = omega (arith, text-fits x .small)
+
+-- the text of what fits the tape and the store is no longer than a text may be
+never-too-long : {t : List ℕ} {m : Meaning} → Text true t m → length t ≤ room → tapeBytes m ≤ room → length (canonical m) ≤ textLimit
+never-too-long {m = m} x h f = omega (arith, canonical-short m (text-good x .parts), store-enough x h)
+
+-- ---- refused
+
+-- a refusal's line, by what is said of it
+told : {X : Type 0} {t : List ℕ} (why : Refusal) {n p : ℕ} → _≡_ {A = Said X} (refusalSaid why) (refused n p) → Line t (refusedLine n p)
+    → Line t (refusedLine (numberOf why) (placeOf why))
+told {t = t} why {n} {p} e l =
+    subst (λ (k : ℕ). Line t (refusedLine k (placeOf why))) (sym (ap numberSaid e)) (subst (λ (k : ℕ). Line t (refusedLine n k)) (sym (ap placeSaid e)) l)
+
+-- what `read` refuses is refused
+refused-line : {t tape store tape' store' : List ℕ} {why : Refusal} → length t ≤ room → length tape ≡ room → length store ≡ room
+    → Reads t tape store (Answer.Refused why) tape' store' → Line t (refusedLine (numberOf why) (placeOf why))
+refused-line h r s (filled x f g e) = absurd (done-apart (sym e))
+refused-line {why = why} h r s (tape-short x f e) = told why e (Line.tape-short h x (omega (arith, r)))
+refused-line h r s (store-short x f g e) = absurd (omega (arith, s, store-enough x h))
+refused-line {why = why} h r s (Reads.no-text x e) = told why e (Line.no-text h x)
+
+pub not-read : {t tape store tape' store' out : List ℕ} {a : Answer} {why : Refusal} → Reads t tape store a tape' store' → a ≡ Answer.Refused why
+    → length t ≤ room → length tape ≡ room → length store ≡ room → Rewrites t out (Refused why) out
+not-read {t} {tape} {store} {tape'} {store'} q e h r s = refusing (refused-line h r s (subst (λ (b : Answer). Reads t tape store b tape' store') e q))
+
+-- ---- written
 
 -- an accepted text is no longer than a text may be
 text-short : {t : List ℕ} {m : Meaning} → Text true t m → length t ≤ textLimit
-text-short (text w a v h) = h
+text-short (Text.text w a v h) = h
+
+module _ {t : List ℕ} {m : Meaning} {out : List ℕ} (h : length t ≤ room) (r : length out ≡ room) (x : Text true t m) (f : tapeBytes m ≤ room) where
+  short-line : (w : Written) → room < length (canonical m) → writeSaid w ≡ refused 12 (length (canonical m)) → Rewrites t out w out
+  short-line (Wrote n) k s = absurd (done-apart s)
+  short-line (Refused why) k s = refusing (told why s (output-short h x f k))
+
+  whole-line : (w : Written) → length (canonical m) ≤ room → writeSaid w ≡ Said.done (length (canonical m)) → Rewrites t out w (laid (canonical m) out)
+  whole-line (Refused why) k s = absurd (done-apart (sym s))
+  whole-line (Wrote n) k s =
+      let line : Rewrites t out (Wrote (length (canonical m))) (laid (canonical m) out) = printing (canonical m) (printed h x f k) (omega (arith, r)) in
+      subst (λ (i : ℕ). Rewrites t out (Wrote i) (laid (canonical m) out)) (sym (wrote-length s refl)) line
+
+  written-line : {w : Written} {out' : List ℕ} → Writes (canonical m) out w out' → Rewrites t out w out'
+  written-line (too-long k s) = absurd (omega (arith, never-too-long x h f))
+  written-line {w} (too-short k i s) = short-line w (omega (arith, r)) s
+  written-line {w} (written k i s) = whole-line w (omega (arith, r)) s
 
 module _ {t tape store : List ℕ} {a : Answer} {r s : ℕ} {tape' store' : List ℕ} (h : Reads t tape store a tape' store') (e : a ≡ Counts r s) where
   held : Held t tape store r s tape' store'
@@ -68,49 +119,7 @@ module _ {t tape store : List ℕ} {a : Answer} {r s : ℕ} {tape' store' : List
       record { meaning = held .meaning; good = text-good (held .text-means); few = omega arith; short = omega arith; taped = tape-is; stored = store-is }
 
   -- so that what is written is its canonical text
-  pub rewritten : {out out' : List ℕ} {w : Written} → WritesJaxn (take (r * 16) tape') (take s store') out w out' → Rewrites t tape store out w out'
+  pub rewritten : {out out' : List ℕ} {w : Written} → WritesJaxn (take (r * 16) tape') (take s store') out w out'
+      → length t ≤ room → length tape ≡ room → length out ≡ room → Rewrites t out w out'
   unfolding well
-  rewritten q = taken (held .text-means) (held .tape-room) (held .store-room) (written-jaxn well q)
-
--- what `read` refuses is refused
-pub not-read : {t tape store : List ℕ} {a : Answer} {why : Refusal} {tape' store' out : List ℕ} → Reads t tape store a tape' store' → a ≡ Refused why → Rewrites t tape store out (Written.Refused why) out
-not-read h e = refused (sym e ∙ h .answers)
-
-no-text : {why : Refusal} {n : ℕ} → Written.Refused why ≡ Wrote n → ⊥
-no-text e = let z : _≡_ {A = ℕ} 0 1 = cc in omega arith
-
--- what was written lies within the output
-pub within : {t tape store out out' : List ℕ} {w : Written} {n : ℕ} → Rewrites t tape store out w out' → w ≡ Wrote n → n ≤ length out
-within (refused h) e = absurd (no-text e)
-within (taken x f g (too-long h)) e = absurd (no-text e)
-within (taken x f g (too-short h k)) e = absurd (no-text e)
-within {n = n} (taken {m} x f g (written h k)) e = let z : length (canonical m) ≡ n = cc in omega arith
-
--- ---- one outcome: what is answered, and left in the output, is determined by the text and what is lent
-
--- a text with a meaning and room is not refused
-never : (t tape store : List ℕ) {m : Meaning} {why : Refusal} → Text true t m → tapeBytes m ≤ length tape → bytes m ≤ length store → Refused why ≡ answered (verdict t) (length tape) (length store) → ⊥
-unfolding answered
-never t tape store {m} x f g e =
-    let v : answered (verdict t) (length tape) (length store) ≡ Counts (records m) (bytes m) =
-    ap (λ (v : Verdict). answered v (length tape) (length store)) (complete x) ∙ rw (le-ltb (length tape) (tapeBytes m) f, le-ltb (length store) (bytes m) g) in
-    let z : _≡_ {A = ℕ} 0 1 = cc in
-    omega arith
-
--- the tape and the store of a text's meaning
-its-own : {t : List ℕ} {m : Meaning} → Text true t m → WellFormed (tapeOf m) (storeOf m)
-its-own {m = m} x =
-    let f = text-fits x in
-    let n = text-short x in
-    record { meaning = m; good = text-good x; few = omega arith; short = omega arith; taped = refl; stored = refl }
-
-one-text : {t out : List ℕ} {v w : Written} {a b : List ℕ} {m n : Meaning} → Text true t m → m ≡ n → Writes (canonical m) out v a → Writes (canonical n) out w b → (v ≡ w) × (a ≡ b)
-unfolding its-own
-one-text {out = out} {w = w} {b = b} x e p q =
-    one-outcome-jaxn (WritesJaxn.text (its-own x) p) (WritesJaxn.text (its-own x) (subst (λ (k : Meaning). Writes (canonical k) out w b) (sym e) q))
-
-pub one-outcome : {t tape store out : List ℕ} {v w : Written} {a b : List ℕ} → Rewrites t tape store out v a → Rewrites t tape store out w b → (v ≡ w) × (a ≡ b)
-one-outcome (refused {why = i} e) (refused {why = j} d) = let z : i ≡ j = cc in (ap Written.Refused z, refl)
-one-outcome {t} {tape} {store} (refused e) (taken x f g q) = absurd (never t tape store x f g e)
-one-outcome {t} {tape} {store} (taken x f g q) (refused e) = absurd (never t tape store x f g e)
-one-outcome (taken x f g p) (taken y h k q) = one-text x (unambiguous x y) p q
+  rewritten q i j k = written-line i k (held .text-means) (omega (arith, held .tape-room, j)) (written-jaxn well q)

@@ -1,13 +1,16 @@
 // The program: a JAXN text from standard input; its canonical text, or its refusal, and a line feed to standard output. What
 // cannot be read or written is told on standard error: no part of an input is passed off as the whole.
 ghost use Prim.Native.Nat.{_≤_};
+ghost use mathlib.Core.Path.{_≡_};
 ghost use lib.ListN.{length};
-ghost use Rattle.jaxn.specs.Rewrites.{Rewrites};
+ghost use Rattle.writer.specs.Laid.{Put};
+ghost use Rattle.jaxn.specs.Line.{refusedLine, Tells};
+ghost use Rattle.jaxn.specs.Steps.{Within, Rewrites};
+use lanternrung::Answer;
+use lanternrung::Written;
 use libc::STDIN_FILENO;
 use libc::STDOUT_FILENO;
-use meaning::Refusal;
-use reader::Answer;
-use writer::Written;
+use writer::digits;
 
 // The longest input, and what is lent for the tape, the store and the output.
 const ROOM: usize = 65536;
@@ -22,7 +25,9 @@ enum Input {
 }
 
 // Reads until the room is full or the input ends; a read that brings little, as from a pipe, is no end.
-fn fill(room: &mut [u8]) -> Input {
+fn fill(room: &mut [u8]) -> Input
+    ensures { λ i. ⌜ Within i (length (now (room .entry))) ⌝ }
+{
     let mut at: usize = 0;
     while at < room.len() {
         let got = libc::read(STDIN_FILENO, &mut room[at..]);
@@ -38,11 +43,14 @@ fn fill(room: &mut [u8]) -> Input {
     Input::Bytes(at)
 }
 
-// The canonical text of what the text means, by way of a tape and a store.
-fn rewrite(text: &[u8], tape: &mut [u8], store: &mut [u8], out: &mut [u8]) -> Written
-    ensures { λ w. ⌜ Rewrites (now (text .entry)) (now (tape .entry)) (now (store .entry)) (now (out .entry)) w (now (out .exit)) ⌝ }
+// The canonical text of what the text means, by way of a tape and a store; or the refusal of the first that refuses.
+fn rewrite(text: &[u8], out: &mut [u8]) -> Written
+    requires { ⌜ (length (now text) ≤ 65536) × (length (now out) ≡ 65536) ⌝ }
+    ensures { λ w. ⌜ Rewrites (now (text .entry)) (now (out .entry)) w (now (out .exit)) ⌝ }
 {
-    match lanternrung::read(text, tape, store) {
+    let mut tape = [0u8; ROOM];
+    let mut store = [0u8; ROOM];
+    match lanternrung::read(text, &mut tape, &mut store) {
         Answer::Refused(why) => Written::Refused(why),
         Answer::Counts { records, bytes } => {
             let used = records * 16;
@@ -51,52 +59,45 @@ fn rewrite(text: &[u8], tape: &mut [u8], store: &mut [u8], out: &mut [u8]) -> Wr
     }
 }
 
-// `refused N at P` and a line feed; false where not all could be written.
-fn print_refusal(number: u64, place: u64) -> bool {
-    io::write_all(STDOUT_FILENO, b"refused ")
-        && io::print_decimal(STDOUT_FILENO, number)
-        && io::write_all(STDOUT_FILENO, b" at ")
-        && io::print_decimal(STDOUT_FILENO, place)
-        && io::write_all(STDOUT_FILENO, b"\n")
-}
-
-// The text and a line feed, alike.
-fn print_text(text: &[u8]) -> bool {
-    io::write_all(STDOUT_FILENO, text) && io::write_all(STDOUT_FILENO, b"\n")
-}
-
-// A refusal by document 01's number and place.
-fn refuse(why: Refusal) -> bool {
-    print_refusal(
-        lanternrung::exports::number(why) as u64,
-        lanternrung::exports::place(why),
-    )
-}
-
-// The answer to a text of at most 65,536 bytes.
-fn answer(text: &[u8]) -> bool
-    requires { ⌜ length (now text) ≤ 65536 ⌝ }
+// `refused N at P` and a line feed.
+fn refused_line(out: &mut [u8], number: u64, place: u64) -> usize
+    requires { ⌜ 53 ≤ length (now out) ⌝ }
+    ensures { λ r. ⌜ Put (refusedLine number place) (now (out .entry)) (now (out .exit)) r ⌝ }
 {
-    let mut tape = [0u8; ROOM];
-    let mut store = [0u8; ROOM];
-    let mut out = [0u8; ROOM];
-    match rewrite(text, &mut tape, &mut store, &mut out) {
-        Written::Refused(why) => refuse(why),
-        Written::Wrote(length) => print_text(&out[..length]),
+    let a = digits::bytes_at(out, 0, b"refused ");
+    let b = digits::decimal_at(out, a, number);
+    let c = digits::bytes_at(out, b, b" at ");
+    let d = digits::decimal_at(out, c, place);
+    digits::byte_at(out, d, b'\n')
+}
+
+// All that is printed for an input, from the start of the output.
+fn line(input: &[u8], out: &mut [u8]) -> usize
+    requires { ⌜ 65537 ≤ length (now out) ⌝ }
+    ensures { λ n. ⌜ Tells (now (input .entry)) (now (out .entry)) n (now (out .exit)) ⌝ }
+{
+    if input.len() > ROOM {
+        return refused_line(out, 1, ROOM as u64);
+    }
+    match rewrite(input, &mut out[..ROOM]) {
+        Written::Refused(why) => {
+            let number = lanternrung::number(why) as u64;
+            let place = lanternrung::place(why);
+            refused_line(out, number, place)
+        }
+        Written::Wrote(size) => digits::byte_at(out, size, b'\n'),
     }
 }
 
+// Standard input whole, or so much that it is known to be too long; then its line.
 fn main() {
-    let mut text = [0u8; MORE];
-    match fill(&mut text) {
+    let mut input = [0u8; MORE];
+    let mut out = [0u8; MORE];
+    match fill(&mut input) {
         Input::Failed => os::fail(b"jaxn: standard input"),
         Input::Bytes(n) => {
-            let whole = if n > ROOM {
-                print_refusal(1, ROOM as u64)
-            } else {
-                answer(&text[..n])
-            };
-            if !whole {
+            let size = line(&input[..n], &mut out);
+            if !io::write_all(STDOUT_FILENO, &out[..size]) {
                 os::fail(b"jaxn: standard output");
             }
         }

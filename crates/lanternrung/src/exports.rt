@@ -1,12 +1,12 @@
 // The calls for C and Rust (include/lanternrung.h). Each passes on the library's answer, as document 01's number and place.
 ghost use mathlib.Core.Path.{_≡_};
-ghost use Rattle.meaning.specs.Paper.{numberOf, placeOf};
 ghost use Rattle.lanternrung.specs.Told.{sizesOf, textOf, flagOf, refusedFields, plainFields, numberFields, datedFields, timeFields, fieldsOf, Utf8Told, DateTold, MeasureTold, ReadTold, LookTold, JaxnTold, JsonTold};
+use crate::number;
+use crate::place;
 use meaning::Date;
 use meaning::Number;
 use meaning::Record;
 use meaning::Refusal;
-use meaning::TEXT_LIMIT;
 use meaning::Time;
 use reader::Answer;
 use rules::DateAnswer;
@@ -55,53 +55,6 @@ pub struct Fields {
     pub offset: i32,
     pub time: u64,
     pub end: u64,
-}
-
-// The longest text.
-const LONGEST: u64 = TEXT_LIMIT as u64;
-
-// A refusal's number.
-pub fn number(why: Refusal) -> u32
-    ensures { λ r. ⌜ r ≡ numberOf why ⌝ }
-{
-    match why {
-        Refusal::TextTooLong => 1,
-        Refusal::NotUtf8(_) => 2,
-        Refusal::NotGrammar(_) => 3,
-        Refusal::BadEscape(_) => 4,
-        Refusal::BadTime(_) => 5,
-        Refusal::BadNumber(_) => 6,
-        Refusal::TooDeep(_) => 7,
-        Refusal::TapeTooShort(_) => 8,
-        Refusal::StoreTooShort(_) => 9,
-        Refusal::NotWellFormed(_) => 10,
-        Refusal::NoJsonForm(_) => 11,
-        Refusal::OutputTooShort(_) => 12,
-        Refusal::WrittenTooLong(_) => 13,
-        Refusal::NoSuchRecord(_) => 14,
-    }
-}
-
-// A refusal's place.
-pub fn place(why: Refusal) -> u64
-    ensures { λ r. ⌜ r ≡ placeOf why ⌝ }
-{
-    match why {
-        Refusal::TextTooLong => LONGEST,
-        Refusal::NotUtf8(at) => at as u64,
-        Refusal::NotGrammar(at) => at as u64,
-        Refusal::BadEscape(at) => at as u64,
-        Refusal::BadTime(at) => at as u64,
-        Refusal::BadNumber(at) => at as u64,
-        Refusal::TooDeep(at) => at as u64,
-        Refusal::TapeTooShort(needed) => needed as u64,
-        Refusal::StoreTooShort(needed) => needed as u64,
-        Refusal::NotWellFormed(at) => at as u64,
-        Refusal::NoJsonForm(index) => index as u64,
-        Refusal::OutputTooShort(needed) => needed as u64,
-        Refusal::WrittenTooLong(size) => size as u64,
-        Refusal::NoSuchRecord(index) => index as u64,
-    }
 }
 
 fn sizes_of(a: Answer) -> Sizes

@@ -3,7 +3,7 @@ ghost use Rattle.meaning.specs.Tape.{WellFormed};
 ghost use Rattle.writer.specs.Walk.{WritesText};
 ghost use Rattle.writer.specs.Written.{WritesJaxn, WritesJson};
 
-mod digits;
+pub mod digits;
 mod numbers;
 mod records;
 mod runs;

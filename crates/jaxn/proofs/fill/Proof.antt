@@ -1,13 +1,14 @@
--- `fill` is safe and ends: each turn leaves less room. Assumes nothing.
+-- `fill`: each turn leaves less room, and what was read lies within it. Assumes nothing.
 use Prim.Native.Nat.{_-_, _≤_}
 use mathlib.Core.Path.{_≡_}
 use lib.ListN.{length}
+use Rattle.jaxn.specs.Steps.{bytes, failed}
 use borrow.Author.Needs.{needs}
 use Rattle.jaxn.proofs.fill.Statement.{statement}
 use Rattle.jaxn.proofs.fill.Tie as tie
 
 abbrev Inv-loop : tie.InvT-loop
-Inv-loop room₀ at₀ room at = (length room ≡ length room₀) × (at ≤ length room)
+Inv-loop room₀ at₀ room at = (length room ≡ length room₀) × (at ≤ length room₀)
 
 abbrev μ-loop : tie.MeasureT-loop
 μ-loop room₀ at₀ room at = length room - at
@@ -31,7 +32,7 @@ same-length : tie.Need-same-length Inv-loop μ-loop
 same-length c = search needs
 
 returns : tie.Need-returns Inv-loop μ-loop
-returns c = search needs
+returns c = failed
 
 sub-count : tie.Need-sub-count Inv-loop μ-loop
 sub-count c = search needs
@@ -49,7 +50,7 @@ same-length-2 : tie.Need-same-length-2 Inv-loop μ-loop
 same-length-2 c = search needs
 
 returns-2 : tie.Need-returns-2 Inv-loop μ-loop
-returns-2 c = search needs
+returns-2 c = bytes (c .before .before .before .before .before .before .before .before .before .before .loop .inv .1)
 
 add-at : tie.Need-add-at Inv-loop μ-loop
 add-at c = search needs
@@ -64,7 +65,7 @@ same-length-3 : tie.Need-same-length-3 Inv-loop μ-loop
 same-length-3 c = search needs
 
 returns-3 : tie.Need-returns-3 Inv-loop μ-loop
-returns-3 c = search needs
+returns-3 c = bytes (c .before .loop .inv .1)
 
 pub fill-spec : {M : Type 1} → statement M
 fill-spec =

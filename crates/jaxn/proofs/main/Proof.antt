@@ -1,6 +1,7 @@
--- `main`: what is answered lies within what was read. Assumes nothing.
-use Rattle.io.proofs.Counting.{front}
+-- `main`: what is answered lies within what was read, and what is printed within the output. Assumes nothing.
 use native.Mathlib.Omega.{arith}
+use Rattle.io.proofs.Counting.{front}
+use Rattle.jaxn.proofs.Lines.{read-within, tells-within}
 use borrow.Author.Needs.{needs}
 use Rattle.jaxn.proofs.main.Statement.{statement}
 use Rattle.jaxn.proofs.main.Tie as tie
@@ -23,17 +24,34 @@ fail-requires c κs = search needs
 enum-known-n : tie.Need-enum-known-n
 enum-known-n c = search needs
 
-print-refusal-requires : tie.Need-print-refusal-requires
-print-refusal-requires c κs = search needs
+array-share-prefix-input : tie.Need-array-share-prefix-input
+array-share-prefix-input c =
+    let fill = c .before .before .before .before .fill in
+    let n = c .before .n in
+    omega (arith, read-within (fill .ensures) (n .given .1))
 
-array-share-prefix-text : tie.Need-array-share-prefix-text
-array-share-prefix-text c = search needs
+slice-aggregate-line : tie.Need-slice-aggregate-line
+slice-aggregate-line c =
+    let n = c .before .before .n in
+    let fill = c .before .before .before .before .before .fill in
+    front (n .given .0 .0) (fill .last .0) (omega (arith, read-within (fill .ensures) (n .given .1)))
 
-slice-aggregate-answer : tie.Need-slice-aggregate-answer
-slice-aggregate-answer c = front (c .before .before .before .n .given .0 .0) (c .before .before .before .before .before .before .fill .last .0) (omega arith)
+slice-aggregate-line-2 : tie.Need-slice-aggregate-line-2
+slice-aggregate-line-2 c = search needs
 
-answer-requires : tie.Need-answer-requires
-answer-requires c κs = omega (arith, front (c .before .before .before .n .given .0 .0) (c .before .before .before .before .before .before .fill .last .0) (omega arith))
+line-requires : tie.Need-line-requires
+line-requires c κs = search needs
+
+array-share-prefix-out : tie.Need-array-share-prefix-out
+array-share-prefix-out c = tells-within (c .before .line .ensures)
+
+slice-aggregate-write-all : tie.Need-slice-aggregate-write-all
+slice-aggregate-write-all c =
+    let line = c .before .before .line in
+    front (line .result) (line .last .1 .0) (tells-within (line .ensures))
+
+write-all-requires : tie.Need-write-all-requires
+write-all-requires c κs = search needs
 
 slice-aggregate-fail-2 : tie.Need-slice-aggregate-fail-2
 slice-aggregate-fail-2 c = search needs
@@ -60,10 +78,13 @@ main-spec =
     slice-aggregate-fail
     fail-requires
     enum-known-n
-    print-refusal-requires
-    array-share-prefix-text
-    slice-aggregate-answer
-    answer-requires
+    array-share-prefix-input
+    slice-aggregate-line
+    slice-aggregate-line-2
+    line-requires
+    array-share-prefix-out
+    slice-aggregate-write-all
+    write-all-requires
     slice-aggregate-fail-2
     fail-requires-2
     returns

@@ -4,8 +4,8 @@ use Rattle.lanternrung.proofs.exports.refusal.Statement.{statement}
 use Rattle.lanternrung.proofs.exports.refusal.Tie as tie
 use Rattle.lanternrung.proofs.exports.refusal.Reads as reads
 use Rattle.lanternrung.proofs.exports.refusal.Lts as lts
-use Rattle.lanternrung.proofs.exports.number.Reads as number-reads
-use Rattle.lanternrung.proofs.exports.place.Reads as place-reads
+use Rattle.lanternrung.proofs.number.Reads as number-reads
+use Rattle.lanternrung.proofs.place.Reads as place-reads
 
 number-requires : tie.Need-number-requires
 number-requires c κs = search needs

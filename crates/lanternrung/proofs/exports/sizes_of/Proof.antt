@@ -5,8 +5,8 @@ use Rattle.lanternrung.proofs.exports.sizes_of.Statement.{statement}
 use Rattle.lanternrung.proofs.exports.sizes_of.Tie as tie
 use Rattle.lanternrung.proofs.exports.sizes_of.Reads as reads
 use Rattle.lanternrung.proofs.exports.sizes_of.Lts as lts
-use Rattle.lanternrung.proofs.exports.number.Reads as number-reads
-use Rattle.lanternrung.proofs.exports.place.Reads as place-reads
+use Rattle.lanternrung.proofs.number.Reads as number-reads
+use Rattle.lanternrung.proofs.place.Reads as place-reads
 
 enum-known-a : tie.Need-enum-known-a
 enum-known-a c = search needs

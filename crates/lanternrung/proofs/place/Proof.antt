@@ -2,10 +2,10 @@
 use mathlib.Core.Path.{sym, ap}
 use Rattle.meaning.specs.Paper.{placeOf}
 use borrow.Author.Needs.{needs}
-use Rattle.lanternrung.proofs.exports.place.Statement.{statement}
-use Rattle.lanternrung.proofs.exports.place.Tie as tie
-use Rattle.lanternrung.proofs.exports.place.Reads as reads
-use Rattle.lanternrung.proofs.exports.place.Lts as lts
+use Rattle.lanternrung.proofs.place.Statement.{statement}
+use Rattle.lanternrung.proofs.place.Tie as tie
+use Rattle.lanternrung.proofs.place.Reads as reads
+use Rattle.lanternrung.proofs.place.Lts as lts
 
 enum-told : tie.Need-enum-told
 enum-told c = search needs

@@ -2,10 +2,10 @@
 use mathlib.Core.Path.{sym, ap}
 use Rattle.meaning.specs.Paper.{numberOf}
 use borrow.Author.Needs.{needs}
-use Rattle.lanternrung.proofs.exports.number.Statement.{statement}
-use Rattle.lanternrung.proofs.exports.number.Tie as tie
-use Rattle.lanternrung.proofs.exports.number.Reads as reads
-use Rattle.lanternrung.proofs.exports.number.Lts as lts
+use Rattle.lanternrung.proofs.number.Statement.{statement}
+use Rattle.lanternrung.proofs.number.Tie as tie
+use Rattle.lanternrung.proofs.number.Reads as reads
+use Rattle.lanternrung.proofs.number.Lts as lts
 
 enum-told : tie.Need-enum-told
 enum-told c = search needs
