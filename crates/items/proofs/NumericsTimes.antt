@@ -31,6 +31,7 @@ use Rattle.machine.specs.Numeric.{St, Slot, scan, dig, field, okDate, okClock, 
 use Rattle.machine.proofs.Runs.{NoDigit}
 use Rattle.machine.proofs.Numeric.Rows.{dg-digit, dg-none, sec-digit, sec-class, SecIs, day-class, DayIs}
 use Rattle.items.specs.Places.{byteAt}
+use Rattle.items.specs.Fractions.{Fractioned}
 use Rattle.items.specs.Numerics.{Means, Tells, Reads, Closes, IsDigit, Edge, Onto, TwoSays, ThenSays, whenOf, clockTest, Zoned, NanosSays}
 use Rattle.items.specs.declared.numerics.Item.the-variants as Item
 use Rattle.items.specs.declared.numerics.Scanned.{Scanned}
@@ -309,7 +310,7 @@ module _ (s : List ℕ) (from v left i : ℕ) (k : NanoLoop s from v left i) whe
   nano-says e = record { within = k .within; few = k .few; small = k .small; edge = e; goes = k .goes }
 
 -- a fraction is less than a second
-pub part-small : (v j : ℕ) → (v + 1) * 10 ^ j ≤ Limits.second → v * 10 ^ j < Limits.second
+part-small : (v j : ℕ) → (v + 1) * 10 ^ j ≤ Limits.second → v * 10 ^ j < Limits.second
 part-small v j h = omega (arith, pow-le-pow-right {n = 10} (omega arith) {i = 0} {j = j} (omega arith))
 
 module _ (q : ℕ) (w : S.When) (h m c : ℕ) where
@@ -335,28 +336,41 @@ module _ (s : List ℕ) (q : ℕ) (w : S.When) (h m c at : ℕ) where
   abbrev secondAt : St
   secondAt = field q (S.second w h m) 0 c
 
-  pub second-end : (r : Scanned) → length s ≤ at → ((st : St) → scan at st (byteAt s at) ≡ onZone q w h m c 0 (secOf (byteAt s at)) → Reads s at st r) → Reads s at secondAt r
+  second-end : (r : Scanned) → length s ≤ at → ((st : St) → scan at st (byteAt s at) ≡ onZone q w h m c 0 (secOf (byteAt s at)) → Reads s at st r) → Reads s at secondAt r
   second-end r l k = k secondAt (rw (byte-out s at l))
 
   module _ (l : at < length s) where
-    pub second-none : (r : Scanned) → (getD s at 0 ≡ ch "." → ⊥) → ((st : St) → scan at st (byteAt s at) ≡ onZone q w h m c 0 (secOf (byteAt s at)) → Reads s at st r) → Reads s at secondAt r
+    second-none : (r : Scanned) → (getD s at 0 ≡ ch "." → ⊥) → ((st : St) → scan at st (byteAt s at) ≡ onZone q w h m c 0 (secOf (byteAt s at)) → Reads s at st r) → Reads s at secondAt r
     second-none r x k = let p = byte-in s at l in k secondAt (sec-other q w h m c (sec-class (byteAt s at)) (λ j. x (sym p ∙ j)))
 
-    pub second-point : (r : Scanned) → getD s at 0 ≡ ch "." → Reads s (at + 1) (secPoint q w h m c) r → Reads s at secondAt r
+    second-point : (r : Scanned) → getD s at 0 ≡ ch "." → Reads s (at + 1) (secPoint q w h m c) r → Reads s at secondAt r
     second-point r e k = took (secPoint q w h m c) l (rw e) k
 
--- ---- after a second's point
+-- ---- a second's fraction
 
-module _ (s : List ℕ) (q : ℕ) (w : S.When) (h m c i : ℕ) where
-  pub part-bare : Edge s i → Reads s i (secPoint q w h m c) (Refused (NotGrammar i))
-  part-bare d = breaks-at (rw (dg-none (edge-none d)))
+module _ (s : List ℕ) (at : ℕ) where
+  pub part-end : at ≤ length s → length s ≤ at → Fractioned s at 0 at
+  part-end i l = record { within = i; small = omega arith; reads = λ q w h m c r k. second-end s q w h m c at r l k }
 
-  pub part-nanos : (r : Scanned) → i < length s → ch "0" ≤ getD s i 0 → getD s i 0 ≤ ch "9" → (n : Nanos) → NanosSays s i n → (x : ℕ) → x ≡ n .v * 10 ^ n .left → ((st : St) → scan (n .at) st (byteAt s (n .at)) ≡ onZone q w h m c x (secOf (byteAt s (n .at))) → Reads s (n .at) st r) → Reads s i (secPoint q w h m c) r
-  part-nanos r u a b n p x y k =
-      let o = byte-in s i u in
-      let d : IsDigit (getD s i 0) = omega arith in
-      same (nanos q w h m c fractionDigits 0) (rw (o, dg-digit (getD s i 0) d, sec-digit (getD s i 0) d))
-      (p .goes q w h m c r (k (nanos q w h m c (n .left) (n .v)) (nano-other q w h m c (n .left) (n .v) (sec-class (byteAt s (n .at))) (edge-none (p .edge)) ∙ ap (λ (z : ℕ). onZone q w h m c z (secOf (byteAt s (n .at)))) (sym y))))
+  module _ (l : at < length s) where
+    pub part-none : (getD s at 0 ≡ ch "." → ⊥) → Fractioned s at 0 at
+    part-none x = record { within = omega arith; small = omega arith; reads = λ q w h m c r k. second-none s q w h m c at l r x k }
+
+    module _ (e : getD s at 0 ≡ ch ".") where
+      pub part-bare : Edge s (at + 1) → (q : ℕ) (w : S.When) (h m c : ℕ) → Reads s at (field q (S.second w h m) 0 c) (Refused (NotGrammar (at + 1)))
+      part-bare d = λ q w h m c. second-point s q w h m c at l _ e (breaks-at (rw (dg-none (edge-none d))))
+
+      pub part-nanos : at + 1 < length s → ch "0" ≤ getD s (at + 1) 0 → getD s (at + 1) 0 ≤ ch "9" → (n : Nanos) → NanosSays s (at + 1) n → (x : ℕ) → x ≡ n .v * 10 ^ n .left → Fractioned s at x (n .at)
+      part-nanos u a b n p x y =
+          let o = byte-in s (at + 1) u in
+          let d : IsDigit (getD s (at + 1) 0) = omega arith in
+          record {
+            within = p .within;
+            small = omega (arith, y, part-small (n .v) (n .left) (p .small));
+            reads = λ q w h m c r k.
+                second-point s q w h m c at l r e (same (nanos q w h m c fractionDigits 0) (rw (o, dg-digit (getD s (at + 1) 0) d, sec-digit (getD s (at + 1) 0) d))
+                (p .goes q w h m c r (k (nanos q w h m c (n .left) (n .v)) (nano-other q w h m c (n .left) (n .v) (sec-class (byteAt s (n .at))) (edge-none (p .edge)) ∙ ap (λ (z : ℕ). onZone q w h m c z (secOf (byteAt s (n .at)))) (sym y)))));
+          }
 
 -- ---- after an hour, after a date, after a year
 

@@ -6,3 +6,5 @@ pub mod Parts
 pub mod Spelling
 -- Numerics: what the functions that read a number or a time value promise
 pub mod Numerics
+-- Fractions: what the function that reads a second's fraction promises
+pub mod Fractions

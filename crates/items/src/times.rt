@@ -17,6 +17,7 @@ ghost use Rattle.machine.specs.Numeric as Numeric;
 ghost use Rattle.machine.specs.Numeric.{field};
 ghost use Rattle.items.specs.declared.numerics.Item.the-variants as Item;
 ghost use Rattle.items.specs.declared.numerics.Scanned.the-variants as Scanned;
+ghost use Rattle.items.specs.Fractions.{FractionSays};
 ghost use Rattle.items.specs.Numerics.{Reads, Closes, Place, TwoSays, ThenSays, whenOf, Parted, clockTest, Zoned, NanosSays};
 
 // A field of two digits and the place after it, or the byte that no rule allows.
@@ -44,6 +45,12 @@ pub struct Nanos {
     pub v: u64,
     pub left: usize,
     pub at: usize,
+}
+
+// A second's fraction in nanoseconds and the place after it, or the byte that no rule allows.
+pub enum Fraction {
+    Got(u64, usize),
+    Bad(usize),
 }
 
 // A field of two digits.
@@ -296,27 +303,33 @@ fn scaled(v: u64, k: usize) -> u64
     n
 }
 
-// After a second's point: the digits of its fraction. c is the time of day without it.
-fn second_part(s: &[u8], q: usize, w: When, mut c: Clock, i: usize) -> Scanned
-    requires { ⌜ Place (now s) i ⌝ }
-    ensures { λ r. ⌜ Reads (now (s .entry)) i (Numeric.secPoint q (whenOf w) (c .hour) (c .minute) (c .second)) r ⌝ }
+// A second's fraction or none, after the second's digits.
+fn second_part(s: &[u8], at: usize) -> Fraction
+    requires { ⌜ Place (now s) at ⌝ }
+    ensures { λ r. ⌜ FractionSays (now (s .entry)) at r ⌝ }
 {
+    if at >= s.len() {
+        return Fraction::Got(0, at);
+    }
+    if s[at] != b'.' {
+        return Fraction::Got(0, at);
+    }
+    let i = at + 1;
     if i >= s.len() {
-        return Scanned::Refused(Refusal::NotGrammar(i));
+        return Fraction::Bad(i);
     }
     let b = s[i];
     if b < b'0' {
-        return Scanned::Refused(Refusal::NotGrammar(i));
+        return Fraction::Bad(i);
     }
     if b > b'9' {
-        return Scanned::Refused(Refusal::NotGrammar(i));
+        return Fraction::Bad(i);
     }
     let n = nano_digits(s, i);
     let v = n.v;
     let left = n.left;
     let next = n.at;
-    c.nanos = scaled(v, left);
-    clocked(s, q, w, c, next)
+    Fraction::Got(scaled(v, left), next)
 }
 
 // After a second's digits.
@@ -324,19 +337,18 @@ fn after_second(s: &[u8], q: usize, w: When, hour: u8, minute: u8, second: u8, a
     requires { ⌜ Place (now s) at ⌝ }
     ensures { λ r. ⌜ Reads (now (s .entry)) at (field q (Numeric.second (whenOf w) hour minute) 0 second) r ⌝ }
 {
-    let c = Clock {
-        hour,
-        minute,
-        second,
-        nanos: 0,
-    };
-    if at >= s.len() {
-        return clocked(s, q, w, c, at);
+    match second_part(s, at) {
+        Fraction::Bad(p) => Scanned::Refused(Refusal::NotGrammar(p)),
+        Fraction::Got(nanos, next) => {
+            let c = Clock {
+                hour,
+                minute,
+                second,
+                nanos,
+            };
+            clocked(s, q, w, c, next)
+        }
     }
-    if s[at] != b'.' {
-        return clocked(s, q, w, c, at);
-    }
-    second_part(s, q, w, c, at + 1)
 }
 
 // After an hour and its colon.
