@@ -2,7 +2,9 @@
 use crate::hexes;
 use crate::numerics::Item;
 use crate::numerics::Scanned;
+use meaning::COEFFICIENT_MOST;
 use meaning::Number;
+use meaning::POWER_LIMIT;
 use meaning::Refusal;
 ghost use mathlib.Core.Path.{_≡_};
 ghost use Prim.Native.Nat.{ℕ, _+_, _*_, _^_, _≤_, _<_};
@@ -15,6 +17,18 @@ ghost use Rattle.machine.specs.Numeric.{dig};
 ghost use Rattle.items.specs.declared.numerics.Item.the-variants as Item;
 ghost use Rattle.items.specs.declared.numerics.Scanned.the-variants as Scanned;
 ghost use Rattle.items.specs.Numerics.{Reads, IsDigit, Place, Edge, Holds, Shifted, Digited, Capped, Powered, Ready, From, Settles, PlainSays, EndsSays, Hexed};
+
+// Ten times a number above this is no coefficient.
+const TENTH: u64 = COEFFICIENT_MOST / 10;
+
+// After a number up to this, any digit fits.
+const SURE: u64 = TENTH - 1;
+
+// Sixteen times a number above this is no coefficient.
+const SIXTEENTH: u64 = COEFFICIENT_MOST / 16;
+
+// An exponent below this is exact.
+const EXACT: usize = 1000000000;
 
 // A coefficient that does not end in 0 (or is 0), or is too large to keep, and how many zeros follow it.
 pub struct Acc {
@@ -63,7 +77,7 @@ fn shift(c: u64, k: usize) -> Coef
     let mut v = c;
     let mut i: usize = 0;
     while i < k {
-        if v > 1844674407370955161 {
+        if v > TENTH {
             return Coef::Over;
         }
         v = v * 10;
@@ -100,7 +114,7 @@ pub fn push(a: Acc, b: u8) -> Acc
             z: 0,
         },
         Coef::Fits(v) => {
-            if v > 18446744073709551615 - d {
+            if v > COEFFICIENT_MOST - d {
                 return Acc {
                     c: 0,
                     over: true,
@@ -143,7 +157,7 @@ fn raise(e: usize, b: u8) -> usize
     ensures small { λ r. ⌜ r < 10000000000 ⌝ }
     ensures capped { λ r. ⌜ ((w : ℕ) → Capped w e → Capped (dig w b) r) ⌝ }
 {
-    if e < 1000000000 {
+    if e < EXACT {
         return e * 10 + (b - b'0') as usize;
     }
     e
@@ -206,13 +220,13 @@ pub fn settle(q: usize, g: bool, a: Acc, up: usize, dn: usize, at: usize) -> Sca
     let u = a.z + up;
     if dn <= u {
         let n = u - dn;
-        if n > 9999 {
+        if n > POWER_LIMIT {
             return Scanned::Refused(Refusal::BadNumber(q));
         }
         return finite(g, a.c, with_sign(false, n), at);
     }
     let n = dn - u;
-    if n > 9999 {
+    if n > POWER_LIMIT {
         return Scanned::Refused(Refusal::BadNumber(q));
     }
     finite(g, a.c, with_sign(true, n), at)
@@ -383,7 +397,7 @@ pub fn plain_digits(s: &[u8], from: usize, had: u64) -> Plain
         if b > b'9' {
             return Plain { v: v, at: i };
         }
-        if v > 1844674407370955160 {
+        if v > SURE {
             return Plain { v: v, at: i };
         }
         v = v * 10 + (b - b'0') as u64;
@@ -455,7 +469,7 @@ fn hex_digits(s: &[u8], from: usize) -> Hex
                 at: i,
             };
         }
-        if v > 1152921504606846975 {
+        if v > SIXTEENTH {
             over = true;
             i += 1;
         } else {

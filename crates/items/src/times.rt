@@ -2,7 +2,9 @@
 use crate::numerics::Item;
 use crate::numerics::Scanned;
 use meaning::Date;
+use meaning::FRACTION_DIGITS;
 use meaning::Refusal;
+use meaning::SECOND;
 use meaning::Time;
 use rules::DateAnswer;
 ghost use mathlib.Core.Path.{_≡_};
@@ -119,7 +121,7 @@ fn time_of_day(c: Clock) -> u64
     let h = c.hour as u64;
     let m = c.minute as u64;
     let s = c.second as u64;
-    ((h * 60 + m) * 60 + s) * 1000000000 + c.nanos
+    ((h * 60 + m) * 60 + s) * SECOND + c.nanos
 }
 
 fn time(t: Time, at: usize) -> Scanned
@@ -242,7 +244,7 @@ fn nano_digits(s: &[u8], from: usize) -> Nanos
     ensures { λ r. ⌜ NanosSays (now (s .entry)) from r ⌝ }
 {
     let mut v: u64 = 0;
-    let mut left: usize = 9;
+    let mut left: usize = FRACTION_DIGITS;
     let mut i = from;
     while i < s.len() {
         let b = s[i];

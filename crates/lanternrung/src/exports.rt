@@ -6,6 +6,7 @@ use meaning::Date;
 use meaning::Number;
 use meaning::Record;
 use meaning::Refusal;
+use meaning::TEXT_LIMIT;
 use meaning::Time;
 use reader::Answer;
 use rules::DateAnswer;
@@ -57,7 +58,7 @@ pub struct Fields {
 }
 
 // The longest text.
-const LONGEST: u64 = 16777216;
+const LONGEST: u64 = TEXT_LIMIT as u64;
 
 // A refusal's number.
 pub fn number(why: Refusal) -> u32

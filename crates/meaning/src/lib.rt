@@ -1,4 +1,35 @@
-// The types that the tape, the reader and the writers share. No function stands here.
+// The types and the limits that the tape, the reader and the writers share. No function stands here.
+
+// The limits of specs/Limits.antt, each named once. The bytes of a text, read or written.
+pub const TEXT_LIMIT: usize = 16777216;
+
+// How many arrays and objects may be open.
+pub const DEPTH_LIMIT: usize = 64;
+
+// The greatest coefficient: the limit, 2^64, is one more.
+pub const COEFFICIENT_MOST: u64 = 18446744073709551615;
+
+// The power lies from -9,999 to 9,999.
+pub const POWER_LIMIT: usize = 9999;
+
+// An offset in minutes lies from -1,439 to 1,439.
+pub const OFFSET_LIMIT: i16 = 1439;
+
+// Fraction digits after the ninth are cut off: a second has 10^9 parts.
+pub const FRACTION_DIGITS: usize = 9;
+
+pub const SECOND: u64 = 1000000000;
+
+// A time of day is below this.
+pub const DAY: u64 = 24 * 60 * 60 * SECOND;
+
+// The records of a well-formed tape, and the bytes of its store.
+pub const RECORD_LIMIT: usize = 16777216;
+
+pub const STORE_LIMIT: usize = 16777216;
+
+// The bytes of a record on the tape.
+pub const RECORD_SIZE: usize = 16;
 
 // A number: finite with its sign, coefficient and power of ten; not a number; or infinite with its sign.
 pub enum Number {

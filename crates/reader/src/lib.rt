@@ -14,7 +14,10 @@ ghost use Rattle.reader.specs.Walk.{WalkSays};
 use cursor::Cursor;
 use cursor::Step;
 use layouts::Layout;
+use meaning::DEPTH_LIMIT;
+use meaning::RECORD_SIZE;
 use meaning::Refusal;
+use meaning::TEXT_LIMIT;
 use rules::Utf8Answer;
 
 // What `measure` and `read` answer: how many records and store bytes, or a refusal.
@@ -22,12 +25,6 @@ pub enum Answer {
     Counts { records: usize, bytes: usize },
     Refused(Refusal),
 }
-
-// The longest text.
-const LONGEST: usize = 16777216;
-
-// How many arrays and objects may be open.
-const DEEPEST: usize = 64;
 
 // The text is layout, one value, layout.
 fn walk(text: &[u8], tape: &mut [u8], store: &mut [u8]) -> Answer
@@ -40,7 +37,7 @@ fn walk(text: &[u8], tape: &mut [u8], store: &mut [u8]) -> Answer
             at: first,
             records: 0,
             stored: 0,
-        }).value(text, DEEPEST, tape, store) {
+        }).value(text, DEPTH_LIMIT, tape, store) {
             Step::Refused(_, why) => Answer::Refused(why),
             Step::Value(next) => match layouts::pass(text, next.at) {
                 Layout::Broken(p) => Answer::Refused(Refusal::NotGrammar(p)),
@@ -62,7 +59,7 @@ fn walk(text: &[u8], tape: &mut [u8], store: &mut [u8]) -> Answer
 pub fn measure(text: &[u8]) -> Answer
     ensures { λ a. ⌜ Measures (now (text .entry)) a ⌝ }
 {
-    if text.len() > LONGEST {
+    if text.len() > TEXT_LIMIT {
         return Answer::Refused(Refusal::TextTooLong);
     }
     match rules::utf8(text) {
@@ -82,8 +79,8 @@ pub fn read(text: &[u8], tape: &mut [u8], store: &mut [u8]) -> Answer
     match measure(text) {
         Answer::Refused(why) => Answer::Refused(why),
         Answer::Counts { records, bytes } => {
-            if tape.len() < records * 16 {
-                return Answer::Refused(Refusal::TapeTooShort(records * 16));
+            if tape.len() < records * RECORD_SIZE {
+                return Answer::Refused(Refusal::TapeTooShort(records * RECORD_SIZE));
             }
             if store.len() < bytes {
                 return Answer::Refused(Refusal::StoreTooShort(bytes));

@@ -5,23 +5,22 @@ ghost use Rattle.meaning.specs.Limits.{day, offsetLimit};
 ghost use Rattle.meaning.specs.Good.{GoodFinite, GoodNumber, GoodDate, GoodTime};
 ghost use Rattle.meaning.specs.Look.{Inside, Utf8Inside, Ends, OwnFields};
 ghost use Rattle.tape.specs.Fields.{Decides};
+use meaning::DAY;
 use meaning::Date;
 use meaning::Number;
+use meaning::OFFSET_LIMIT;
+use meaning::POWER_LIMIT;
 use meaning::Record;
 use meaning::Time;
 use rules::DateAnswer;
 use rules::Utf8Answer;
 
-const LEAST_POWER: i32 = -9999;
+// The powers' bounds, and those of the offsets.
+const GREATEST_POWER: i32 = POWER_LIMIT as i32;
 
-const GREATEST_POWER: i32 = 9999;
+const LEAST_POWER: i32 = -GREATEST_POWER;
 
-const LEAST_OFFSET: i16 = -1439;
-
-const GREATEST_OFFSET: i16 = 1439;
-
-// A time of day is below this.
-const DAY: u64 = 24 * 60 * 60 * 1000000000;
+const LEAST_OFFSET: i16 = -OFFSET_LIMIT;
 
 // Zero has power 0; any other coefficient does not end in the digit 0, and its power lies from -9,999 to 9,999.
 pub fn good_finite(coefficient: u64, power: i32) -> bool
@@ -74,7 +73,7 @@ fn good_offset(offset: i16) -> bool
     if offset < LEAST_OFFSET {
         return false;
     }
-    offset <= GREATEST_OFFSET
+    offset <= OFFSET_LIMIT
 }
 
 pub fn good_time(t: Time) -> bool

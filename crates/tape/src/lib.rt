@@ -12,15 +12,12 @@ ghost use Rattle.meaning.specs.Look.{wholeRecords};
 ghost use Rattle.tape.specs.Looking.{Looks};
 ghost use Rattle.tape.specs.Standing.{RecordIs};
 ghost use Rattle.tape.specs.Judging.{Judges};
+use meaning::DEPTH_LIMIT;
+use meaning::RECORD_LIMIT;
+use meaning::RECORD_SIZE;
 use meaning::Record;
 use meaning::Refusal;
-
-// The limits of a well-formed tape.
-const RECORD_LIMIT: usize = 16777216;
-
-const STORE_LIMIT: usize = 16777216;
-
-const DEPTH_LIMIT: usize = 64;
+use meaning::STORE_LIMIT;
 
 // The end of nothing: no index is that large.
 const NEVER: usize = 18446744073709551615;
@@ -64,10 +61,10 @@ pub enum Judged {
 pub fn put_record(tape: &mut [u8], index: usize, r: Record)
     ensures { λ _. ⌜ now (tape .exit) ≡ putRecord (now (tape .entry)) index r ⌝ }
 {
-    let whole = tape.len() / 16;
+    let whole = tape.len() / RECORD_SIZE;
     if index < whole {
-        let at = index * 16;
-        let end = at + 16;
+        let at = index * RECORD_SIZE;
+        let end = at + RECORD_SIZE;
         records::put_words(&mut tape[at..end], records::words_of(r));
     }
 }
@@ -92,11 +89,11 @@ pub fn put_bytes(store: &mut [u8], at: usize, bytes: &[u8])
 pub fn look(tape: &[u8], store: &[u8], index: usize) -> Looked
     ensures { λ a. ⌜ Looks (now (tape .entry)) (now (store .entry)) index a ⌝ }
 {
-    let whole = tape.len() / 16;
+    let whole = tape.len() / RECORD_SIZE;
     if index >= whole {
         return Looked::Refused(Refusal::NoSuchRecord(index));
     }
-    match records::shape_at(tape, index * 16) {
+    match records::shape_at(tape, index * RECORD_SIZE) {
         Shape::Junk => Looked::Refused(Refusal::NotWellFormed(index)),
         Shape::Record(r) => {
             if fields::own_fields(r, index, whole, store) {
@@ -112,7 +109,7 @@ pub fn record_at(tape: &[u8], index: usize) -> Record
     requires { ⌜ index < wholeRecords (now tape) ⌝ }
     ensures { λ r. ⌜ RecordIs (now (tape .entry)) index r ⌝ }
 {
-    records::only_at(tape, index * 16)
+    records::only_at(tape, index * RECORD_SIZE)
 }
 
 // Judge a whole tape: one loop over its records, each looked at once, with the ends of the open containers and the states
@@ -120,9 +117,9 @@ pub fn record_at(tape: &[u8], index: usize) -> Record
 pub fn judge(tape: &[u8], store: &[u8]) -> Judged
     ensures { λ a. ⌜ Judges (now (tape .entry)) (now (store .entry)) a ⌝ }
 {
-    let n = tape.len() / 16;
+    let n = tape.len() / RECORD_SIZE;
     let room = store.len();
-    if tape.len() != n * 16 {
+    if tape.len() != n * RECORD_SIZE {
         return Judged::Ill;
     }
     if RECORD_LIMIT < n {

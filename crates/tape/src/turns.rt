@@ -2,8 +2,8 @@
 ghost use mathlib.Core.Path.{_≡_};
 ghost use Prim.Native.Nat.{_+_, _<_, _^_};
 ghost use Rattle.tape.specs.Turns.{afterValue, afterKey, passOf, passBytesOf, openOf, turnOf, bytesEnd};
-use crate::DEPTH_LIMIT;
 use crate::Turn;
+use meaning::DEPTH_LIMIT;
 use meaning::Record;
 
 // The judge's states: nothing yet, the root is complete, in an array, in an object before a key, in an object after one.

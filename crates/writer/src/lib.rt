@@ -12,10 +12,8 @@ mod times;
 mod walk;
 
 use meaning::Refusal;
+use meaning::TEXT_LIMIT;
 use tape::Judged;
-
-// The bytes of a written text.
-const TEXT_LIMIT: usize = 16777216;
 
 // A signed number's sign and size.
 struct Signed {

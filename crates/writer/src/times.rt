@@ -9,7 +9,14 @@ use crate::Trimmed;
 use crate::digits;
 use crate::numbers;
 use meaning::Date;
+use meaning::FRACTION_DIGITS;
+use meaning::SECOND;
 use meaning::Time;
+
+// Minutes and hours, counted as a time of day is.
+const MINUTE: u64 = 60 * SECOND;
+
+const HOUR: u64 = 60 * MINUTE;
 
 fn date_at(out: &mut [u8], at: usize, d: Date) -> usize
     requires { ⌜ at + length (dateText d) ≤ length (now out) ⌝ }
@@ -26,7 +33,7 @@ fn date_at(out: &mut [u8], at: usize, d: Date) -> usize
 fn trimmed(n: u64) -> Trimmed
     ensures { λ r. ⌜ FractionDigits n r ⌝ }
 {
-    let mut count: usize = 9;
+    let mut count: usize = FRACTION_DIGITS;
     let mut rest = n;
     while count > 0 {
         if rest % 10 != 0 {
@@ -72,18 +79,18 @@ fn clock_at(out: &mut [u8], at: usize, t: u64) -> usize
     requires { ⌜ at + length (clockText t) ≤ length (now out) ⌝ }
     ensures { λ r. ⌜ PutAt (clockText t) at (now (out .entry)) (now (out .exit)) r ⌝ }
 {
-    let a = digits::digits_at(out, at, 2, t / 3600000000000);
+    let a = digits::digits_at(out, at, 2, t / HOUR);
     let b = digits::byte_at(out, a, b':');
-    let c = digits::digits_at(out, b, 2, t / 60000000000 % 60);
+    let c = digits::digits_at(out, b, 2, t / MINUTE % 60);
     let d = digits::byte_at(out, c, b':');
-    let e = digits::digits_at(out, d, 2, t / 1000000000 % 60);
-    fraction_at(out, e, t % 1000000000)
+    let e = digits::digits_at(out, d, 2, t / SECOND % 60);
+    fraction_at(out, e, t % SECOND)
 }
 
 fn clock_len(t: u64) -> usize
     ensures { λ r. ⌜ (r ≡ length (clockText t)) × (r ≤ 18) ⌝ }
 {
-    8 + fraction_len(t % 1000000000)
+    8 + fraction_len(t % SECOND)
 }
 
 fn minutes_at(out: &mut [u8], at: usize, n: u64) -> usize

@@ -6,16 +6,15 @@ use crate::Formless;
 use crate::Turn;
 use crate::digits;
 use crate::records;
-
-// How many arrays and objects may be open.
-const DEPTH_LIMIT: usize = 64;
+use meaning::DEPTH_LIMIT;
+use meaning::RECORD_SIZE;
 
 // The shares of all records are the text's length and one more.
 pub fn text_len(tape: &[u8], store: &[u8]) -> usize
     requires { ⌜ WellFormed (now tape) (now store) ⌝ }
     ensures { λ r. ⌜ TextLength (now (tape .entry)) (now (store .entry)) r ⌝ }
 {
-    let n = tape.len() / 16;
+    let n = tape.len() / RECORD_SIZE;
     let mut total: usize = 0;
     let mut i: usize = 0;
     while i < n {
@@ -34,7 +33,7 @@ pub fn write_records(out: &mut [u8], tape: &[u8], store: &[u8]) -> usize
     let mut ends: [usize; DEPTH_LIMIT] = [0; DEPTH_LIMIT];
     let mut closers: [u8; DEPTH_LIMIT] = [0; DEPTH_LIMIT];
     let mut depth: usize = 0;
-    let mut end = tape.len() / 16;
+    let mut end = tape.len() / RECORD_SIZE;
     let mut closer: u8 = 0;
     let mut comma = false;
     let mut at: usize = 0;
@@ -75,7 +74,7 @@ pub fn write_records(out: &mut [u8], tape: &[u8], store: &[u8]) -> usize
 pub fn first_formless(tape: &[u8], store: &[u8]) -> Formless
     ensures { λ r. ⌜ FirstFormless (now (tape .entry)) (now (store .entry)) r ⌝ }
 {
-    let n = tape.len() / 16;
+    let n = tape.len() / RECORD_SIZE;
     let mut i: usize = 0;
     while i < n {
         let r = tape::record_at(tape, i);
