@@ -1,20 +1,20 @@
 -- Characters byte by byte: in a UTF-8 text, a scanner of bytes that lets every byte from 80 up pass reads what the rules derive.
 -- Assumes nothing.
-use Prim.Native.Nat.{ℕ, zero, suc, _+_, _≤_, _<_}
-use mathlib.Core.Path.{_≡_, refl, sym, ap, ap₂, _∙_, subst, subst₂}
-use mathlib.Core.Logic.{_⊎_, inl, inr, ⊎-elim}
+use Prim.Native.Nat.{ℕ, zero, suc, _≤_, _<_}
+use mathlib.Core.Path.{_≡_, refl, sym, ap, _∙_, subst, subst₂}
+use mathlib.Core.Logic.{_⊎_, inl, inr}
 use mathlib.Core.List.{List, [], _∷_, _++_, append-assoc}
 use native.Mathlib.Decide.{decLt}
 use native.Mathlib.Omega.{arith}
 use lib.Dec.{lit<, lit≤}
 use lib.ListN.{length, length-append}
-use Rattle.rules.specs.Rfc3629.{In, Char, Octets, Scalar, encode}
-use Rattle.rules.proofs.Characters.{Each, all-none, all-more, each-map, High, sized, long, short, same-head, same-tail, after, join}
-use Rattle.rules.proofs.Numbers.{row-1, row-2, row-3, row-4, encoded, Numbered, numbered}
+use Rattle.rules.specs.Rfc3629.{Char, Octets, Scalar, encode}
+use Rattle.rules.proofs.Characters.{Each, all-none, all-more, each-map, sized, long, short, same-head, same-tail, after, join}
+use Rattle.rules.proofs.Numbers.{row-1, row-2, row-3, row-4, numbered}
 use Rattle.meaning.specs.Letters.{ch}
 use Rattle.grammar.specs.Characters.{Range, Of, Among, Many}
 use Rattle.grammar.specs.Comments.{c-char, c-no-star, c-no-star-or-slash, Stars, C-inner}
-use Rattle.grammar.specs.Strings.{Quote, double, single, mark, other, Chars, unescaped, Up-to-two, source, M-char}
+use Rattle.grammar.specs.Strings.{Quote, double, single, mark, other, Chars, unescaped, Up-to-two, source}
 use Rattle.grammar.proofs.Utf8.{ascii}
 
 -- a byte of a character of these ranges: an ASCII character is its byte, and every byte of another one is 80 or more
@@ -30,13 +30,6 @@ longer n h = go (decLt 0x7FF n) (decLt 0xFFFF n)
     go (no l) y = omega (arith, ap length (row-2 n h (omega arith)))
     go (yes l) (no m) = omega (arith, ap length (row-3 n l (omega arith)))
     go (yes l) (yes m) = omega (arith, ap length (row-4 n m))
-
-pub raw : {r : List Range} {c : List ℕ} → Among r c → Each (Raw r) c
-raw {r} (Among.character {n = n} s h) = go (decLt 0x7F n)
-  where
-    go : Dec (0x7F < n) → Each (Raw r) (encode n)
-    go (yes l) = each-map (λ b x. inr (x .low)) (long (encoded n s) (longer n l))
-    go (no l) = subst (Each (Raw r)) (sym (row-1 n (omega arith))) (all-more (inl (omega arith, h)) all-none)
 
 -- ---- from bytes to characters
 
@@ -228,24 +221,6 @@ data M-unit (q : Quote) : List ℕ → ℕ → Type 0 where
 mark-low : (q : Quote) → mark q < 0x80
 mark-low double = lit< tt
 mark-low single = lit< tt
-
-m-front : {q : Quote} (p : List ℕ) (n : ℕ) → M-unit q p n → Each (λ b. b < 0x80) p
-m-front p n (M-unit.m-unit Up-to-two.no-quote h) = all-none
-m-front {q} p n (M-unit.m-unit Up-to-two.one-quote h) = all-more (mark-low q) all-none
-m-front {q} p n (M-unit.m-unit Up-to-two.two-quotes h) = all-more (mark-low q) (all-more (mark-low q) all-none)
-
-m-char : {q : Quote} (c : List ℕ) → Unit-of (M-unit q) c → M-char q c
-m-char c (Unit-of.unit s (M-unit.m-unit x h)) = M-char.m-char x (Among.character s h)
-
-source-open : (q : Quote) (n : ℕ) → 0x7F < n → Scalar n → Of (source q) n
-source-open double n l s = inr (inr (inr (inr (inl (record { low = omega arith; high = s .top })))))
-source-open single n l s = inr (inr (inr (inr (inl (record { low = omega arith; high = s .top })))))
-
-m-of : {q : Quote} (c : List ℕ) → M-byte q c → Byte-of (M-unit q) c
-m-of {q} c (M-byte.m-byte {s = s} x y) = by-byte (source q) s (λ n h. M-unit.m-unit x h) (source-open q) y
-
-pub m-chars : {q : Quote} {a : List ℕ} → Many (M-byte q) a → Octets a → Many (M-char q) a
-m-chars m o = many-map m-char (units m-front (many-map m-of m) o)
 
 -- ---- strings of one line
 

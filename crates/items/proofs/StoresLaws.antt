@@ -17,10 +17,6 @@ pub sets-app : (t : List ℕ) (at : ℕ) (a b : List ℕ) → sets t at (a ++ b)
 sets-app t at [] b = ap (λ (n : ℕ). sets t n b) (sym (add-zero at))
 sets-app t at (x ∷ a) b = sets-app (set t at x) (suc at) a b ∙ ap (λ (n : ℕ). sets (sets (set t at x) (suc at) a) n b) (suc-add at (length a) ∙ sym (add-suc at (length a)))
 
--- one more byte
-pub sets-one : (t : List ℕ) (at : ℕ) (a u : List ℕ) (o b : ℕ) → u ≡ sets t at a → o ≡ at + length a → set u o b ≡ sets t at (a ++ (b ∷ []))
-sets-one t at a u o b e f = rw (sets-app t at a (b ∷ []), e, f)
-
 pub sets-out : (t : List ℕ) (at : ℕ) (b : List ℕ) → length t ≤ at → sets t at b ≡ t
 sets-out t at [] h = refl
 sets-out t at (x ∷ b) h = rw (set-out t at x h) (sets-out t (suc at) b (omega arith))

@@ -4,8 +4,6 @@ use mathlib.Core.Path.{_≡_, refl, sym, _∙_}
 use mathlib.Core.List.{List, [], _∷_, _++_, append-assoc, append-nil}
 use native.Mathlib.Omega.{arith}
 use borrow.Author.Tests.{ne-eqb, lt-ltb, le-ltb, le-leb}
-use Rattle.rules.specs.Rfc3629.{Octets}
-use Rattle.rules.proofs.Characters.{Each, all-none, all-more, each-join}
 use Rattle.meaning.specs.Letters.{ch}
 use Rattle.grammar.specs.Characters.{Hexdig, Digits, Hexadecimal}
 use Rattle.grammar.specs.Characters as G
@@ -16,8 +14,8 @@ use Rattle.machine.specs.Strings.{hexOf, shortOf}
 use Rattle.machine.specs.Binaries.{St, start, dollar, text, esc, hex, hexLow, low, pairs, dot, done, begin, onDigit, onShort, onText, scan}
 use Rattle.machine.proofs.Runs.{PartEnds, adv, Goes, took, halts, Steps, eats, steps-join, steps-go, OutIs}
 use Rattle.machine.proofs.Strings.Tests.{by-eqb, by-ltb, by-leb, hex-of, hex-small, hex-ascii, hex-is, short-of, short-is, ends-all}
-use Rattle.machine.proofs.Strings.Quotes.{mark-ascii, Between, between, between-other, plain-char}
-use Rattle.machine.proofs.Strings.Ascii.{Ascii, ascii-cut, digits-ascii}
+use Rattle.machine.proofs.Strings.Quotes.{Between, between, between-other, plain-char}
+use Rattle.machine.proofs.Strings.Ascii.{Ascii}
 
 abbrev Run : ℕ → St → List ℕ → St → Type 0
 Run = Steps scan
@@ -229,32 +227,6 @@ pub binary-of : {a u : List ℕ} → BinaryRest begin a u → B-value a u
 binary-of h = h
 
 -- ---- its bytes
-
-escape-ascii : {e v : List ℕ} → B-escape e v → Each Ascii e
-escape-ascii (B-escape.short {b = b} x) = let i = short-of x in all-more {b = b} (omega arith) all-none
-escape-ascii (B-escape.byte x) = all-more {b = ch "x"} (omega arith) (digits-ascii x)
-
-chars-ascii : {q : Quote} {a u : List ℕ} → Inner q a u → Each Ascii a
-chars-ascii Chars.none = all-none
-chars-ascii {q} (Chars.plain (G.Ascii.byte {b = b} o) y) = let x = between q 0x7E b (omega arith) o in all-more {b = b} (omega arith) (chars-ascii y)
-chars-ascii (Chars.escaped x y) = all-more {b = ch "\\"} (omega arith) (each-join (escape-ascii x) (chars-ascii y))
-chars-ascii {q} (Chars.other-quote y) = all-more (mark-ascii (other q)) (chars-ascii y)
-
-part-ascii : {a u : List ℕ} → B-part a u → Each Ascii a
-part-ascii (B-part.last x) = digits-ascii x
-part-ascii (B-part.more x y) = each-join (digits-ascii x) (part-ascii y)
-
-direct-ascii : {a u : List ℕ} → B-direct a u → Each Ascii a
-direct-ascii (B-direct.part x) = part-ascii x
-direct-ascii (B-direct.dotted x y) = each-join (part-ascii x) (all-more {b = ch "."} (omega arith) (direct-ascii y))
-
-pub binary-ascii : {a u : List ℕ} → B-value a u → Each Ascii a
-binary-ascii B-value.empty = all-more {b = ch "$"} (omega arith) all-none
-binary-ascii (B-value.string (Quoted.quoted q x)) = all-more {b = ch "$"} (omega arith) (all-more (mark-ascii q) (each-join (chars-ascii x) (all-more (mark-ascii q) all-none)))
-binary-ascii (B-value.direct x) = all-more {b = ch "$"} (omega arith) (direct-ascii x)
-
-pub binary-cut : {a u : List ℕ} → B-value a u → (r : List ℕ) → Octets (a ++ r) → Octets a × Octets r
-binary-cut x = ascii-cut (binary-ascii x)
 
 pub binary-begins : {a u : List ℕ} → B-value a u → (r : List ℕ) × (a ≡ ch "$" ∷ r)
 binary-begins B-value.empty = ([], refl)

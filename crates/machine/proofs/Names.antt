@@ -1,12 +1,11 @@
 -- The scanners of key identifiers and of words agree with the rules. Assumes nothing.
 use Prim.Native.Nat.{ℕ, suc}
 use mathlib.Core.Path.{_≡_, refl}
-use mathlib.Core.Logic.{_⊎_, inl, inr, ⊎-elim}
+use mathlib.Core.Logic.{_⊎_, inl, inr}
 use mathlib.Core.List.{List, [], _∷_, _++_, append-assoc, append-nil}
 use native.Mathlib.Omega.{arith}
 use borrow.Author.Tests.{eq-eqb}
-use Rattle.rules.specs.Rfc3629.{In, Octets}
-use Rattle.rules.proofs.Characters.{Each, all-none, all-more}
+use Rattle.rules.specs.Rfc3629.{In}
 use Rattle.grammar.specs.Characters.{Of, Many}
 use Rattle.grammar.specs.Characters as G
 use Rattle.grammar.specs.Keys.{i-begin, i-continue, Identifier}
@@ -15,7 +14,7 @@ use Rattle.machine.specs.Names.{Class, letter, figure, neither, rows, cl
 use Rattle.machine.proofs.Tables.{cut-is, cut-found}
 use Rattle.machine.proofs.Runs.{PartEnds, Goes, took, halts, OutIs}
 use Rattle.machine.proofs.Strings.Tests.{by-eqb, ends-all}
-use Rattle.machine.proofs.Strings.Ascii.{Ascii, ascii-cut}
+use Rattle.machine.proofs.Strings.Ascii.{Ascii}
 
 -- ---- classes
 
@@ -128,25 +127,6 @@ name-of h = h
 
 -- ---- its bytes
 
-pub begin-ascii : (b : ℕ) → Of i-begin b → Ascii b
-begin-ascii b (inl i) = omega arith
-begin-ascii b (inr (inl i)) = omega arith
-begin-ascii b (inr (inr (inl i))) = omega arith
-begin-ascii b (inr (inr (inr (inl i)))) = omega arith
-
-continue-ascii : (b : ℕ) → Of i-continue b → Ascii b
-continue-ascii b o = ⊎-elim (begin-ascii b) (λ (i : In 0x30 0x39 b). omega arith) (continues b o)
-
-many-ascii : {a : List ℕ} → Many (G.Ascii i-continue) a → Each Ascii a
-many-ascii Many.none = all-none
-many-ascii (Many.more (G.Ascii.byte {b = b} o) x) = all-more (continue-ascii b o) (many-ascii x)
-
-pub name-ascii : {a : List ℕ} → Identifier a → Each Ascii a
-name-ascii (Identifier.identifier (G.Ascii.byte {b = b} o) x) = all-more (begin-ascii b o) (many-ascii x)
-
-pub name-cut : {a : List ℕ} → Identifier a → (r : List ℕ) → Octets (a ++ r) → Octets a × Octets r
-name-cut x = ascii-cut (name-ascii x)
-
 pub name-begins : {a : List ℕ} → Identifier a → (b : ℕ) × (r : List ℕ) × (a ≡ b ∷ r) × Of i-begin b
 name-begins (Identifier.identifier {a = a} (G.Ascii.byte {b = b} o) x) = (b, a, refl, o)
 
@@ -164,7 +144,3 @@ pub word-is : (p : ℕ) (left : List ℕ) (b : ℕ) → OutIs WordRest left b (w
 unfolding wordScan
 word-is p [] b = refl
 word-is p (c ∷ left) b = by-eqb (OutIs WordRest (c ∷ left) b) b c _ _ (λ e a v h. cc) (λ n. tt)
-
--- the whole item: the word itself
-pub word-of : {w a : List ℕ} {v : Unit {0}} → WordRest w a v → a ≡ w
-word-of h = h

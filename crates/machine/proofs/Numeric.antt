@@ -1,6 +1,5 @@
 -- The scanner of a number or a time value agrees with the grammar: what the rules derive it takes, what it takes the rules derive. Assumes nothing.
 use Prim.Native.Nat.{ℕ}
-use mathlib.Core.Path.{_≡_}
 use mathlib.Core.Bool.{Bool, true}
 use mathlib.Core.List.{List}
 use Rattle.meaning.specs.Meaning.{Meaning}
@@ -27,7 +26,7 @@ pub mod Places
 pub mod Once
 pub use Items.{NumericItem, Taken}
 pub use Accept.{NumericRest, numeric-is, Loose, Broke, numeric-broke}
-pub use Bytes.{Lead, Begins, Plain, number-begins, time-begins, numeric-begins, numeric-plain, taken-begins, taken-plain}
+pub use Bytes.{Lead, Begins, Plain, number-begins, time-begins, numeric-begins, numeric-plain}
 unfoldable pub use Places.{firstOf}
 pub use Places.{Blame, first-begin, numeric-first, numeric-place}
 
@@ -39,7 +38,3 @@ numeric-goes (NumericItem.time-value t) p = CompleteTime.time-goes t p
 -- sound: what is taken and ended is a number or a time value of that meaning, or a date and a space
 pub numeric-taken : {k : Bool} {a : List ℕ} {m : Meaning} → NumericRest k begin a m → Taken k a m
 numeric-taken t = t
-
--- the rules give an item one meaning
-pub numeric-once : {a : List ℕ} {m n : Meaning} → NumericItem true a m → NumericItem true a n → m ≡ n
-numeric-once i j = Once.goes-once scan Ends.comma (numeric-goes i 0) (numeric-goes j 0)

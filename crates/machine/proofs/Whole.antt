@@ -1,13 +1,12 @@
 -- The machine and the grammar agree on every text; so the grammar gives no text two meanings. Assumes nothing.
-use Prim.Native.Nat.{ℕ, suc, _≤_, _<_}
-use mathlib.Core.Path.{_≡_, refl, sym, ap, _∙_, subst}
+use Prim.Native.Nat.{ℕ, suc, _≤_}
+use mathlib.Core.Path.{_≡_, refl}
 use mathlib.Core.Bool.{Bool, true, false, cond}
 use mathlib.Core.List.{List, [], _∷_, _++_}
 use native.Mathlib.Omega.{arith}
 use lib.Dec.{leb}
 use lib.ListN.{length}
-use borrow.Author.Tests.{le-leb, leb-true, leb-false}
-use Rattle.rules.specs.Rfc3629.{Octets}
+use borrow.Author.Tests.{le-leb, leb-true}
 use Rattle.rules.specs.declared.Utf8Answer.{Utf8Answer}
 use Rattle.rules.specs.declared.Utf8Answer.the-variants.{Done, IllFormed}
 use Rattle.rules.specs.Decided.{judged}
@@ -15,15 +14,13 @@ use Rattle.rules.proofs.Decided.{judged-done, done-judged}
 use Rattle.meaning.specs.Limits.{textLimit, depthLimit}
 use Rattle.meaning.specs.Meaning.{Meaning}
 use Rattle.meaning.specs.declared.Refusal.{Refusal}
-use Rattle.meaning.specs.declared.Refusal.the-variants.{TextTooLong, NotUtf8}
+use Rattle.meaning.specs.declared.Refusal.the-variants.{TextTooLong}
 use Rattle.grammar.specs.Values.{Value, Text}
 use Rattle.meaning.specs.Good.{Good}
 use Rattle.meaning.specs.Canonical.{canonical}
 use Rattle.grammar.proofs.Utf8.{text-octets}
-use Rattle.grammar.proofs.Good.{text-good}
-use Rattle.grammar.proofs.Sizes.{Fits, text-fits}
-use Rattle.grammar.proofs.Canonical.{value-derived, text-derived}
-use Rattle.machine.specs.Machine.{Verdict, Ok, No, reading, Conf, fail, step, read, finish}
+use Rattle.grammar.proofs.Canonical.{value-derived}
+use Rattle.machine.specs.Machine.{Ok, No, Conf, fail, step, read}
 use Rattle.machine.specs.Verdict.{decoded, verdict}
 use Rattle.machine.proofs.Runs.{adv}
 use Rattle.machine.proofs.Complete.{value-reads, reads}
@@ -57,23 +54,12 @@ sound t m e = by-length (leb (length t) textLimit) refl e
 pub unambiguous : {t : List ℕ} {m n : Meaning} → Text true t m → Text true t n → m ≡ n
 unambiguous x y = let e = complete x in let f = complete y in cc
 
--- the canonical text of a good meaning reads as that meaning
-pub canonical-reads : (m : Meaning) → Good m → length (canonical m) ≤ textLimit → verdict (canonical m) ≡ Ok m
-canonical-reads m g l = complete (text-derived m g l)
-
 -- two good meanings with one canonical text are one, however long it is
 pub same-canonical : (m n : Meaning) → Good m → Good n → canonical m ≡ canonical n → m ≡ n
 same-canonical m n g h e = let x = value-reads (canonical-value m g) in let y = value-reads (canonical-value n h) in cc
   where
     canonical-value : (k : Meaning) → Good k → Value true depthLimit (canonical k) k
     canonical-value k good = value-derived k (good .parts) depthLimit (good .shallow)
-
--- what the machine accepts is good, and no longer on the tape and in the store than as text
-pub accepted-good : (t : List ℕ) (m : Meaning) → verdict t ≡ Ok m → Good m
-accepted-good t m e = text-good (sound t m e)
-
-pub accepted-fits : (t : List ℕ) (m : Meaning) → verdict t ≡ Ok m → Fits t m
-accepted-fits t m e = text-fits (sound t m e)
 
 -- ---- running on
 
@@ -82,29 +68,14 @@ unfoldable pub run : ℕ → Conf → List ℕ → Conf
 run p c [] = c
 run p c (b ∷ t) = run (suc p) (step p c b) t
 
-pub run-join : (p : ℕ) (c : Conf) (a b : List ℕ) → run p c (a ++ b) ≡ run (adv p a) (run p c a) b
-unfolding run
-run-join p c [] b = refl
-run-join p c (x ∷ a) b = run-join (suc p) (step p c x) a b
-
 -- to read a and then b is to read both
 pub read-join : (p : ℕ) (c : Conf) (a b : List ℕ) → read p c (a ++ b) ≡ read (adv p a) (run p c a) b
 unfolding read run
 read-join p c [] b = refl
 read-join p c (x ∷ a) b = read-join (suc p) (step p c x) a b
 
-pub read-run : (p : ℕ) (c : Conf) (t : List ℕ) → read p c t ≡ finish (adv p t) (run p c t)
-unfolding read run
-read-run p c [] = refl
-read-run p c (b ∷ t) = read-run (suc p) (step p c b) t
-
 -- after a refusal at some byte no later byte changes it
 pub absorbing : (p : ℕ) (r : Refusal) (t : List ℕ) → read p (fail r) t ≡ No r
 unfolding read
 absorbing p r [] = refl
 absorbing p r (b ∷ t) = absorbing (suc p) r t
-
-pub stays : (p : ℕ) (r : Refusal) (t : List ℕ) → run p (fail r) t ≡ fail r
-unfolding run
-stays p r [] = refl
-stays p r (b ∷ t) = stays (suc p) r t

@@ -25,11 +25,6 @@ pub bytes-right : (a b : List ℕ) → Bytes (a ++ b) → Bytes b
 bytes-right [] b f = f
 bytes-right (x ∷ a) b f = bytes-right a b (f .1)
 
-pub byte-at : (s : List ℕ) → Bytes s → (i : ℕ) → getD s i 0 < 256
-byte-at [] f i = omega arith
-byte-at (x ∷ s) f zero = f .0
-byte-at (x ∷ s) f (suc i) = byte-at s (f .1) i
-
 pub bytes-of : (s : List ℕ) → ((i : ℕ) → getD s i 0 < 256) → Bytes s
 bytes-of [] h = tt
 bytes-of (x ∷ s) h = (h 0, bytes-of s (λ i. h (suc i)))
@@ -49,14 +44,6 @@ pub le-bytes : (w v : ℕ) → Bytes (le w v)
 unfolding le
 le-bytes zero v = tt
 le-bytes (suc w) v = (omega arith, le-bytes w (v / 256))
-
-pub get-step : (w : ℕ) (s : List ℕ) (i : ℕ) → get (suc w) s i ≡ get w s (i + 1) * 256 + getD s i 0
-unfolding get
-get-step w s i = refl
-
-pub get-none : (s : List ℕ) (i : ℕ) → get 0 s i ≡ 0
-unfolding get
-get-none s i = refl
 
 -- a number of w bytes is below 256 ^ w
 pub get-lt : (w : ℕ) (s : List ℕ) (i : ℕ) → ((j : ℕ) → getD s j 0 < 256) → get w s i < 256 ^ w
@@ -83,11 +70,6 @@ get-le (suc w) v s h =
     ap (λ (x : ℕ). x * 256 + v % 256)
     (get-past w (v % 256 ∷ []) (le w (v / 256) ++ s) 0 ∙ get-le w (v / 256) s (div-lt-iff-lt-mul (omega arith) .1 (subst (λ (x : ℕ). v < x) (pow-suc 256 w) h)))
     ∙ div-add-mod' v 256
-
--- so two numbers in the same bytes are equal
-pub le-injective : (w a b : ℕ) → a < 256 ^ w → b < 256 ^ w → le w a ≡ le w b → a ≡ b
-le-injective w a b f g e =
-    sym (get-le w a [] f) ∙ ap (λ (l : List ℕ). get w (l ++ []) 0) e ∙ get-le w b [] g
 
 -- the bytes of the number that was got are the bytes that lie there
 pub le-drop : (w : ℕ) (s : List ℕ) (p : ℕ) → ((j : ℕ) → getD s j 0 < 256) → p + w ≤ length s → le w (get w s p) ++ drop (p + w) s ≡ drop p s

@@ -72,13 +72,6 @@ decimal-length (suc w) n h =
       | no g ↦ rw (decimal-small n (lt-of-not-le g)) (omega arith)
     ]
 
-pub decimal-some : (n : ℕ) → 1 ≤ length (decimal n)
-decimal-some n =
-    elim (decLe 10 n) [
-      | yes g ↦ rw decimal-more (simp length-append (omega arith))
-      | no g ↦ rw (decimal-small n (lt-of-not-le g)) (omega arith)
-    ]
-
 digit-ascii : (n : ℕ) → n < 10 → Ascii (digit n ∷ [])
 digit-ascii n h = omega arith
 
@@ -109,11 +102,6 @@ pub fixed-ascii : (w n : ℕ) → Ascii (fixed w n)
 unfolding fixed
 fixed-ascii zero n = tt
 fixed-ascii (suc w) n = ascii-append (fixed w (n / 10)) (digit (n % 10) ∷ []) (fixed-ascii w (n / 10)) (omega arith)
-
--- two digits
-pub fixed-two : (n : ℕ) → fixed 2 n ≡ digit (n / 10 % 10) ∷ digit (n % 10) ∷ []
-unfolding fixed
-fixed-two n = refl
 
 -- ---- without closing zeros
 

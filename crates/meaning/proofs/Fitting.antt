@@ -15,7 +15,7 @@ use Rattle.meaning.specs.declared.Date.{Date}
 use Rattle.meaning.specs.declared.Time.{Time}
 use Rattle.meaning.specs.declared.Time.the-variants.{LocalDate, LocalTime, LocalDateTime, OffsetDateTime}
 use Rattle.meaning.specs.declared.Record.{Record}
-use Rattle.meaning.specs.Limits.{coefficientLimit, powerLimit, yearLimit, recordLimit, storeLimit}
+use Rattle.meaning.specs.Limits.{coefficientLimit, powerLimit, recordLimit, storeLimit}
 use Rattle.meaning.specs.Meaning.{Meaning, Meanings, Members, null, bool, number, string, binary, time, array, object, none, more, bare, member}
 use Rattle.meaning.specs.Good.{GoodFinite, nought, nonzero, GoodNumber, GoodDate, GoodTime, Bytes, GoodParts, GoodElements, GoodMembers}
 use Rattle.meaning.specs.Tape.{records, elementsRecords, membersRecords, storeOf, elementsStore, membersStore, recordsOf, elementsOf, membersOf}
@@ -61,9 +61,6 @@ month-small september = omega arith
 month-small october = omega arith
 month-small november = omega arith
 month-small december = omega arith
-
-pub date-year : (d : Date) → GoodDate d → d .year ≤ yearLimit
-date-year d g = g .year
 
 pub date-fits : (d : Date) → GoodDate d → FitDate d
 date-fits d g = omega (arith, month-small (g .month), g .year, g .to)

@@ -6,8 +6,6 @@ pub mod Fitting
 pub mod Whole
 pub mod Look
 pub mod Digits
-pub mod Numerals
-pub mod Clock
 pub mod Quotes
 pub mod Text
 pub mod Values

@@ -122,10 +122,6 @@ record-small (Record.Object end) f = omega arith
 
 -- ---- four numbers, wherever they stand
 
-pub four-length : (a b c d : ℕ) → length (fourWords a b c d) ≡ 16
-unfolding fourWords le
-four-length a b c d = refl
-
 -- the four numbers at place p
 pub record At (s : List ℕ) (p a b c d : ℕ) : Type 0 where
   pub mark-at : get 2 s p ≡ a
@@ -311,11 +307,6 @@ pub stands-drop : (s : List ℕ) (p : ℕ) (r : Record) → Fit r → ((j : ℕ)
     → drop p s ≡ recordBytes r ++ drop (p + 16) s
 stands-drop s p r f b l e =
     sym (four-drop s p (markOf r) (lowOf r) (midOf r) (highOf r) b l e) ∙ ap (λ (x : List ℕ). x ++ drop (p + 16) s) (sym (record-words r f))
-
--- the numbers of the k-th record
-pub stands-at : (rs : List Record) (k : ℕ) → Fits rs → k < length rs → Stands (recordsBytes rs) (k * 16) (getD rs k Record.Null)
-stands-at rs k f h =
-    stands (recordsBytes rs) (drop ((k + 1) * 16) (recordsBytes rs)) (k * 16) (getD rs k Record.Null) (fit-at rs k f h) (omega (arith, records-bytes-length rs)) (record-at rs k h)
 
 -- and back: where the numbers of all these records stand, their bytes do
 pub all-stand : (rs : List Record) (s : List ℕ) (p : ℕ) → Fits rs → ((j : ℕ) → getD s j 0 < 256) → p + length rs * 16 ≡ length s

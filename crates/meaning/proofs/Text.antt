@@ -16,11 +16,11 @@ use Rattle.meaning.specs.declared.Time.the-variants.{LocalDate, LocalTim
 use Rattle.meaning.specs.Letters.{letters, ch}
 use Rattle.meaning.specs.Limits.{powerLimit, second, fractionDigits, recordLimit, storeLimit}
 use Rattle.meaning.specs.Meaning.{Meaning, Meanings, Members, null, bool, number, string, binary, time, array, object, none, more, bare, member}
-use Rattle.meaning.specs.Good.{GoodNumber, GoodParts, GoodElements, GoodMembers, Bytes}
+use Rattle.meaning.specs.Good.{GoodNumber, GoodParts, GoodElements, GoodMembers}
 use Rattle.meaning.specs.Tape.{records, elementsRecords, membersRecords, storeOf, elementsStore, membersStore, bytes}
 use Rattle.meaning.specs.Canonical.{decimal, fixed, trimmed, quoted, binaryText, minusText, powerText, numberText, dateText, fractionText, clockText, minutesText, offsetText, timeText, elementsComma, membersComma, canonical, elementsText, membersText}
 use Rattle.meaning.proofs.Digits.{Ascii, ascii-append, decimal-ascii, decimal-length, fixed-ascii, fixed-length, trimmed-ascii, trimmed-length}
-use Rattle.meaning.proofs.Fitting.{finite-below, finite-power, octets-bytes}
+use Rattle.meaning.proofs.Fitting.{finite-below, finite-power}
 use Rattle.meaning.proofs.Quotes.{octets-append, ascii-octets, quoted-octets, quoted-length, escapes-length, pairs-length, binary-ascii}
 
 -- ---- numbers
@@ -205,10 +205,6 @@ mutual
       (octets-append (quoted k) (octets-append (membersComma ms) (members-octets ms (p .0)) (plain (membersComma ms) (members-comma ms))) (quoted-octets (p .1)))
       (plain (letters ":") (omega arith)))
       (canonical-octets m (p .2))
-
--- so it is bytes
-pub canonical-bytes : (m : Meaning) → GoodParts m → Bytes (canonical m)
-canonical-bytes m p = octets-bytes (canonical-octets m p)
 
 -- ---- how long it can be: at most 40 for a record and 6 for a store byte, a comma included
 

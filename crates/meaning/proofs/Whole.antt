@@ -1,5 +1,5 @@
 -- A tape and a store: their sizes, and the one meaning that they have. Assumes nothing.
-use mathlib.Core.Path.{_≡_, refl, sym, ap, _∙_}
+use mathlib.Core.Path.{_≡_, sym, ap, _∙_}
 use mathlib.Core.List.{List, _++_}
 use Prim.Native.Nat.{ℕ, _+_, _*_, _≤_, _<_}
 use native.Mathlib.Omega.{arith}
@@ -8,15 +8,11 @@ use Rattle.meaning.specs.declared.Record.{Record}
 use Rattle.meaning.specs.Limits.{recordLimit, storeLimit}
 use Rattle.meaning.specs.Meaning.{Meaning}
 use Rattle.meaning.specs.Good.{GoodParts, Bytes}
-use Rattle.meaning.specs.Tape.{records, storeOf, bytes, recordsOf, recordBytes, recordsBytes, tapeOf, WellFormed}
+use Rattle.meaning.specs.Tape.{records, storeOf, bytes, recordsOf, recordBytes, tapeOf, WellFormed}
 use Rattle.meaning.proofs.Sizes.{records-length}
 use Rattle.meaning.proofs.Records.{Fits, record-at, records-bytes-length, records-are-bytes, records-injective}
 use Rattle.meaning.proofs.Fitting.{records-fit}
 use Rattle.meaning.proofs.Rebuild.{same-meaning}
-
-pub tape-is : (m : Meaning) → tapeOf m ≡ recordsBytes (recordsOf m 0 0)
-unfolding tapeOf
-tape-is m = refl
 
 pub tape-length : (m : Meaning) → length (tapeOf m) ≡ records m * 16
 unfolding tapeOf

@@ -1,7 +1,7 @@
 -- A turn of the loops over the elements of an array and the members of an object: what both have in common, once. Assumes nothing.
 use mathlib.Core.Path.{_≡_, refl, sym, ap, ap₂, _∙_, subst}
 use mathlib.Core.List.{List, [], _∷_, _++_, append-assoc, append-nil}
-use Prim.Native.Nat.{ℕ, zero, suc, _+_, _*_, _-_, _/_, _≤_, _<_}
+use Prim.Native.Nat.{ℕ, suc, _+_, _*_, _/_, _≤_, _<_}
 use native.Mathlib.Omega.{arith}
 use lib.ListN.{length, getD, set, length-append}
 use lib.Seq.{sets, length-sets, set-comm}
@@ -9,19 +9,19 @@ use Rattle.meaning.specs.declared.Record.{Record}
 use Rattle.meaning.specs.Letters.{ch}
 use Rattle.meaning.specs.Limits.{textLimit}
 use Rattle.meaning.specs.Meaning.{Meaning, Meanings, Members}
-use Rattle.meaning.specs.Tape.{records, elementsRecords, membersRecords, storeOf, elementsStore, membersStore, bytes, recordsOf, elementsOf, membersOf, recordBytes, recordsBytes, endOf}
+use Rattle.meaning.specs.Tape.{records, elementsRecords, membersRecords, storeOf, elementsStore, membersStore, recordsOf, elementsOf, membersOf, recordBytes, recordsBytes, endOf}
 use Rattle.meaning.specs.Look.{wholeRecords}
 use Rattle.meaning.proofs.Records.{record-length, records-append, records-bytes-length}
 use Rattle.meaning.proofs.Sizes.{records-length, elements-length, members-length}
 use Rattle.grammar.specs.Values.{Inside, elements, members}
-use Rattle.machine.specs.Machine.{classOf, closeC, closeWanted, odd, Base, want, wantKey, got, value, base, Frame, inside, pair, Conf, at, Bracket, square, curly, bareOf, wanted, shut}
+use Rattle.machine.specs.Machine.{closeC, closeWanted, odd, want, wantKey, got, value, base, Frame, inside, pair, at, Bracket, square, curly, bareOf, shut}
 use Rattle.machine.proofs.Classes.{closing, ClassIs, class-is}
 use Rattle.meaning.specs.declared.Refusal.{Refusal}
 use Rattle.tape.specs.Putting.{putRecord}
 use Rattle.tape.proofs.Puts.{record-room, sets-append, put-record-length}
 use Rattle.reader.specs.declared.cursor.Cursor.{Cursor}
-use Rattle.reader.specs.Scanning.{Goes, Ends, Bare, Shut}
-use Rattle.reader.specs.Cursors.{Ready, AtValue, Inner, AtMember, Moved, Begins, Took, Named, Adds, element, member, closer, within, bareIn, wants, always, Left, Says, OpenSays, AfterSays, OneItem, Opened, recordItem}
+use Rattle.reader.specs.Scanning.{Goes, Ends, Shut}
+use Rattle.reader.specs.Cursors.{Ready, AtValue, Inner, AtMember, Begins, Took, Named, Adds, element, member, closer, within, bareIn, wants, always, Left, Says, OpenSays, AfterSays, OneItem, Opened, recordItem}
 use Rattle.items.specs.declared.numerics.Item.{Item}
 use Rattle.reader.specs.declared.cursor.Step.{Step}
 use Rattle.meaning.specs.declared.Refusal.the-variants.{TooDeep}
@@ -424,9 +424,6 @@ module _ {text tape₀ tape store₀ store : List ℕ} {from own start depth p r
   member-at n h = let a : AtValue text n = begins-at t n h in record { ready = a .ready; bare = a .bare; inside = h .inside; other = h .other }
 
 -- ---- values
-
-one-record : (m : Meaning) (r : Record) → recordsOf m 0 0 ≡ r ∷ [] → records m ≡ 1
-one-record m r e = sym (records-length m 0 0) ∙ ap length e
 
 one-put : (tape : List ℕ) (i : ℕ) (r : Record) (rs : List Record) → rs ≡ r ∷ [] → i < wholeRecords tape → putRecord tape i r ≡ sets tape (i * 16) (recordsBytes rs)
 unfolding recordsBytes

@@ -1,12 +1,12 @@
 -- Numbers in bytes as the code puts and gets them, in two parts: one law for every width. Assumes nothing.
 use mathlib.Core.Path.{_≡_, sym, ap, ap₂, _∙_}
 use mathlib.Core.List.{List, _∷_, _++_}
-use Prim.Native.Nat.{ℕ, zero, suc, _+_, _*_, _/_, _%_, _^_, _≤_, _<_}
+use Prim.Native.Nat.{ℕ, zero, suc, _+_, _*_, _/_, _%_, _^_}
 use native.Mathlib.Nat.{div-div-eq-div-mul, mul-comm, mul-assoc, pow-suc}
 use native.Mathlib.Numerals.{add-one}
 use native.Mathlib.Omega.{arith}
-use lib.ListN.{length, getD, set, drop, drop-of-length-le}
-use lib.Seq.{sets, drop-cons}
+use lib.ListN.{getD, set}
+use lib.Seq.{sets}
 use Rattle.meaning.specs.Bytes.{le, get}
 use Rattle.meaning.proofs.Bytes.{le-length}
 use Rattle.tape.proofs.Puts.{sets-append}
@@ -52,16 +52,3 @@ get-cut (suc v) w s i =
 
 pub got : (v w : ℕ) (s : List ℕ) (i a b : ℕ) → a ≡ get v s i → b ≡ get w s (i + v) → a + b * 256 ^ v ≡ get (v + w) s i
 got v w s i a b e f = ap₂ (λ (x y : ℕ). x + y * 256 ^ v) e f ∙ sym (get-cut v w s i)
-
--- bytes, one after the other
-pub copy-step : (s bytes : List ℕ) (at k : ℕ) → k < length bytes
-    → sets s (at + k) (drop k bytes) ≡ sets (set s (at + k) (getD bytes k 0)) (at + (k + 1)) (drop (k + 1) bytes)
-copy-step s bytes at k h =
-    let z : suc (at + k) ≡ at + (k + 1) = omega arith in
-    let y : suc k ≡ k + 1 = omega arith in
-    ap (sets s (at + k)) (drop-cons bytes k 0 h)
-    ∙ ap (λ (x : ℕ). sets (set s (at + k) (getD bytes k 0)) x (drop (suc k) bytes)) z
-    ∙ ap (λ (x : ℕ). sets (set s (at + k) (getD bytes k 0)) (at + (k + 1)) (drop x bytes)) y
-
-pub copy-none : (s bytes : List ℕ) (at k : ℕ) → length bytes ≤ k → sets s (at + k) (drop k bytes) ≡ s
-copy-none s bytes at k h = ap (sets s (at + k)) (drop-of-length-le bytes {i = k} h)

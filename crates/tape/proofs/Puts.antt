@@ -4,10 +4,10 @@ use mathlib.Core.Bool.{Bool, true, false, cond}
 use mathlib.Core.List.{List, [], _∷_, _++_, append-assoc, append-nil}
 use Prim.Native.Nat.{ℕ, suc, _+_, _-_, _*_, _≤_, _<_}
 use native.Mathlib.Omega.{arith}
-use lib.Dec.{leb, ltb}
-use lib.ListN.{length, take, drop, set, length-append, drop-of-length-le}
+use lib.Dec.{ltb}
+use lib.ListN.{length, take, drop, set, drop-of-length-le}
 use lib.Seq.{sets, length-sets, sets-eq, drop-drop}
-use borrow.Author.Tests.{le-leb, lt-leb, lt-ltb, le-ltb}
+use borrow.Author.Tests.{lt-ltb, le-ltb}
 use Rattle.meaning.specs.declared.Record.{Record}
 use Rattle.meaning.specs.Bytes.{le}
 use Rattle.meaning.specs.Tape.{recordBytes}
@@ -16,16 +16,8 @@ use Rattle.meaning.specs.Look.{wholeRecords}
 use Rattle.meaning.proofs.Bytes.{le-length}
 use Rattle.meaning.proofs.Records.{record-length}
 use Rattle.tape.specs.declared.Words.{Words}
-use Rattle.tape.specs.Putting.{putRecord, putBytes}
+use Rattle.tape.specs.Putting.{putRecord}
 use Rattle.tape.specs.Shapes.{Written}
-
-pub bytes-room : (store : List ℕ) (at : ℕ) (bytes : List ℕ) → at + length bytes ≤ length store → putBytes store at bytes ≡ sets store at bytes
-unfolding putBytes
-bytes-room store at bytes h = ap (λ (b : Bool). cond b (sets store at bytes) store) (le-leb (at + length bytes) (length store) h)
-
-pub bytes-no-room : (store : List ℕ) (at : ℕ) (bytes : List ℕ) → length store < at + length bytes → putBytes store at bytes ≡ store
-unfolding putBytes
-bytes-no-room store at bytes h = ap (λ (b : Bool). cond b (sets store at bytes) store) (lt-leb (at + length bytes) (length store) h)
 
 pub record-room : (tape : List ℕ) (index : ℕ) (r : Record) → index < wholeRecords tape → putRecord tape index r ≡ sets tape (index * 16) (recordBytes r)
 unfolding putRecord
@@ -44,28 +36,10 @@ put-record-length tape index r = go (ltb index (wholeRecords tape))
     go true = length-sets tape (index * 16) (recordBytes r)
     go false = refl
 
-pub put-bytes-length : (store : List ℕ) (at : ℕ) (bytes : List ℕ) → length (putBytes store at bytes) ≡ length store
-unfolding putBytes
-put-bytes-length store at bytes = go (leb (at + length bytes) (length store))
-  where
-    go : (b : Bool) → length (cond b (sets store at bytes) store) ≡ length store
-    go true = length-sets store at bytes
-    go false = refl
-
 -- one piece, then the next
 pub sets-append : (l : List ℕ) (i j : ℕ) (a b : List ℕ) → i + length a ≡ j → sets (sets l i a) j b ≡ sets l i (a ++ b)
 sets-append l i j [] b e = let z : j ≡ i = omega arith in ap (λ (k : ℕ). sets l k b) z
 sets-append l i j (x ∷ a) b e = sets-append (set l i x) (suc i) j a b (omega arith)
-
-pub bytes-append : (store : List ℕ) (at next : ℕ) (a b : List ℕ) → at + length a ≡ next → next + length b ≤ length store
-    → putBytes (putBytes store at a) next b ≡ putBytes store at (a ++ b)
-bytes-append store at next a b e h =
-    let l = put-bytes-length store at a in
-    let n = length-append a b in
-    bytes-room (putBytes store at a) next b (omega arith)
-    ∙ ap (λ (s : List ℕ). sets s next b) (bytes-room store at a (omega arith))
-    ∙ sets-append store at next a b e
-    ∙ sym (bytes-room store at (a ++ b) (omega arith))
 
 -- the four numbers, one after the other
 words-length : (a b c d : ℕ) → length (fourWords a b c d) ≡ 16

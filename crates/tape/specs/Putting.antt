@@ -1,9 +1,8 @@
 -- What is put (document 01, "The tape"): where there is no room, nothing. Assumes nothing.
 use mathlib.Core.Bool.{cond}
 use mathlib.Core.List.{List}
-use Prim.Native.Nat.{ℕ, _+_, _*_}
-use lib.Dec.{leb, ltb}
-use lib.ListN.{length}
+use Prim.Native.Nat.{ℕ, _*_}
+use lib.Dec.{ltb}
 use lib.Seq.{sets}
 use Rattle.meaning.specs.declared.Record.{Record}
 use Rattle.meaning.specs.Tape.{recordBytes}
@@ -12,7 +11,3 @@ use Rattle.meaning.specs.Look.{wholeRecords}
 -- the tape with this record at this index, where it has sixteen bytes for it
 unfoldable pub putRecord : List ℕ → ℕ → Record → List ℕ
 putRecord tape index r = cond (ltb index (wholeRecords tape)) (sets tape (index * 16) (recordBytes r)) tape
-
--- the store with these bytes from the place `at` on, where it has room for all of them
-unfoldable pub putBytes : List ℕ → ℕ → List ℕ → List ℕ
-putBytes store at bytes = cond (leb (at + length bytes) (length store)) (sets store at bytes) store

@@ -6,7 +6,7 @@ mod steps;
 mod turns;
 
 ghost use mathlib.Core.Path.{_≡_};
-ghost use Rattle.tape.specs.Putting.{putRecord, putBytes};
+ghost use Rattle.tape.specs.Putting.{putRecord};
 ghost use Prim.Native.Nat.{_<_};
 ghost use Rattle.meaning.specs.Look.{wholeRecords};
 ghost use Rattle.tape.specs.Looking.{Looks};
@@ -66,22 +66,6 @@ pub fn put_record(tape: &mut [u8], index: usize, r: Record)
         let at = index * RECORD_SIZE;
         let end = at + RECORD_SIZE;
         records::put_words(&mut tape[at..end], records::words_of(r));
-    }
-}
-
-// Put these bytes from the place `at` on, where the store has room for all of them; else nothing is written.
-pub fn put_bytes(store: &mut [u8], at: usize, bytes: &[u8])
-    ensures { λ _. ⌜ now (store .exit) ≡ putBytes (now (store .entry)) at (now (bytes .entry)) ⌝ }
-{
-    let room = store.len();
-    if at <= room {
-        if bytes.len() <= room - at {
-            let mut k: usize = 0;
-            while k < bytes.len() {
-                store[at + k] = bytes[k];
-                k += 1;
-            }
-        }
     }
 }
 

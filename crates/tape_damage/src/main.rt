@@ -419,9 +419,7 @@ fn say(n: u64, after: u8) {
 
 fn main() {
     let mut t: [u8; 176] = [0; 176];
-    let mut s: [u8; 9] = [0; 9];
-    tape::put_bytes(&mut s, 0, b"runetaat");
-    tape::put_bytes(&mut s, 8, b"t");
+    let s: [u8; 9] = [b'r', b'u', b'n', b'e', b't', b'a', b'a', b't', b't'];
     fill_first(&mut t);
     fill_middle(&mut t);
     fill_last(&mut t);

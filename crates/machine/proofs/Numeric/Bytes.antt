@@ -18,7 +18,7 @@ use Rattle.grammar.specs.Characters.{Digit, Hexdig, Digits, Decimal}
 use Rattle.grammar.specs.Numbers.{Sign, Int, Frac0, Frac1, E, Exp, Dec, X, Unsigned, Number}
 use Rattle.grammar.specs.Times.{Fraction, Time-secfrac, Time-hour, Time-minute, Local-time, Local-date, Separator, Zulu, Plus-minus, Time-offset, Time-value}
 use Rattle.machine.proofs.Numeric.SoundTime.{and-both}
-use Rattle.machine.proofs.Numeric.Items.{NumericItem, Taken}
+use Rattle.machine.proofs.Numeric.Items.{NumericItem}
 
 -- ---- the first byte
 
@@ -76,10 +76,6 @@ time-begins (Time-value.offset-date-time d x c o) = begins-more (date-begins d) 
 pub numeric-begins : {a : List ℕ} {m : Meaning} → NumericItem true a m → Begins a
 numeric-begins (NumericItem.number n) = number-begins n
 numeric-begins (NumericItem.time-value t) = time-begins t
-
-pub taken-begins : {a : List ℕ} {m : Meaning} → Taken true a m → Begins a
-taken-begins (Taken.item i) = numeric-begins i
-taken-begins (Taken.trailed d) = begins-more (date-begins d) _
 
 -- ---- each byte
 
@@ -210,8 +206,3 @@ time-plain (Time-value.offset-date-time d x c o) = each-join (date-plain d) (all
 pub numeric-plain : {a : List ℕ} {m : Meaning} → NumericItem true a m → Plain a
 numeric-plain (NumericItem.number n) = number-plain n
 numeric-plain (NumericItem.time-value t) = time-plain t
-
-pub taken-plain : {a : List ℕ} {m : Meaning} → Taken true a m → Plain a
-unfolding plain
-taken-plain (Taken.item i) = numeric-plain i
-taken-plain (Taken.trailed d) = each-join (date-plain d) (plain-is (letters " ") refl)

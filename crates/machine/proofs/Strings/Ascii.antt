@@ -7,7 +7,7 @@ use native.Mathlib.Omega.{arith}
 use native.Mathlib.Decide.{decLt, decLe}
 use lib.ListN.{length}
 use Rattle.rules.specs.Rfc3629.{In, Char, utf8-1, Octets, none, more, Scalar, encode}
-use Rattle.rules.proofs.Characters.{Each, all-none, all-more, High, long, short, same-head, same-tail, after}
+use Rattle.rules.proofs.Characters.{Each, all-none, all-more, High, long, short, same-head, same-tail}
 use Rattle.rules.proofs.Numbers.{row-1, numbered}
 use Rattle.grammar.specs.Characters.{Range, Of, Among, Hexdig, Digits}
 use Rattle.machine.proofs.Strings.Tests.{hex-ascii}
@@ -18,10 +18,6 @@ Ascii b = In 0x00 0x7F b
 pub ascii-octets : {a : List ℕ} → Each Ascii a → Octets a
 ascii-octets all-none = none
 ascii-octets (all-more {b = b} p x) = more (utf8-1 p) (ascii-octets x)
-
--- ASCII bytes end at the end of a character
-pub ascii-cut : {a : List ℕ} → Each Ascii a → (r : List ℕ) → Octets (a ++ r) → Octets a × Octets r
-ascii-cut x r o = (ascii-octets x, after (ascii-octets x) r o)
 
 pub digits-ascii : {base n v w : ℕ} {a : List ℕ} → Digits Hexdig base n v a w → Each Ascii a
 digits-ascii Digits.over = all-none

@@ -206,9 +206,3 @@ part-cut {a = a} x r o =
     let f : Octets (c .0) = split-ascii o (c .0) b r (omega arith) (ap {B = List ℕ} (λ (z : List ℕ). z ++ r) (c .2) ∙ append-assoc (c .0) (b ∷ []) r) in
     let g : Octets a = rw (c .2) (join f (ascii-octets (all-more i all-none))) in
     (g, after g r o)
-
--- a part begins with a quote
-pub part-begins : {a u : List ℕ} → String-part true a u → (q : Quote) × (r : List ℕ) × (a ≡ mark q ∷ r)
-part-begins (String-part.one-line (Quoted.quoted {a = a} q x)) = (q, a ++ (mark q ∷ []), refl)
-part-begins (String-part.multiline {a = a} q x n) = (q, mark q ∷ mark q ∷ (a ++ three q), refl)
-part-begins (String-part.trimmed {n = n} {a = a} q x y) = (q, mark q ∷ mark q ∷ (n ++ (a ++ three q)), refl)

@@ -12,24 +12,6 @@ Inv-loop t₀ s faults₀ well₀ good₀ k₀ t faults well good k = (k ≤ 176
 abbrev μ-loop : tie.MeasureT-loop
 μ-loop t₀ s faults₀ well₀ good₀ k₀ t faults well good k = 176 - k
 
-slice-aggregate-put-bytes : tie.Need-slice-aggregate-put-bytes Inv-loop μ-loop
-slice-aggregate-put-bytes c = search needs
-
-slice-aggregate-put-bytes-2 : tie.Need-slice-aggregate-put-bytes-2 Inv-loop μ-loop
-slice-aggregate-put-bytes-2 c = search needs
-
-put-bytes-requires : tie.Need-put-bytes-requires Inv-loop μ-loop
-put-bytes-requires c κs = search needs
-
-slice-aggregate-put-bytes-3 : tie.Need-slice-aggregate-put-bytes-3 Inv-loop μ-loop
-slice-aggregate-put-bytes-3 c = search needs
-
-slice-aggregate-put-bytes-4 : tie.Need-slice-aggregate-put-bytes-4 Inv-loop μ-loop
-slice-aggregate-put-bytes-4 c = search needs
-
-put-bytes-requires-2 : tie.Need-put-bytes-requires-2 Inv-loop μ-loop
-put-bytes-requires-2 c κs = search needs
-
 slice-aggregate-fill-first : tie.Need-slice-aggregate-fill-first Inv-loop μ-loop
 slice-aggregate-fill-first c = search needs
 
@@ -102,12 +84,6 @@ main-spec =
     (tie.spec
     Inv-loop
     μ-loop
-    slice-aggregate-put-bytes
-    slice-aggregate-put-bytes-2
-    put-bytes-requires
-    slice-aggregate-put-bytes-3
-    slice-aggregate-put-bytes-4
-    put-bytes-requires-2
     slice-aggregate-fill-first
     fill-first-requires
     slice-aggregate-fill-middle
