@@ -1,4 +1,4 @@
--- PlacesLaws: one step of a scanner at a place
+-- PlacesLaws: one step of a scanner at a place; one place after another
 pub mod PlacesLaws
 -- StoresLaws: bytes put into a store
 pub mod StoresLaws
@@ -10,8 +10,12 @@ pub mod PartsTurns
 -- PartsBlocks: blocks of plain bytes
 pub mod PartsBlocks
 pub mod PartsLines
+-- BinariesLaws: binary parts
+pub mod BinariesLaws
 -- SpellingLaws: words
 pub mod SpellingLaws
+-- NamesLaws: identifiers
+pub mod NamesLaws
 -- NumericsSteps: the scanner over a text, from a place on
 pub mod NumericsSteps
 -- NumericsDigits: what the loops over digits keep

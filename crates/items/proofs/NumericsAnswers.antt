@@ -10,9 +10,9 @@ use Rattle.machine.specs.Scan.{takes, stops, breaks, Ran, ended, broke, unended
 use Rattle.machine.specs.Numeric as S
 use Rattle.machine.specs.Numeric.{St, Res, begin, scan}
 use Rattle.items.specs.Numerics.{Means, NumericSays, Tells, Reads}
-use Rattle.items.specs.declared.numerics.Item as ItemOf
-use Rattle.items.specs.declared.numerics.Scanned.{Scanned}
-use Rattle.items.specs.declared.numerics.Scanned.the-variants.{Item, Refused}
+use Rattle.items.specs.declared.Item as ItemOf
+use Rattle.items.specs.declared.Scanned.{Scanned}
+use Rattle.items.specs.declared.Scanned.the-variants.{Item, Refused}
 
 -- an item ends within the text
 pub ran-within : (t : List ℕ) (p : ℕ) (st : St) (m : Meaning) (q : ℕ) → ran scan p st t ≡ ended m q → (p ≤ q) × (q ≤ p + length t)

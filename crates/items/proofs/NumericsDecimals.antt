@@ -26,9 +26,9 @@ use Rattle.items.specs.Numerics.{Means, Tells, Reads, Closes, IsDigit, E
 use Rattle.items.specs.declared.numbers.Acc.{Acc}
 use Rattle.items.specs.declared.numbers.Run.{Run}
 use Rattle.items.specs.declared.numbers.Power.{Power}
-use Rattle.items.specs.declared.numerics.Item.the-variants as Item
-use Rattle.items.specs.declared.numerics.Scanned.{Scanned}
-use Rattle.items.specs.declared.numerics.Scanned.the-variants.{Item, Refused}
+use Rattle.items.specs.declared.Item.the-variants as Item
+use Rattle.items.specs.declared.Scanned.{Scanned}
+use Rattle.items.specs.declared.Scanned.the-variants.{Item, Refused}
 use Rattle.items.proofs.PlacesLaws.{byte-in, byte-out}
 use Rattle.items.proofs.NumericsSteps.{edge-none, no-digit, digit?, took, halts, breaks-at, same, closes-by}
 use Rattle.items.proofs.NumericsSettled.{capped-up, capped-dn}

@@ -27,9 +27,9 @@ use Rattle.items.specs.Places.{byteAt}
 use Rattle.items.specs.Numerics.{Means, Tells, Reads, Closes, Holds, Settles, HexSpan, Kept, Hexed, Onto}
 use Rattle.items.specs.declared.numbers.Acc.{Acc}
 use Rattle.items.specs.declared.numbers.Hex.{Hex}
-use Rattle.items.specs.declared.numerics.Item.the-variants as Item
-use Rattle.items.specs.declared.numerics.Scanned.{Scanned}
-use Rattle.items.specs.declared.numerics.Scanned.the-variants.{Item, Refused}
+use Rattle.items.specs.declared.Item.the-variants as Item
+use Rattle.items.specs.declared.Scanned.{Scanned}
+use Rattle.items.specs.declared.Scanned.the-variants.{Item, Refused}
 use Rattle.items.proofs.PlacesLaws.{byte-in, byte-out}
 use Rattle.items.proofs.NumericsSteps.{took, halts, breaks-at, same, closes-by}
 

@@ -28,8 +28,8 @@ use Rattle.items.specs.declared.numerics.Lead as LeadOf
 use Rattle.items.specs.declared.numerics.Lead.the-variants as Lead
 use Rattle.items.specs.declared.numerics.Mark as MarkOf
 use Rattle.items.specs.declared.numerics.Mark.the-variants as Mark
-use Rattle.items.specs.declared.numerics.Scanned.{Scanned}
-use Rattle.items.specs.declared.numerics.Scanned.the-variants.{Refused}
+use Rattle.items.specs.declared.Scanned.{Scanned}
+use Rattle.items.specs.declared.Scanned.the-variants.{Refused}
 use Rattle.items.proofs.PlacesLaws.{byte-in, byte-out}
 use Rattle.items.proofs.NumericsSteps.{edge-none, no-digit, took, breaks-at, same}
 use Rattle.items.proofs.NumericsDecimals.{span-low}

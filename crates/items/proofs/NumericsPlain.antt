@@ -19,7 +19,7 @@ use Rattle.items.specs.Places.{byteAt}
 use Rattle.items.specs.Numerics.{Reads, IsDigit, Edge, Held, Holds, Span, Ended, PlainSays, Settles, Onto, lenOf, From}
 use Rattle.items.specs.declared.numbers.Acc.{Acc}
 use Rattle.items.specs.declared.numbers.Plain.{Plain}
-use Rattle.items.specs.declared.numerics.Scanned.{Scanned}
+use Rattle.items.specs.declared.Scanned.{Scanned}
 use Rattle.items.proofs.PlacesLaws.{byte-in, byte-out}
 use Rattle.items.proofs.NumericsSteps.{edge-none, took, halts, same}
 use Rattle.items.proofs.NumericsDigits.{span-next}

@@ -21,9 +21,9 @@ use Rattle.machine.specs.Numeric.{Res, settle, strip, ranged, checked, finite}
 use Rattle.machine.proofs.Numeric.Value.{settle-to, only-one, positive, powers}
 use Rattle.items.specs.Numerics.{Means, Tells, Held, Holds, Capped, Settles}
 use Rattle.items.specs.declared.numbers.Acc.{Acc}
-use Rattle.items.specs.declared.numerics.Item.the-variants as Item
-use Rattle.items.specs.declared.numerics.Scanned.{Scanned}
-use Rattle.items.specs.declared.numerics.Scanned.the-variants.{Item, Refused}
+use Rattle.items.specs.declared.Item.the-variants as Item
+use Rattle.items.specs.declared.Scanned.{Scanned}
+use Rattle.items.specs.declared.Scanned.the-variants.{Item, Refused}
 
 -- ---- negation: -z, which the machine has as 0 - z
 

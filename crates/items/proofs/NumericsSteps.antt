@@ -16,8 +16,8 @@ use Rattle.meaning.specs.declared.Refusal.{Refusal}
 use Rattle.machine.specs.Scan.{takes, stops, breaks, Ran, unended, goesOn, ran, over as textEnd}
 use Rattle.machine.specs.Numeric.{St, Res, scan}
 use Rattle.machine.proofs.Runs.{NoDigit}
-use Rattle.items.specs.declared.numerics.Scanned.{Scanned}
-use Rattle.items.specs.declared.numerics.Scanned.the-variants.{Refused}
+use Rattle.items.specs.declared.Scanned.{Scanned}
+use Rattle.items.specs.declared.Scanned.the-variants.{Refused}
 use Rattle.items.specs.Places.{byteAt}
 use Rattle.items.proofs.PlacesLaws.{byte-in, byte-out}
 use Rattle.items.specs.Numerics.{Tells, Reads, Closes, IsDigit, Edge}

@@ -33,9 +33,9 @@ use Rattle.machine.proofs.Numeric.Rows.{dg-digit, dg-none, sec-digit, sec-class
 use Rattle.items.specs.Places.{byteAt}
 use Rattle.items.specs.Fractions.{Fractioned}
 use Rattle.items.specs.Numerics.{Means, Tells, Reads, Closes, IsDigit, Edge, Onto, TwoSays, ThenSays, whenOf, clockTest, Zoned, NanosSays}
-use Rattle.items.specs.declared.numerics.Item.the-variants as Item
-use Rattle.items.specs.declared.numerics.Scanned.{Scanned}
-use Rattle.items.specs.declared.numerics.Scanned.the-variants.{Item, Refused}
+use Rattle.items.specs.declared.Item.the-variants as Item
+use Rattle.items.specs.declared.Scanned.{Scanned}
+use Rattle.items.specs.declared.Scanned.the-variants.{Item, Refused}
 use Rattle.items.specs.declared.times.Field.{Field}
 use Rattle.items.specs.declared.times.Field.the-variants.{Got, Bad}
 use Rattle.items.specs.declared.times.When.{When}

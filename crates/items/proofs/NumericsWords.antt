@@ -21,9 +21,9 @@ use Rattle.items.specs.Places.{byteAt}
 use Rattle.items.specs.Spelling.{WordSays}
 use Rattle.items.specs.Numerics.{Means, Tells, Reads, Edge, From}
 use Rattle.items.specs.declared.numbers.Acc.{Acc}
-use Rattle.items.specs.declared.numerics.Item.the-variants as Item
-use Rattle.items.specs.declared.numerics.Scanned.{Scanned}
-use Rattle.items.specs.declared.numerics.Scanned.the-variants.{Item, Refused}
+use Rattle.items.specs.declared.Item.the-variants as Item
+use Rattle.items.specs.declared.Scanned.{Scanned}
+use Rattle.items.specs.declared.Scanned.the-variants.{Item, Refused}
 use Rattle.items.specs.declared.words.Word.{Word}
 use Rattle.items.specs.declared.words.Word.the-variants.{Whole, Cut}
 use Rattle.items.proofs.PlacesLaws.{byte-in, byte-out}

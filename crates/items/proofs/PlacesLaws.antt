@@ -13,7 +13,7 @@ use native.Mathlib.Nat.{add-suc, add-zero, zero-add}
 use borrow.Author.Tests.{ltb-true, ltb-false}
 use Rattle.meaning.specs.declared.Refusal.{Refusal}
 use Rattle.machine.specs.Scan.{Out, takes, stops, breaks, over, Ran, ended, broke, unended, goesOn, ran}
-use Rattle.items.specs.Places.{byteAt, ranFrom, Goes, ranAt, Runs}
+use Rattle.items.specs.Places.{byteAt, Onward, ranFrom, Goes, ranAt, Runs}
 
 pub byte-in : (s : List ℕ) (i : ℕ) → i < length s → byteAt s i ≡ getD s i 0
 byte-in [] i h = absurd (omega arith)
@@ -96,3 +96,32 @@ module _ {S M : Type 0} (scan : ℕ → S → ℕ → Out S M) (s : List ℕ) wh
 
   pub ended-by : (c : S) (v : M) (p : ℕ) → scan p c (byteAt s p) ≡ stops v → ranAt scan s c p ≡ ended v p
   ended-by c v p x = sym (at-zero c p) ∙ stops-by scan 0 s c v p (does c p (stops v) x) ∙ ap (ended v) (zero-add p)
+
+  module _ (p : ℕ) (c : S) where
+    -- by a byte that is there
+    pub run-take : (d : S) → p < length s → scan p c (getD s p 0) ≡ takes d → Runs scan s c p d (p + 1)
+    run-take d h x = runs-by c d p (p + 1) h refl (rw (byte-in s p h) x)
+
+    pub run-stop : (v : M) → p < length s → scan p c (getD s p 0) ≡ stops v → ranAt scan s c p ≡ ended v p
+    run-stop v h x = ended-by c v p (rw (byte-in s p h) x)
+
+    pub run-break : (r : Refusal) → p < length s → scan p c (getD s p 0) ≡ breaks r → ranAt scan s c p ≡ broke r
+    run-break r h x = broken-by c r p (rw (byte-in s p h) x)
+
+    -- at the text's end
+    pub end-stop : (v : M) → length s ≤ p → scan p c over ≡ stops v → ranAt scan s c p ≡ ended v p
+    end-stop v h x = ended-by c v p (rw (byte-out s p h) x)
+
+    pub end-break : (r : Refusal) → length s ≤ p → scan p c over ≡ breaks r → ranAt scan s c p ≡ broke r
+    end-break r h x = broken-by c r p (rw (byte-out s p h) x)
+
+-- ---- from one place on to another
+
+pub here : (text : List ℕ) (p : ℕ) → p ≤ length text → Onward text p p
+here text p h = record { behind = omega arith; within = h }
+
+pub further : {text : List ℕ} {p q : ℕ} → Onward text p q → q < length text → Onward text p (q + 1)
+further o h = record { behind = omega (arith, o .behind); within = omega arith }
+
+pub then : {text : List ℕ} {p q r : ℕ} → Onward text p q → Onward text q r → Onward text p r
+then o u = record { behind = omega (arith, o .behind, u .behind); within = u .within }

@@ -6,8 +6,8 @@ use Rattle.meaning.specs.declared.Refusal.the-variants.{NotGrammar}
 use Rattle.meaning.specs.Limits as Limits
 use Rattle.machine.specs.Numeric as S
 use Rattle.machine.specs.Numeric.{field}
-use Rattle.items.specs.declared.numerics.Scanned.{Scanned}
-use Rattle.items.specs.declared.numerics.Scanned.the-variants.{Refused}
+use Rattle.items.specs.declared.Scanned.{Scanned}
+use Rattle.items.specs.declared.Scanned.the-variants.{Refused}
 use Rattle.items.specs.declared.times.Fraction.{Fraction}
 use Rattle.items.specs.declared.times.Fraction.the-variants.{Got, Bad}
 use Rattle.items.specs.Numerics.{Reads, Zoned}

@@ -27,10 +27,10 @@ use Rattle.items.specs.declared.numbers.Coef.the-variants.{Fits, Over}
 use Rattle.items.specs.declared.numbers.Plain.{Plain}
 use Rattle.items.specs.declared.numbers.Power.{Power}
 use Rattle.items.specs.declared.numbers.Hex.{Hex}
-use Rattle.items.specs.declared.numerics.Item as ItemOf
-use Rattle.items.specs.declared.numerics.Item.the-variants as Item
-use Rattle.items.specs.declared.numerics.Scanned.{Scanned}
-use Rattle.items.specs.declared.numerics.Scanned.the-variants.{Item, Refused}
+use Rattle.items.specs.declared.Item as ItemOf
+use Rattle.items.specs.declared.Item.the-variants as Item
+use Rattle.items.specs.declared.Scanned.{Scanned}
+use Rattle.items.specs.declared.Scanned.the-variants.{Item, Refused}
 use Rattle.items.specs.declared.numerics.Few.{Few}
 use Rattle.items.specs.declared.numerics.Lead as LeadOf
 use Rattle.items.specs.declared.numerics.Lead.the-variants as Lead

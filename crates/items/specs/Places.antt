@@ -1,8 +1,8 @@
 -- Runs of a scanner over places of a slice. Assumes nothing.
 use mathlib.Core.Path.{_≡_}
-use Prim.Native.Nat.{ℕ, _+_}
+use Prim.Native.Nat.{ℕ, _+_, _≤_}
 use mathlib.Core.List.{List}
-use lib.ListN.{drop, getD}
+use lib.ListN.{length, drop, getD}
 use Rattle.machine.specs.Scan.{Out, over, Ran, ran}
 use Rattle.machine.specs.Strings.{hexOf}
 
@@ -13,6 +13,11 @@ byteAt s i = getD s i over
 -- the digit at a place; noDigit where there is none
 abbrev pub digitAt : List ℕ → ℕ → ℕ
 digitAt s i = hexOf (byteAt s i)
+
+-- from p on, and not past the text's end
+pub record Onward (text : List ℕ) (p q : ℕ) : Type 0 where
+  pub behind : p ≤ q
+  pub within : q ≤ length text
 
 -- the slice s is the whole text
 module _ {S M : Type 0} (scan : ℕ → S → ℕ → Out S M) (s : List ℕ) where

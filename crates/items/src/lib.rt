@@ -1,8 +1,30 @@
-// The items of a text, each by itself: parts of strings, words, numbers and times.
+// The items of a text, each by itself: words, identifiers, parts of strings and of binary, numbers and times.
+pub mod binaries;
 pub mod hexes;
+pub mod names;
 pub mod numbers;
 pub mod numerics;
 pub mod parts;
 pub mod stores;
 pub mod times;
 pub mod words;
+
+use meaning::Number;
+use meaning::Refusal;
+use meaning::Time;
+
+// One value that is no array and no object; a string or binary with how many store bytes it has.
+pub enum Item {
+    Null,
+    Bool(bool),
+    Number(Number),
+    Time(Time),
+    Str(usize),
+    Bin(usize),
+}
+
+// An item and the place after it, or a refusal.
+pub enum Scanned {
+    Item(Item, usize),
+    Refused(Refusal),
+}

@@ -1,7 +1,7 @@
 // Decimal and hexadecimal numbers. The digits are streamed: a coefficient that does not end in 0, and a count of zeros after it.
+use crate::Item;
+use crate::Scanned;
 use crate::hexes;
-use crate::numerics::Item;
-use crate::numerics::Scanned;
 use meaning::COEFFICIENT_MOST;
 use meaning::Number;
 use meaning::POWER_LIMIT;
@@ -14,8 +14,8 @@ ghost use Rattle.meaning.specs.declared.Number.the-variants as Number;
 ghost use Rattle.grammar.specs.Times.{signed};
 ghost use Rattle.machine.specs.Numeric as Numeric;
 ghost use Rattle.machine.specs.Numeric.{dig};
-ghost use Rattle.items.specs.declared.numerics.Item.the-variants as Item;
-ghost use Rattle.items.specs.declared.numerics.Scanned.the-variants as Scanned;
+ghost use Rattle.items.specs.declared.Item.the-variants as Item;
+ghost use Rattle.items.specs.declared.Scanned.the-variants as Scanned;
 ghost use Rattle.items.specs.Numerics.{Reads, IsDigit, Place, Edge, Holds, Shifted, Digited, Capped, Powered, Ready, From, Settles, PlainSays, EndsSays, Hexed};
 
 // Ten times a number above this is no coefficient.

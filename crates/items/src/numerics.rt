@@ -1,4 +1,6 @@
 // A number or a time value. Digits with no sign stay open as both while both are possible.
+use crate::Item;
+use crate::Scanned;
 use crate::numbers;
 use crate::numbers::Acc;
 use crate::numbers::NONE;
@@ -14,22 +16,6 @@ ghost use lib.ListN.{length};
 ghost use Rattle.meaning.specs.Limits.{textLimit};
 ghost use Rattle.machine.specs.Numeric as Numeric;
 ghost use Rattle.items.specs.Numerics.{NumericSays, Reads, Place, Edge, AtDigit, FewSays, LeadSays, Marks, Plainly, TimelySays};
-
-// One value that is no array and no object; a string or binary with how many store bytes it has.
-pub enum Item {
-    Null,
-    Bool(bool),
-    Number(Number),
-    Time(Time),
-    Str(usize),
-    Bin(usize),
-}
-
-// An item and the place after it, or a refusal.
-pub enum Scanned {
-    Item(Item, usize),
-    Refused(Refusal),
-}
 
 // Up to four digits with no sign: how many, their value twice, and the place after them.
 pub struct Few {

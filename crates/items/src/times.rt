@@ -1,6 +1,6 @@
 // Time values. The check of one is made at its end, and gives 5 at its first byte, q.
-use crate::numerics::Item;
-use crate::numerics::Scanned;
+use crate::Item;
+use crate::Scanned;
 use meaning::Date;
 use meaning::FRACTION_DIGITS;
 use meaning::Refusal;
@@ -15,8 +15,8 @@ ghost use Rattle.meaning.specs.declared.Time.the-variants as Time;
 ghost use Rattle.grammar.specs.Times.{signed};
 ghost use Rattle.machine.specs.Numeric as Numeric;
 ghost use Rattle.machine.specs.Numeric.{field};
-ghost use Rattle.items.specs.declared.numerics.Item.the-variants as Item;
-ghost use Rattle.items.specs.declared.numerics.Scanned.the-variants as Scanned;
+ghost use Rattle.items.specs.declared.Item.the-variants as Item;
+ghost use Rattle.items.specs.declared.Scanned.the-variants as Scanned;
 ghost use Rattle.items.specs.Fractions.{FractionSays};
 ghost use Rattle.items.specs.Numerics.{Reads, Closes, Place, TwoSays, ThenSays, whenOf, Parted, clockTest, Zoned, NanosSays};
 

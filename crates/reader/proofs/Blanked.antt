@@ -9,11 +9,13 @@ use Rattle.meaning.specs.declared.Refusal.the-variants.{NotGrammar}
 use Rattle.meaning.specs.Letters.{ch}
 use Rattle.machine.specs.Machine
 use Rattle.machine.specs.Machine.{Base, want, wantKey, wantString, wantBinary, got, Mode, base, slash, line, block, star, Frame, Conf, at, step, finish, Class, classOf, blankC, hashC, slashC, Note, noteOf, lineEnd, starN, slashN, plainN, controlN}
-use Rattle.reader.specs.Scanning.{Goes, Ends, Bare, Onward}
+use Rattle.items.specs.Places.{Onward}
+use Rattle.reader.specs.Scanning.{Goes, Ends, Bare}
 use Rattle.reader.specs.Layouts.{Passes, Commented, Breaks, Blanks, Laid, CommentSays, MaybeSays}
 use Rattle.reader.specs.declared.layouts.Comment.{Comment}
 use Rattle.reader.proofs.Classes.{NoteIs, note-is}
-use Rattle.reader.proofs.Runs.{go, stop, halt, alike, alike-end, here, further, then}
+use Rattle.reader.proofs.Runs.{go, stop, halt, alike, alike-end}
+use Rattle.items.proofs.PlacesLaws.{here, further, then}
 
 -- ---- what a byte of each class does, whatever is expected
 

@@ -12,7 +12,7 @@ use Rattle.meaning.specs.Meaning.{Meaning, Meanings, Members}
 use Rattle.grammar.specs.Values.{Inside, elements, members}
 use Rattle.machine.specs.Machine.{Base, want, wantKey, got, value, key, base, Frame, inside, pair, Conf, at, fail, step, onGot, onWant, closeWanted, odd, wanted, shut, Bracket, square, curly, bareOf, Class, classOf, blankC, hashC, slashC, commaC, colonC, plusC, quoteC, dollarC, letterN, letterT, letterF, letterC, otherC, openC, closeC}
 use Rattle.machine.specs.Machine as Machine
-use Rattle.reader.specs.Scanning.{Goes, Ends, Bare, Onward, Shut}
+use Rattle.reader.specs.Scanning.{Goes, Ends, Bare, Shut}
 use Rattle.reader.specs.Layouts.{Laid, Breaks}
 use Rattle.reader.specs.Joins.{Keyed, KeySays}
 use Rattle.reader.specs.Cursors.{Scalar, Unwanted, ScalarSays, itemBytes, Ready, AtValue, AtMember, Moved, Opened, OneItem, closer, within, Begins, OpenSays, Adds, AfterSays, Coloned, ColonSays, Named, MemberSays}

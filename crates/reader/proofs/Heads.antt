@@ -4,72 +4,50 @@ use mathlib.Core.Bool.{Bool, true, false, cond}
 use mathlib.Core.List.{List, [], _∷_, _++_}
 use Prim.Native.Nat.{ℕ, suc, _+_, _≤_, _<_}
 use native.Mathlib.Omega.{arith}
-use native.Mathlib.Decide.{decLt}
+use lib.Dec.{eqb}
 use lib.ListN.{length, drop, getD}
 use lib.Seq.{sets}
-use borrow.Author.Tests.{eq-eqb, ne-eqb}
 use Rattle.meaning.specs.declared.Refusal.{Refusal}
 use Rattle.meaning.specs.declared.Refusal.the-variants.{NotGrammar}
 use Rattle.meaning.specs.declared.Record.{Record}
-use Rattle.meaning.specs.Letters.{letters, ch}
-use Rattle.meaning.specs.Good.{Bytes}
+use Rattle.meaning.specs.Letters.{ch}
 use Rattle.meaning.specs.Meaning.{Meaning}
 use Rattle.meaning.specs.Tape.{storeOf, recordsOf, bytes}
-use Rattle.machine.specs.Scan.{Out, takes, stops, breaks, over, Ran, ended, broke, ran}
+use Rattle.machine.specs.Scan.{Out, takes, stops, breaks, over, Ran, ended, broke, unended, goesOn, ran}
 use Rattle.machine.specs.Machine.{Use, as-value, as-key, Item, word, numeric, Got, value, string, binary, Base, want, got, base, item, Frame, Conf, at, step, finish, onGot, onWant, onOut, odd, closeWanted, read, Bracket, square, curly, Class, classOf, blankC, hashC, slashC, commaC, colonC, plusC, quoteC, dollarC, letterN, letterT, letterF, letterC, otherC, openC, closeC}
 use Rattle.machine.specs.Machine as Machine
-use Rattle.machine.specs.Names
+use Rattle.machine.specs.Names.{wordScan}
 use Rattle.machine.specs.Numeric
-use Rattle.reader.specs.Scanning.{Goes, Ends, Bare, Onward, Shut}
-use Rattle.reader.specs.Words.{Spells, no-letter, letter, Misspells, differs, later}
-use Rattle.reader.specs.Joins.{Meant, Plusless, Joined, BytesSays, stringPart, binaryPart, wholeBinary}
+use Rattle.reader.specs.Scanning.{Goes, Ends, Bare, Shut}
+use Rattle.reader.specs.Joins.{Plusless, Joined, BytesSays, stringPart, binaryPart, wholeBinary}
 use Rattle.items.specs.Numerics.{Means, NumericSays}
 use Rattle.items.specs.Numerics as Numerics
 use Rattle.reader.specs.Cursors.{recordItem, itemBytes, Scalar, Unwanted, ScalarSays, SpeltSays, Quoted, AtScalar}
 use Rattle.reader.specs.declared.joins.Bytes.{Bytes as Joint}
-use Rattle.items.specs.declared.numerics.Item.{Item as Taken}
-use Rattle.items.specs.declared.numerics.Scanned.{Scanned}
-use Rattle.reader.proofs.Runs.{onto, failed, alike, alike-on, stop, halt}
+use Rattle.items.specs.declared.Item.{Item as Taken}
+use Rattle.items.specs.declared.Scanned.{Scanned}
+use Rattle.reader.proofs.Runs.{alike, alike-on}
 use Rattle.reader.proofs.Classes.{ClassIs, class-is}
 use Rattle.reader.proofs.Keys.{not-quote}
-use Rattle.reader.proofs.Scans.{run-break, lift-done, lift-refused}
+use Rattle.reader.proofs.Scans.{lift-done, lift-refused}
+use Rattle.machine.proofs.Lift.{item-ends}
+use Rattle.items.proofs.PlacesLaws.{run-break}
 
 -- ---- words
 
-module _ (text : List ℕ) (m : Meaning) (d : ℕ) (k : List Frame) where
-  pub spells-runs : {p q : ℕ} {w : List ℕ} → Spells text p w q → Goes text (at (item (word w m)) d k) p (at (base (got (value m))) d k) q
-  unfolding Names.wordScan
-  spells-runs {p} no-letter = alike (at (item (word [] m)) d k) (at (base (got (value m))) d k) text p (λ h. refl) (λ h. refl)
-  spells-runs {p} (letter {c = c} {a = a} h e s) =
-      onto (at (item (word (c ∷ a) m)) d k) text p h
-      ∙ (let f : step p (at (item (word (c ∷ a) m)) d k) (getD text p 0) ≡ at (item (word a m)) d k = rw (eq-eqb _ _ e) in ap (λ (x : Conf). read (suc p) x (drop (suc p) text)) f)
-      ∙ spells-runs s
-
-  unspelt : (p c : ℕ) (a : List ℕ) → c < 256 → (p < length text → getD text p 0 ≡ c → ⊥) → Ends text (at (item (word (c ∷ a) m)) d k) p (NotGrammar p)
-  unfolding Names.wordScan
-  unspelt p c a l n = by (decLt p (length text))
-    where
-      by : Dec (p < length text) → Ends text (at (item (word (c ∷ a) m)) d k) p (NotGrammar p)
-      by (Dec.yes h) = stop (at (item (word (c ∷ a) m)) d k) text p (NotGrammar p) h (rw (ne-eqb _ _ (n h)))
-      by (Dec.no h) = halt (at (item (word (c ∷ a) m)) d k) text p (NotGrammar p) (omega arith) (let z = ne-eqb over c (omega arith) in rw z)
-
-  pub misspells-ends : {p q : ℕ} {w : List ℕ} → Misspells text p w q → Bytes w → Ends text (at (item (word w m)) d k) p (NotGrammar q)
-  unfolding Names.wordScan
-  misspells-ends {p} (differs {c = c} {a = a} n) b = unspelt p c a (b .0) n
-  misspells-ends {p} (later {c = c} {a = a} h e s) b =
-      onto (at (item (word (c ∷ a) m)) d k) text p h
-      ∙ (let f : step p (at (item (word (c ∷ a) m)) d k) (getD text p 0) ≡ at (item (word a m)) d k = rw (eq-eqb _ _ e) in ap (λ (x : Conf). read (suc p) x (drop (suc p) text)) f)
-      ∙ misspells-ends s (b .1)
-
-pub spells-past : {text : List ℕ} {p q c : ℕ} {a : List ℕ} → Spells text p (c ∷ a) q → p < q
-spells-past (letter h e s) = past s
+-- a word with a letter ends past its start
+word-past : (t : List ℕ) (p q c : ℕ) (a : List ℕ) → ran wordScan p (c ∷ a) t ≡ ended tt q → p < q
+unfolding ran wordScan
+word-past [] p q c a e = go (eqb over c) e
   where
-    past : {text : List ℕ} {p q : ℕ} {a : List ℕ} → Spells text (suc p) a q → p < q
-    past s = on s
-      where
-        on : {text : List ℕ} {p q : ℕ} {a : List ℕ} → Spells text p a q → p ≤ q
-        on no-letter = omega arith
-        on (letter h e s) = omega (arith, on s)
+    go : (x : Bool) → goesOn wordScan p (λ l. unended) (cond x (takes a) (breaks (NotGrammar p))) ≡ ended tt q → p < q
+    go true h = absurd (let z : _≡_ {A = ℕ} 0 1 = cc in omega arith)
+    go false h = absurd (let z : _≡_ {A = ℕ} 0 1 = cc in omega arith)
+word-past (b ∷ t) p q c a e = go (eqb b c) e
+  where
+    go : (x : Bool) → goesOn wordScan p (λ l. ran wordScan (suc p) l t) (cond x (takes a) (breaks (NotGrammar p))) ≡ ended tt q → p < q
+    go true h = let v = item-ends wordScan (λ l. word l Meaning.null) (λ l. value Meaning.null) (λ p s b. refl) 0 [] t (suc p) a tt q h in omega (arith, v .behind)
+    go false h = absurd (let z : _≡_ {A = ℕ} 0 1 = cc in omega arith)
 
 -- ---- one item: what its meaning puts
 
@@ -108,10 +86,10 @@ module _ (text : List ℕ) (p start : ℕ) (entry : List ℕ) where
   }
 
   -- a word whose first byte is known: the machine begins the item
-  pub of-word : (w : List ℕ) (c : ℕ) (a : List ℕ) → w ≡ c ∷ a → Bytes w → (i : Taken) (m : Meaning) → Means i m → ((d : ℕ) (k : List Frame) → Goes text (at (base want) d k) p (at (item (word w m)) d k) p)
+  pub of-word : (w : List ℕ) (c : ℕ) (a : List ℕ) → w ≡ c ∷ a → (i : Taken) (m : Meaning) → Means i m → ((d : ℕ) (k : List Frame) → Goes text (at (base want) d k) p (at (item (word w m)) d k) p)
       → (r : Scanned) → SpeltSays text p w i r → ScalarSays text p start entry entry r
-  of-word w c a e b i m v g (Scanned.Item j q) s = rw (s .2) (of-means i m q v (spells-past (rw e at (s .0))) (s .1) (λ d k. g d k ∙ spells-runs text m d k (s .0)))
-  of-word w c a e b i m v g (Scanned.Refused why) s = λ d k x. g d k ∙ misspells-ends text m d k (s .1) b ∙ ap Machine.No (sym (s .2))
+  of-word w c a e i m v g (Scanned.Item j q) s = rw (s .2) (of-means i m q v (word-past (drop p text) p q c a (rw e at (s .0))) (s .1) (λ d k. g d k ∙ lift-done wordScan (λ l. word l m) (λ l. value m) (λ p s b. refl) d k text p w tt q (s .0)))
+  of-word w c a e i m v g (Scanned.Refused why) s = λ d k x. g d k ∙ lift-refused wordScan (λ l. word l m) (λ l. value m) (λ p s b. refl) d k text p w why s
 
   module _ (h : p < length text) where
     pub at-word : (w : List ℕ) (m : Meaning) → ((d : ℕ) (k : List Frame) → onWant p d k (getD text p 0) (classOf (getD text p 0)) ≡ step p (at (item (word w m)) d k) (getD text p 0)) → (d : ℕ) (k : List Frame) → Goes text (at (base want) d k) p (at (item (word w m)) d k) p
@@ -263,14 +241,3 @@ module _ (text : List ℕ) (p start : ℕ) (entry : List ℕ) (v : AtScalar text
   of-numeric (Scanned.Item i q) w = of-means text p start entry i (w .m) q (w .means) (w .past) (w .within)
       (λ d k. opens-numeric d k (never-shut (w .m) q (w .runs) d k) ∙ lift-done Numeric.scan numeric value (λ p s b. refl) d k text p Numeric.begin (w .m) q (w .runs))
   of-numeric (Scanned.Refused why) w = λ d k s. opens-numeric d k s ∙ lift-refused Numeric.scan numeric value (λ p s b. refl) d k text p Numeric.begin why w
-
--- ---- the three words
-
-pub null-bytes : Bytes (letters "null")
-null-bytes = (omega arith, (omega arith, (omega arith, (omega arith, tt))))
-
-pub true-bytes : Bytes (letters "true")
-true-bytes = (omega arith, (omega arith, (omega arith, (omega arith, tt))))
-
-pub false-bytes : Bytes (letters "false")
-false-bytes = (omega arith, (omega arith, (omega arith, (omega arith, (omega arith, tt)))))

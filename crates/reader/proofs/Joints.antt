@@ -16,15 +16,17 @@ use Rattle.machine.specs.Machine.{Use, Item, string-part, binary-part, Got, str
 use Rattle.machine.specs.Machine as Machine
 use Rattle.machine.specs.Strings
 use Rattle.machine.specs.Binaries
-use Rattle.reader.specs.Scanning.{Goes, Ends, Bare, Onward}
+use Rattle.reader.specs.Scanning.{Goes, Ends, Bare}
 use Rattle.reader.specs.Layouts.{Laid, Breaks}
-use Rattle.reader.specs.Joins.{Meant, Ended, PlacedSays, PieceSays, Plusless, Plus, Alone, Joining, JoinSays, Joined, BytesSays, stringPart, binaryPart, wholeBinary}
+use Rattle.items.specs.Pieces.{Ended}
+use Rattle.items.specs.Binaries.{PieceSays}
+use Rattle.reader.specs.Joins.{PlacedSays, Plusless, Plus, Alone, Joining, JoinSays, Joined, BytesSays, stringPart, binaryPart, wholeBinary}
 use Rattle.items.specs.Parts.{PartSays}
 use Rattle.reader.specs.declared.joins.Bytes.{Bytes}
 use Rattle.reader.specs.declared.joins.Join.{Join}
 use Rattle.items.specs.declared.parts.Part.{Part}
-use Rattle.reader.specs.declared.binaries.Piece.{Piece}
-use Rattle.reader.proofs.Runs.{go, alike, then}
+use Rattle.items.specs.declared.binaries.Piece.{Piece}
+use Rattle.reader.proofs.Runs.{go, alike}
 use Rattle.reader.proofs.Classes.{ClassIs, class-is, closing, opening}
 use Rattle.reader.proofs.Scans.{lift-done, lift-refused}
 use Rattle.items.proofs.StoresLaws.{sets-app}

@@ -14,12 +14,15 @@ use Rattle.machine.specs.Machine.{Use, as-value, as-key, Item, identifier, Got,
 use Rattle.machine.specs.Machine as Machine
 use Rattle.machine.specs.Names
 use Rattle.machine.specs.Names.{letter, figure, neither}
-use Rattle.reader.specs.Scanning.{Goes, Ends, Bare, Onward, Shut}
-use Rattle.reader.specs.Joins.{Meant, Plusless, Joined, BytesSays, stringPart, Keyed, KeySays, NameEnds}
+use Rattle.items.specs.Names.{NameEnds}
+use Rattle.reader.specs.Scanning.{Goes, Ends, Bare, Shut}
+use Rattle.reader.specs.Joins.{Plusless, Joined, BytesSays, stringPart, Keyed, KeySays}
 use Rattle.reader.specs.declared.joins.Bytes.{Bytes}
 use Rattle.reader.proofs.Runs.{alike, alike-on, stop, halt}
-use Rattle.reader.proofs.Classes.{cut-is, ClassIs, class-is}
-use Rattle.reader.proofs.Scans.{run-take, run-stop, end-stop, lift-done}
+use Rattle.reader.proofs.Classes.{ClassIs, class-is}
+use Rattle.reader.proofs.Scans.{lift-done}
+use Rattle.machine.proofs.Tables.{cut-is}
+use Rattle.items.proofs.PlacesLaws.{run-take, run-stop, end-stop}
 
 -- ---- a string, as a key and as a value
 

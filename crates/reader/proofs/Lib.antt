@@ -4,14 +4,8 @@ pub mod Runs
 pub mod Classes
 -- Blanked: layout
 pub mod Blanked
--- Spelling: a word
-pub mod Spelling
--- Scans: a scanner by itself, and lifted to the machine
+-- Scans: a scanner, lifted to the machine
 pub mod Scans
--- Naming: identifiers and keys
-pub mod Naming
--- Dollars: binary parts
-pub mod Dollars
 -- Joints: parts joined by a plus
 pub mod Joints
 -- Keys: where a key is wanted

@@ -22,7 +22,7 @@ use Rattle.tape.proofs.Puts.{record-room, sets-append, put-record-length}
 use Rattle.reader.specs.declared.cursor.Cursor.{Cursor}
 use Rattle.reader.specs.Scanning.{Goes, Ends, Shut}
 use Rattle.reader.specs.Cursors.{Ready, AtValue, Inner, AtMember, Begins, Took, Named, Adds, element, member, closer, within, bareIn, wants, always, Left, Says, OpenSays, AfterSays, OneItem, Opened, recordItem}
-use Rattle.items.specs.declared.numerics.Item.{Item}
+use Rattle.items.specs.declared.Item.{Item}
 use Rattle.reader.specs.declared.cursor.Step.{Step}
 use Rattle.meaning.specs.declared.Refusal.the-variants.{TooDeep}
 use Rattle.reader.specs.declared.cursor.Open.{Open}

@@ -10,7 +10,7 @@ use lib.ListN.{length, drop, getD, drop-of-length-le}
 use lib.Seq.{drop-cons}
 use Rattle.meaning.specs.declared.Refusal.{Refusal}
 use Rattle.machine.specs.Machine.{Conf, fail, step, finish, read, Verdict, No}
-use Rattle.reader.specs.Scanning.{Goes, Ends, Onward}
+use Rattle.reader.specs.Scanning.{Goes, Ends}
 
 pub onto : (c : Conf) (text : List ℕ) (p : ℕ) → p < length text → read p c (drop p text) ≡ read (suc p) (step p c (getD text p 0)) (drop (suc p) text)
 unfolding read
@@ -50,12 +50,3 @@ module _ (c : Conf) (text : List ℕ) (p : ℕ) (why : Refusal) where
 
   pub halt : length text ≤ p → finish p c ≡ No why → Ends text c p why
   halt h e = at-end c text p h ∙ e
-
-pub here : (text : List ℕ) (p : ℕ) → p ≤ length text → Onward text p p
-here text p h = record { behind = omega arith; within = h }
-
-pub further : {text : List ℕ} {p q : ℕ} → Onward text p q → q < length text → Onward text p (q + 1)
-further o h = record { behind = omega (arith, o .behind); within = omega arith }
-
-pub then : {text : List ℕ} {p q r : ℕ} → Onward text p q → Onward text q r → Onward text p r
-then o u = record { behind = omega (arith, o .behind, u .behind); within = u .within }

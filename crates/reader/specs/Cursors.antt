@@ -6,17 +6,19 @@ use lib.ListN.{length, getD}
 use lib.Seq.{sets}
 use Rattle.meaning.specs.declared.Record.{Record}
 use Rattle.meaning.specs.declared.Refusal.{Refusal}
-use Rattle.meaning.specs.declared.Refusal.the-variants.{NotGrammar, TooDeep}
+use Rattle.meaning.specs.declared.Refusal.the-variants.{TooDeep}
 use Rattle.meaning.specs.Letters.{ch}
 use Rattle.meaning.specs.Limits.{textLimit}
 use Rattle.meaning.specs.Meaning.{Meaning, Meanings, Members}
 use Rattle.meaning.specs.Tape.{records, storeOf, bytes, recordsOf, recordsBytes}
 use Rattle.grammar.specs.Values.{Inside, elements, members}
 use Rattle.machine.specs.Machine.{Base, want, wantKey, got, value, Mode, base, Frame, inside, pair, Conf, at, Bracket, square, curly, bareOf, wanted, shut, classOf, quoteC}
-use Rattle.reader.specs.Scanning.{Goes, Ends, Bare, Onward, Shut}
-use Rattle.reader.specs.Words.{Spells, Misspells}
-use Rattle.items.specs.declared.numerics.Item.{Item}
-use Rattle.items.specs.declared.numerics.Scanned.{Scanned}
+use Rattle.machine.specs.Names.{wordScan}
+use Rattle.machine.specs.Scan.{ended, broke}
+use Rattle.items.specs.Places.{ranAt}
+use Rattle.reader.specs.Scanning.{Goes, Ends, Bare, Shut}
+use Rattle.items.specs.declared.Item.{Item}
+use Rattle.items.specs.declared.Scanned.{Scanned}
 use Rattle.reader.specs.declared.cursor.Cursor.{Cursor}
 use Rattle.reader.specs.declared.cursor.Step.{Step}
 use Rattle.reader.specs.declared.cursor.Head.{Head}
@@ -65,8 +67,8 @@ ScalarSays text p start entry exit (Scanned.Refused why) = Unwanted text p why
 
 -- a word that means this item
 abbrev pub SpeltSays : List ℕ → ℕ → List ℕ → Item → Scanned → Type 0
-SpeltSays text p letters item (Scanned.Item i q) = Spells text p letters q × (q ≤ length text) × (i ≡ item)
-SpeltSays text p letters item (Scanned.Refused why) = (q : ℕ) × Misspells text p letters q × (why ≡ NotGrammar q)
+SpeltSays text p letters item (Scanned.Item i q) = (ranAt wordScan text letters p ≡ ended tt q) × (q ≤ length text) × (i ≡ item)
+SpeltSays text p letters item (Scanned.Refused why) = ranAt wordScan text letters p ≡ broke why
 
 -- a quote stands at p
 pub record Quoted (text : List ℕ) (p : ℕ) : Type 0 where

@@ -1,44 +1,25 @@
 -- What the readers of strings, binary and keys promise. Assumes nothing.
 use mathlib.Core.Path.{_≡_}
-use mathlib.Core.List.{List, [], _∷_, _++_}
-use Prim.Native.Nat.{ℕ, _+_, _-_, _≤_, _<_}
-use lib.ListN.{length, getD, take, drop}
-use lib.Seq.{sets}
+use mathlib.Core.List.{List, []}
+use Prim.Native.Nat.{ℕ, _≤_, _<_}
+use lib.ListN.{length, getD, drop}
 use Rattle.meaning.specs.declared.Refusal.{Refusal}
 use Rattle.meaning.specs.declared.Refusal.the-variants.{NotGrammar}
 use Rattle.machine.specs.Machine.{Use, Item, string-part, binary-part, Got, string, binary, key, Base, wantKey, got, Mode, base, item, Frame, Conf, at, Class, classOf, plusC, plusAfter}
-use Rattle.machine.specs.Scan.{Out, Ran, ended, broke, ran}
+use Rattle.machine.specs.Scan.{Out, broke, ran}
 use Rattle.machine.specs.Strings
 use Rattle.machine.specs.Binaries
-use Rattle.machine.specs.Names
-use Rattle.reader.specs.Scanning.{Goes, Ends, Bare, Onward, Shut}
-use Rattle.reader.specs.declared.binaries.Piece.{Piece}
-use Rattle.reader.specs.declared.names.Sort.{Sort}
+use Rattle.items.specs.Places.{Onward}
+use Rattle.items.specs.Pieces.{Meant, Ended}
+use Rattle.reader.specs.Scanning.{Goes, Ends, Bare, Shut}
 use Rattle.reader.specs.declared.joins.Join.{Join}
 use Rattle.reader.specs.declared.joins.Bytes.{Bytes}
 
--- these bytes, put from `start` on, are no more than the text they are read from
-pub record Meant (start : ℕ) (entry exit u : List ℕ) (n p q : ℕ) : Type 0 where
-  pub counted : n ≡ length u
-  pub filled : exit ≡ sets entry start u
-  pub room : p + length u ≤ q
-  pub past : p < q
-
 -- a part by itself, at its place in the text
 module _ {S : Type 0} (scan : ℕ → S → ℕ → Out S (List ℕ)) (begin : S) where
-  pub record Ended (text : List ℕ) (p start : ℕ) (entry exit : List ℕ) (q n : ℕ) : Type 0 where
-    pub u : List ℕ
-    pub runs : ran scan p begin (drop p text) ≡ ended u q
-    pub meant : Meant start entry exit u n p q
-    pub within : q ≤ length text
-
   abbrev pub PlacedSays : List ℕ → ℕ → ℕ → List ℕ → List ℕ → Bytes → Type 0
-  PlacedSays text p start entry exit (Bytes.Whole q n) = Ended text p start entry exit q n
+  PlacedSays text p start entry exit (Bytes.Whole q n) = Ended scan begin text p start entry exit q n
   PlacedSays text p start entry exit (Bytes.Refused why) = ran scan p begin (drop p text) ≡ broke why
-
-abbrev pub PieceSays : List ℕ → ℕ → ℕ → List ℕ → List ℕ → Piece → Type 0
-PieceSays text p start entry exit (Piece.Closed q n) = Ended Binaries.scan Binaries.begin text p start entry exit q n
-PieceSays text p start entry exit (Piece.Wrong q) = ran Binaries.scan p Binaries.begin (drop p text) ≡ broke (NotGrammar q)
 
 -- no plus stands at p
 abbrev pub Plusless : List ℕ → ℕ → Type 0
@@ -99,16 +80,3 @@ pub record Keyed (text : List ℕ) (p start : ℕ) (entry exit : List ℕ) (q n 
 abbrev pub KeySays : List ℕ → ℕ → ℕ → List ℕ → List ℕ → Bytes → Type 0
 KeySays text p start entry exit (Bytes.Whole q n) = Keyed text p start entry exit q n
 KeySays text p start entry exit (Bytes.Refused why) = (d : ℕ) (k : List Frame) → Shut text p d k → Ends text (at (base wantKey) d k) p why
-
--- ---- identifiers
-
-abbrev pub sortIs : Sort → Names.Class
-sortIs Sort.Letter = Names.letter
-sortIs Sort.Figure = Names.figure
-sortIs Sort.Neither = Names.neither
-
--- the letters and digits of an identifier from p on end at q
-pub record NameEnds (text : List ℕ) (p q : ℕ) : Type 0 where
-  pub goes : (a : List ℕ) → ran Names.scan p (Names.name a) (drop p text) ≡ ran Names.scan q (Names.name (a ++ take (q - p) (drop p text))) (drop q text)
-  pub onward : Onward text p q
-  pub stopped : q < length text → Names.classOf (getD text q 0) ≡ Names.neither

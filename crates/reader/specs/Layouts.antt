@@ -6,7 +6,8 @@ use lib.ListN.{length, getD}
 use Rattle.meaning.specs.declared.Refusal.the-variants.{NotGrammar}
 use Rattle.machine.specs.Machine.{Base, Mode, base, slash, line, block, star, Frame, Conf, at, lineEnd, starN, slashN, plainN, controlN}
 use Rattle.machine.specs.Machine as Machine
-use Rattle.reader.specs.Scanning.{Goes, Ends, Bare, Onward}
+use Rattle.items.specs.Places.{Onward}
+use Rattle.reader.specs.Scanning.{Goes, Ends, Bare}
 use Rattle.reader.specs.declared.layouts.Note.{Note}
 use Rattle.reader.specs.declared.layouts.Note.the-variants.{LineEnd, Star, Slash, Control, Plain}
 use Rattle.reader.specs.declared.layouts.Comment.{Comment}

@@ -2,12 +2,8 @@
 pub mod Scanning
 -- Layouts: what the readers of layout promise
 pub mod Layouts
--- Words: what the reader of a word promises
-pub mod Words
 -- Joins: what the readers of strings, binary and keys promise
 pub mod Joins
--- Binaries: what the readers inside a binary part promise
-pub mod Binaries
 -- Cursors: what the cursor's methods promise
 pub mod Cursors
 -- Answers: what `measure` and `read` promise

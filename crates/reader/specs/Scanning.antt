@@ -1,7 +1,7 @@
 -- The machine over a text from a place on: what the readers' promises compare. Assumes nothing.
 use mathlib.Core.Path.{_≡_}
 use mathlib.Core.List.{List}
-use Prim.Native.Nat.{ℕ, _≤_, _<_}
+use Prim.Native.Nat.{ℕ, _<_}
 use lib.ListN.{length, drop, getD}
 use Rattle.meaning.specs.declared.Refusal.{Refusal}
 use Rattle.machine.specs.Machine.{Frame, Conf, Bracket, classOf, blankC, hashC, slashC, closeC, closeWanted, odd, No, read}
@@ -19,11 +19,6 @@ pub record Bare (text : List ℕ) (p : ℕ) : Type 0 where
   pub no-blank : p < length text → classOf (getD text p 0) ≡ blankC → ⊥
   pub no-hash : p < length text → classOf (getD text p 0) ≡ hashC → ⊥
   pub no-slash : p < length text → classOf (getD text p 0) ≡ slashC → ⊥
-
--- from p on, and not past the text's end
-pub record Onward (text : List ℕ) (p q : ℕ) : Type 0 where
-  pub behind : p ≤ q
-  pub within : q ≤ length text
 
 -- a closing bracket at p, where a value or a key is wanted, closes nothing
 abbrev pub Shut : List ℕ → ℕ → ℕ → List Frame → Type 0

@@ -1,10 +1,8 @@
 // Reads a text into a tape and a store: `measure` says what it needs, `read` fills.
-mod binaries;
 mod cursor;
 mod joins;
 mod layouts;
 mod names;
-mod words;
 
 ghost use Prim.Native.Nat.{_≤_};
 ghost use lib.ListN.{length};

@@ -4,8 +4,8 @@ use mathlib.Core.Bool.{true, false}
 use Rattle.meaning.specs.Letters.{letters, ch}
 use Rattle.meaning.specs.Meaning.{Meaning}
 use Rattle.items.specs.Numerics.{Means}
-use Rattle.items.specs.declared.numerics.Item.{Item}
-use Rattle.reader.proofs.Heads.{of-word, at-word, of-numeric, null-bytes, true-bytes, false-bytes}
+use Rattle.items.specs.declared.Item.{Item}
+use Rattle.reader.proofs.Heads.{of-word, at-word, of-numeric}
 use borrow.Author.Needs.{needs}
 use Rattle.reader.proofs.cursor.scalar.Statement.{statement}
 use Rattle.reader.proofs.cursor.scalar.Tie as tie
@@ -53,7 +53,7 @@ spelt-requires : tie.Need-spelt-requires
 spelt-requires c κs = search needs
 
 returns-4 : tie.Need-returns-4
-returns-4 c = of-word (c .before .before .before .before .before .before .before .before .before .args .text .now) (c .before .before .before .before .before .before .before .before .before .args .at) (c .before .before .before .before .before .before .before .before .before .args .start) (c .before .before .before .before .before .before .before .before .before .args .store .now) (letters "null") (ch "n") (letters "ull") refl null-bytes Item.Null Meaning.null Means.null (at-word (c .before .before .before .before .before .before .before .before .before .args .text .now) (c .before .before .before .before .before .before .before .before .before .args .at) (c .before .before .before .before .before .before .before .before .before .args .start) (c .before .before .before .before .before .before .before .before .before .args .store .now) (c .before .before .before .before .before .before .before .before .before .pre .inside) (letters "null") Meaning.null (λ d k. rw (c .before .before .if4 .taken))) (c .spelt .result) (c .spelt .ensures)
+returns-4 c = of-word (c .before .before .before .before .before .before .before .before .before .args .text .now) (c .before .before .before .before .before .before .before .before .before .args .at) (c .before .before .before .before .before .before .before .before .before .args .start) (c .before .before .before .before .before .before .before .before .before .args .store .now) (letters "null") (ch "n") (letters "ull") refl Item.Null Meaning.null Means.null (at-word (c .before .before .before .before .before .before .before .before .before .args .text .now) (c .before .before .before .before .before .before .before .before .before .args .at) (c .before .before .before .before .before .before .before .before .before .args .start) (c .before .before .before .before .before .before .before .before .before .args .store .now) (c .before .before .before .before .before .before .before .before .before .pre .inside) (letters "null") Meaning.null (λ d k. rw (c .before .before .if4 .taken))) (c .spelt .result) (c .spelt .ensures)
 
 slice-aggregate-spelt-2 : tie.Need-slice-aggregate-spelt-2
 slice-aggregate-spelt-2 c = search needs
@@ -62,7 +62,7 @@ spelt-requires-2 : tie.Need-spelt-requires-2
 spelt-requires-2 c κs = search needs
 
 returns-5 : tie.Need-returns-5
-returns-5 c = of-word (c .before .before .before .before .before .before .before .before .before .before .args .text .now) (c .before .before .before .before .before .before .before .before .before .before .args .at) (c .before .before .before .before .before .before .before .before .before .before .args .start) (c .before .before .before .before .before .before .before .before .before .before .args .store .now) (letters "true") (ch "t") (letters "rue") refl true-bytes (Item.Bool true) (Meaning.bool true) Means.bool (at-word (c .before .before .before .before .before .before .before .before .before .before .args .text .now) (c .before .before .before .before .before .before .before .before .before .before .args .at) (c .before .before .before .before .before .before .before .before .before .before .args .start) (c .before .before .before .before .before .before .before .before .before .before .args .store .now) (c .before .before .before .before .before .before .before .before .before .before .pre .inside) (letters "true") (Meaning.bool true) (λ d k. rw (c .before .before .if5 .taken))) (c .spelt2 .result) (c .spelt2 .ensures)
+returns-5 c = of-word (c .before .before .before .before .before .before .before .before .before .before .args .text .now) (c .before .before .before .before .before .before .before .before .before .before .args .at) (c .before .before .before .before .before .before .before .before .before .before .args .start) (c .before .before .before .before .before .before .before .before .before .before .args .store .now) (letters "true") (ch "t") (letters "rue") refl (Item.Bool true) (Meaning.bool true) Means.bool (at-word (c .before .before .before .before .before .before .before .before .before .before .args .text .now) (c .before .before .before .before .before .before .before .before .before .before .args .at) (c .before .before .before .before .before .before .before .before .before .before .args .start) (c .before .before .before .before .before .before .before .before .before .before .args .store .now) (c .before .before .before .before .before .before .before .before .before .before .pre .inside) (letters "true") (Meaning.bool true) (λ d k. rw (c .before .before .if5 .taken))) (c .spelt2 .result) (c .spelt2 .ensures)
 
 slice-aggregate-spelt-3 : tie.Need-slice-aggregate-spelt-3
 slice-aggregate-spelt-3 c = search needs
@@ -71,7 +71,7 @@ spelt-requires-3 : tie.Need-spelt-requires-3
 spelt-requires-3 c κs = search needs
 
 returns-6 : tie.Need-returns-6
-returns-6 c = of-word (c .before .before .before .before .before .before .before .before .before .before .before .args .text .now) (c .before .before .before .before .before .before .before .before .before .before .before .args .at) (c .before .before .before .before .before .before .before .before .before .before .before .args .start) (c .before .before .before .before .before .before .before .before .before .before .before .args .store .now) (letters "false") (ch "f") (letters "alse") refl false-bytes (Item.Bool false) (Meaning.bool false) Means.bool (at-word (c .before .before .before .before .before .before .before .before .before .before .before .args .text .now) (c .before .before .before .before .before .before .before .before .before .before .before .args .at) (c .before .before .before .before .before .before .before .before .before .before .before .args .start) (c .before .before .before .before .before .before .before .before .before .before .before .args .store .now) (c .before .before .before .before .before .before .before .before .before .before .before .pre .inside) (letters "false") (Meaning.bool false) (λ d k. rw (c .before .before .if6 .taken))) (c .spelt3 .result) (c .spelt3 .ensures)
+returns-6 c = of-word (c .before .before .before .before .before .before .before .before .before .before .before .args .text .now) (c .before .before .before .before .before .before .before .before .before .before .before .args .at) (c .before .before .before .before .before .before .before .before .before .before .before .args .start) (c .before .before .before .before .before .before .before .before .before .before .before .args .store .now) (letters "false") (ch "f") (letters "alse") refl (Item.Bool false) (Meaning.bool false) Means.bool (at-word (c .before .before .before .before .before .before .before .before .before .before .before .args .text .now) (c .before .before .before .before .before .before .before .before .before .before .before .args .at) (c .before .before .before .before .before .before .before .before .before .before .before .args .start) (c .before .before .before .before .before .before .before .before .before .before .before .args .store .now) (c .before .before .before .before .before .before .before .before .before .before .before .pre .inside) (letters "false") (Meaning.bool false) (λ d k. rw (c .before .before .if6 .taken))) (c .spelt3 .result) (c .spelt3 .ensures)
 
 numeric-requires : tie.Need-numeric-requires
 numeric-requires c κs = search needs

@@ -4,7 +4,7 @@ use Rattle.reader.proofs.cursor.spelt.Statement.{statement}
 use Rattle.reader.proofs.cursor.spelt.Tie as tie
 use Rattle.reader.proofs.cursor.spelt.Reads as reads
 use Rattle.reader.proofs.cursor.spelt.Lts as lts
-use Rattle.reader.proofs.words.spell.Reads as spell-reads
+use Rattle.items.proofs.words.spell.Reads as spell-reads
 
 spell-requires : tie.Need-spell-requires
 spell-requires c κs = search needs
@@ -16,7 +16,7 @@ enum-known-end : tie.Need-enum-known-end
 enum-known-end c = search needs
 
 returns : tie.Need-returns
-returns c = (c .before .p .given .0 .0, rw (c .before .p .given .1) at (c .before .before .before .spell .ensures), refl)
+returns c = let w = rw (c .before .p .given .1) at (c .before .before .before .spell .ensures) in w .0
 
 returns-2 : tie.Need-returns-2
 returns-2 c = let w = rw (c .before .end .given .1) at (c .before .before .before .spell .ensures) in (w .0, w .1, refl)

@@ -3,7 +3,7 @@ use Rattle.reader.proofs.joins.binary_part.Statement.{statement}
 use Rattle.reader.proofs.joins.binary_part.Tie as tie
 use Rattle.reader.proofs.joins.binary_part.Reads as reads
 use Rattle.reader.proofs.joins.binary_part.Lts as lts
-use Rattle.reader.proofs.binaries.judge.Reads as judge-reads
+use Rattle.items.proofs.binaries.judge.Reads as judge-reads
 
 judge-requires : tie.Need-judge-requires
 judge-requires c κs = search needs

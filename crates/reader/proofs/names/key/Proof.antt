@@ -7,8 +7,8 @@ use Rattle.reader.proofs.names.key.Tie as tie
 use Rattle.reader.proofs.names.key.Reads as reads
 use Rattle.reader.proofs.names.key.Lts as lts
 use Rattle.reader.proofs.joins.string.Reads as string-reads
-use Rattle.reader.proofs.names.name_end.Reads as name-end-reads
-use Rattle.reader.proofs.names.sort_of.Reads as sort-of-reads
+use Rattle.items.proofs.names.name_end.Reads as name-end-reads
+use Rattle.items.proofs.names.sort_of.Reads as sort-of-reads
 use Rattle.items.proofs.stores.copy.Reads as copy-reads
 
 returns : tie.Need-returns

@@ -3,11 +3,10 @@ ghost use mathlib.Core.Path.{_≡_};
 ghost use Prim.Native.Nat.{_+_, _≤_, _<_};
 ghost use lib.ListN.{length, getD};
 ghost use Rattle.machine.specs.Strings.{noDigit};
 ghost use Rattle.items.specs.Places.{digitAt};
-ghost use Rattle.reader.specs.Joins.{PieceSays};
-ghost use Rattle.reader.specs.Binaries.{PairSays, OctetSays, PairsSays, TextSays};
-use items::hexes;
-use items::stores;
+ghost use Rattle.items.specs.Binaries.{PairSays, OctetSays, PairsSays, TextSays, PieceSays};
+use crate::hexes;
+use crate::stores;
 
 // What a part comes to: the place after it and how many bytes it means, or the byte that no rule allows.
 pub enum Piece {

@@ -1,12 +1,12 @@
 use native.Mathlib.Omega.{arith}
-use Rattle.reader.proofs.Dollars.{escape-over, escape-wrong, escape-short, escape-high, escape-low, escape-hex}
+use Rattle.items.proofs.BinariesLaws.{escape-over, escape-wrong, escape-short, escape-high, escape-low, escape-hex}
 use borrow.Author.Needs.{needs}
-use Rattle.reader.proofs.binaries.escaped.Statement.{statement}
-use Rattle.reader.proofs.binaries.escaped.Tie as tie
-use Rattle.reader.proofs.binaries.escaped.Reads as reads
-use Rattle.reader.proofs.binaries.escaped.Lts as lts
+use Rattle.items.proofs.binaries.escaped.Statement.{statement}
+use Rattle.items.proofs.binaries.escaped.Tie as tie
+use Rattle.items.proofs.binaries.escaped.Reads as reads
+use Rattle.items.proofs.binaries.escaped.Lts as lts
 use Rattle.items.proofs.hexes.digit.Reads as digit-reads
 use Rattle.items.proofs.hexes.short.Reads as short-reads
 
 returns : tie.Need-returns
 returns c = escape-over (c .before .before .args .text .now) (c .before .before .args .at) (c .if1 .taken)

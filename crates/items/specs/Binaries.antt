@@ -1,4 +1,4 @@
--- What the readers inside a binary part promise. Assumes nothing.
+-- What the functions that read a binary part promise, against the machine's scanner. Assumes nothing.
 use mathlib.Core.Path.{_≡_}
 use mathlib.Core.List.{List, [], _∷_, _++_}
 use Prim.Native.Nat.{ℕ, _+_, _≤_, _<_}
@@ -6,26 +6,22 @@ use lib.ListN.{length, getD, drop}
 use Rattle.meaning.specs.declared.Refusal.the-variants.{NotGrammar}
 use Rattle.machine.specs.Scan.{Ran, ended, broke, ran}
 use Rattle.machine.specs.Strings.{noDigit}
-use Rattle.machine.specs.Binaries.{St, low, pairs, text, esc, scan}
-use Rattle.items.specs.Places.{digitAt}
-use Rattle.reader.specs.Joins.{Meant}
-use Rattle.reader.specs.declared.binaries.Pair.{Pair}
-use Rattle.reader.specs.declared.binaries.Octet.{Octet}
-use Rattle.reader.specs.declared.binaries.Piece.{Piece}
-
--- the scanner comes from the state s at p to what it comes to from the state t at q
-abbrev pub Turns : List ℕ → St → ℕ → St → ℕ → Type 0
-Turns s c p d q = ran scan p c (drop p s) ≡ ran scan q d (drop q s)
+use Rattle.machine.specs.Binaries.{St, low, pairs, text, esc, begin, scan}
+use Rattle.items.specs.Places.{digitAt, Runs}
+use Rattle.items.specs.Pieces.{Meant, Ended}
+use Rattle.items.specs.declared.binaries.Pair.{Pair}
+use Rattle.items.specs.declared.binaries.Octet.{Octet}
+use Rattle.items.specs.declared.binaries.Piece.{Piece}
 
 -- after a pair
 abbrev pub PairSays : List ℕ → ℕ → Pair → Type 0
-PairSays s p (Pair.Digit q) = ((a : List ℕ) → Turns s (pairs a) p (low a (digitAt s q)) (q + 1)) × (q < length s) × (p ≤ q) × (digitAt s q < noDigit)
+PairSays s p (Pair.Digit q) = ((a : List ℕ) → Runs scan s (pairs a) p (low a (digitAt s q)) (q + 1)) × (q < length s) × (p ≤ q) × (digitAt s q < noDigit)
 PairSays s p (Pair.End q) = ((a : List ℕ) → ran scan p (pairs a) (drop p s) ≡ ended a q) × (q ≡ p)
 PairSays s p (Pair.Wrong q) = (a : List ℕ) → ran scan p (pairs a) (drop p s) ≡ broke (NotGrammar q)
 
 -- after a backslash
 pub record Escaped (s : List ℕ) (p q v : ℕ) : Type 0 where
-  pub turns : (c : ℕ) (a : List ℕ) → Turns s (esc c a) p (text c (a ++ (v ∷ []))) q
+  pub turns : (c : ℕ) (a : List ℕ) → Runs scan s (esc c a) p (text c (a ++ (v ∷ []))) q
   pub past : p < q
   pub within : q ≤ length s
 
@@ -51,3 +47,8 @@ PairsSays s p start entry exit r = StateSays s (low [] (digitAt s p)) p (p + 1) 
 -- after the opening quote
 abbrev pub TextSays : List ℕ → ℕ → ℕ → ℕ → List ℕ → List ℕ → Piece → Type 0
 TextSays s c p start entry exit r = StateSays s (text c []) p p start entry exit r
+
+-- a whole part
+abbrev pub PieceSays : List ℕ → ℕ → ℕ → List ℕ → List ℕ → Piece → Type 0
+PieceSays s p start entry exit (Piece.Closed q n) = Ended scan begin s p start entry exit q n
+PieceSays s p start entry exit (Piece.Wrong q) = ran scan p begin (drop p s) ≡ broke (NotGrammar q)

@@ -1,11 +1,11 @@
 use native.Mathlib.Omega.{arith}
-use Rattle.reader.proofs.Dollars.{pair-over, pair-dot, pair-wrong, pair-digit, pair-end}
+use Rattle.items.proofs.BinariesLaws.{pair-over, pair-dot, pair-wrong, pair-digit, pair-end}
 use borrow.Author.Needs.{needs}
-use Rattle.reader.proofs.binaries.after_pair.Statement.{statement}
-use Rattle.reader.proofs.binaries.after_pair.Tie as tie
-use Rattle.reader.proofs.binaries.after_pair.Reads as reads
-use Rattle.reader.proofs.binaries.after_pair.Lts as lts
+use Rattle.items.proofs.binaries.after_pair.Statement.{statement}
+use Rattle.items.proofs.binaries.after_pair.Tie as tie
+use Rattle.items.proofs.binaries.after_pair.Reads as reads
+use Rattle.items.proofs.binaries.after_pair.Lts as lts
 use Rattle.items.proofs.hexes.digit.Reads as digit-reads
 
 returns : tie.Need-returns
 returns c = pair-over (c .before .before .args .text .now) (c .before .before .args .at) (c .if1 .taken)

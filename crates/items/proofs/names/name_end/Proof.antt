@@ -2,12 +2,12 @@ use borrow.Author.Needs.{needs}
 use native.Mathlib.Omega.{arith}
 use Prim.Native.Nat.{_-_}
 use lib.ListN.{length}
-use Rattle.reader.proofs.Naming.{Naming, naming, name-letter, name-figure, name-stops, name-over}
-use Rattle.reader.proofs.names.name_end.Statement.{statement}
-use Rattle.reader.proofs.names.name_end.Tie as tie
-use Rattle.reader.proofs.names.name_end.Reads as reads
-use Rattle.reader.proofs.names.name_end.Lts as lts
-use Rattle.reader.proofs.names.sort_of.Reads as sort-of-reads
+use Rattle.items.proofs.NamesLaws.{Naming, naming, name-letter, name-figure, name-stops, name-over}
+use Rattle.items.proofs.names.name_end.Statement.{statement}
+use Rattle.items.proofs.names.name_end.Tie as tie
+use Rattle.items.proofs.names.name_end.Reads as reads
+use Rattle.items.proofs.names.name_end.Lts as lts
+use Rattle.items.proofs.names.sort_of.Reads as sort-of-reads
 
 abbrev Inv-loop : tie.InvT-loop
 Inv-loop text from at₀ at = Naming text from at

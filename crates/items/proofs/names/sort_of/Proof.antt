@@ -2,11 +2,11 @@ use native.Mathlib.Omega.{arith}
 use mathlib.Core.Path.{refl}
 use mathlib.Core.Logic.{inl, inr}
 use Rattle.machine.specs.Names.{rows, classOf, letter, figure, neither}
-use Rattle.reader.proofs.Classes.{cut-found}
-use Rattle.reader.proofs.names.sort_of.Statement.{statement}
-use Rattle.reader.proofs.names.sort_of.Tie as tie
-use Rattle.reader.proofs.names.sort_of.Reads as reads
-use Rattle.reader.proofs.names.sort_of.Lts as lts
+use Rattle.machine.proofs.Tables.{cut-found}
+use Rattle.items.proofs.names.sort_of.Statement.{statement}
+use Rattle.items.proofs.names.sort_of.Tie as tie
+use Rattle.items.proofs.names.sort_of.Reads as reads
+use Rattle.items.proofs.names.sort_of.Lts as lts
 
 returns : tie.Need-returns
 unfolding classOf

@@ -5,13 +5,13 @@ use mathlib.Core.List.{[]}
 use Prim.Native.Nat.{_-_, _+_, _*_, _<_, _≤_}
 use lib.ListN.{length, getD}
 use Rattle.machine.specs.Binaries.{text as textB}
-use Rattle.reader.proofs.Dollars.{Filling, filling, fill-more, fill-wrong, fill-closed, texting, text-over, text-escaped, text-unescaped, text-closes, text-low, text-high, text-plain}
-use Rattle.reader.proofs.binaries.quoted.Statement.{statement}
-use Rattle.reader.proofs.binaries.quoted.Tie as tie
-use Rattle.reader.proofs.binaries.quoted.Reads as reads
-use Rattle.reader.proofs.binaries.quoted.Lts as lts
-use Rattle.reader.proofs.binaries.escaped.Reads as escaped-reads
+use Rattle.items.proofs.BinariesLaws.{Filling, filling, fill-more, fill-wrong, fill-closed, texting, text-over, text-escaped, text-unescaped, text-closes, text-low, text-high, text-plain}
+use Rattle.items.proofs.binaries.quoted.Statement.{statement}
+use Rattle.items.proofs.binaries.quoted.Tie as tie
+use Rattle.items.proofs.binaries.quoted.Reads as reads
+use Rattle.items.proofs.binaries.quoted.Lts as lts
+use Rattle.items.proofs.binaries.escaped.Reads as escaped-reads
 use Rattle.items.proofs.stores.put_byte.Reads as put-byte-reads
 
 abbrev Inv-loop : tie.InvT-loop
 Inv-loop text from q store₀ start i₀ out₀ store i out = Filling text (textB q []) from (texting q) (λ j. j) from start store₀ store i out × (length store ≡ length store₀)

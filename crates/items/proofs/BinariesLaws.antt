@@ -14,15 +14,13 @@ use Rattle.meaning.specs.Letters.{ch}
 use Rattle.machine.specs.Scan.{Out, takes, stops, breaks, over, Ran, ended, broke, ran}
 use Rattle.machine.specs.Strings.{hexOf, noDigit, shortOf, noShort}
 use Rattle.machine.specs.Binaries.{St, start, dollar, text, esc, hex, hexLow, low, pairs, dot, done, begin, onDigit, onShort, onText, scan}
-use Rattle.items.specs.Places.{digitAt}
-use Rattle.items.proofs.PlacesLaws.{byte-in, byte-out}
-use Rattle.reader.specs.Joins.{Meant, PieceSays}
-use Rattle.reader.specs.Binaries.{Turns, PairSays, Escaped, OctetSays, Closing, StateSays, PairsSays, TextSays}
-use Rattle.reader.specs.declared.binaries.Pair.{Pair}
-use Rattle.reader.specs.declared.binaries.Octet.{Octet}
-use Rattle.reader.specs.declared.binaries.Piece.{Piece}
-use Rattle.reader.proofs.Scans.{run-take, run-stop, run-break, end-stop, end-break}
+use Rattle.items.specs.Places.{digitAt, Runs}
+use Rattle.items.specs.Binaries.{PairSays, Escaped, OctetSays, Closing, StateSays, PairsSays, TextSays, PieceSays}
+use Rattle.items.specs.declared.binaries.Pair.{Pair}
+use Rattle.items.specs.declared.binaries.Octet.{Octet}
+use Rattle.items.specs.declared.binaries.Piece.{Piece}
+use Rattle.items.proofs.PlacesLaws.{byte-in, byte-out, run-take, run-stop, run-break, end-stop, end-break}
 use Rattle.items.proofs.StoresLaws.{sets-app}
 
 -- ---- digits
 
@@ -42,7 +40,7 @@ module _ (s : List ℕ) (p : ℕ) where
       by (Dec.no g) = absurd (omega (arith, digit-none (omega arith)))
 
   module _ (c : St) (next : ℕ → St) (instead : Out St (List ℕ)) where
-    pub digit-goes : scan p c (getD s p 0) ≡ onDigit (hexOf (getD s p 0)) next instead → digitAt s p < noDigit → Turns s c p (next (digitAt s p)) (p + 1)
+    pub digit-goes : scan p c (getD s p 0) ≡ onDigit (hexOf (getD s p 0)) next instead → digitAt s p < noDigit → Runs scan s c p (next (digitAt s p)) (p + 1)
     unfolding onDigit
     digit-goes e h =
         let i = digit-in h in
@@ -69,7 +67,7 @@ module _ (s : List ℕ) (p : ℕ) where
   unfolding scan onDigit hexOf
   pair-over h = ((λ a. end-stop scan s p (pairs a) a h refl), refl)
 
-  dotted : p < length s → getD s p 0 ≡ ch "." → (a : List ℕ) → Turns s (pairs a) p (dot a) (p + 1)
+  dotted : p < length s → getD s p 0 ≡ ch "." → (a : List ℕ) → Runs scan s (pairs a) p (dot a) (p + 1)
   unfolding scan
   dotted h e a = run-take scan s p (pairs a) (dot a) h (rw e)
 
@@ -110,7 +108,7 @@ module _ (s : List ℕ) (p : ℕ) where
     }
 
     module _ (e : getD s p 0 ≡ ch "x") where
-      after-x : (c : ℕ) (a : List ℕ) → Turns s (esc c a) p (hex c a) (p + 1)
+      after-x : (c : ℕ) (a : List ℕ) → Runs scan s (esc c a) p (hex c a) (p + 1)
       unfolding scan
       after-x c a = run-take scan s p (esc c a) (hex c a) h (rw e)
 
@@ -119,7 +117,7 @@ module _ (s : List ℕ) (p : ℕ) where
       escape-high g = λ c a. after-x c a ∙ digit-breaks s (p + 1) (hex c a) (hexLow c a) (λ b. refl) g
 
       module _ (g : digitAt s (p + 1) < noDigit) where
-        after-high : (c : ℕ) (a : List ℕ) → Turns s (esc c a) p (hexLow c a (digitAt s (p + 1))) (p + 2)
+        after-high : (c : ℕ) (a : List ℕ) → Runs scan s (esc c a) p (hexLow c a (digitAt s (p + 1))) (p + 2)
         unfolding scan
         after-high c a = after-x c a ∙ digit-goes s (p + 1) (hex c a) (hexLow c a) (breaks (NotGrammar (p + 1))) refl g
             ∙ (let n : p + 1 + 1 ≡ p + 2 = omega arith in ap (λ (j : ℕ). ran scan j (hexLow c a (digitAt s (p + 1))) (drop j s)) n)
@@ -145,7 +143,7 @@ byte-more entry store u from out v e h = rw (sets-app, ← e, ← h)
 
 pub record Filling (s : List ℕ) (c : St) (p : ℕ) (state : List ℕ → ℕ → St) (place : ℕ → ℕ) (from first : ℕ) (entry store : List ℕ) (i out : ℕ) : Type 0 where
   pub u : List ℕ
-  pub turns : Turns s c p (state u i) (place i)
+  pub turns : Runs scan s c p (state u i) (place i)
   pub filled : store ≡ sets entry first u
   pub placed : out ≡ first + length u
   pub room : from + length u ≤ i
@@ -156,7 +154,7 @@ filling s state place p first entry h = record { u = []; turns = refl; filled = 
 
 module _ {s : List ℕ} {c : St} {p : ℕ} {state : List ℕ → ℕ → St} {place : ℕ → ℕ} {from first : ℕ} {entry store : List ℕ} {i out : ℕ} (v : Filling s c p state place from first entry store i out) where
   -- a byte b, over the text from i to j
-  pub fill-more : (b j : ℕ) → i < j → j ≤ length s → Turns s (state (v .u) i) (place i) (state (v .u ++ (b ∷ [])) j) (place j) → Filling s c p state place from first entry (set store out b) j (out + 1)
+  pub fill-more : (b j : ℕ) → i < j → j ≤ length s → Runs scan s (state (v .u) i) (place i) (state (v .u ++ (b ∷ [])) j) (place j) → Filling s c p state place from first entry (set store out b) j (out + 1)
   fill-more b j l h e = record {
     u = v .u ++ (b ∷ []);
     turns = v .turns ∙ e;
@@ -202,11 +200,11 @@ module _ (s : List ℕ) (q i : ℕ) (u : List ℕ) where
   text-over l h = end-break scan s i (text q u) (NotGrammar i) h (let n : eqb over q ≡ false = ne-eqb over q (omega arith) in rw n)
 
   module _ (h : i < length s) where
-    text-escape : getD s i 0 ≡ ch "\\" → Turns s (text q u) i (esc q u) (i + 1)
+    text-escape : getD s i 0 ≡ ch "\\" → Runs scan s (text q u) i (esc q u) (i + 1)
     unfolding scan onText
     text-escape e = run-take scan s i (text q u) (esc q u) h (rw e)
 
-    pub text-escaped : (j v : ℕ) → getD s i 0 ≡ ch "\\" → Escaped s (i + 1) j v → Turns s (text q u) i (text q (u ++ (v ∷ []))) j
+    pub text-escaped : (j v : ℕ) → getD s i 0 ≡ ch "\\" → Escaped s (i + 1) j v → Runs scan s (text q u) i (text q (u ++ (v ∷ []))) j
     text-escaped j v e w = text-escape e ∙ w .turns q u
 
     pub text-unescaped : (r : ℕ) → getD s i 0 ≡ ch "\\" → OctetSays s (i + 1) (Octet.Wrong r) → ran scan i (text q u) (drop i s) ≡ broke (NotGrammar r)
@@ -230,7 +228,7 @@ module _ (s : List ℕ) (q i : ℕ) (u : List ℕ) where
         unfolding scan onText
         text-high l = run-break scan s i (text q u) (NotGrammar i) h (let k : 0x20 ≤ getD s i 0 = omega arith in rw (ne-eqb _ _ n, ne-eqb _ _ m, le-ltb _ _ k, lt-leb _ _ l))
 
-        pub text-plain : 0x20 ≤ getD s i 0 → getD s i 0 ≤ 0x7E → Turns s (text q u) i (text q (u ++ (getD s i 0 ∷ []))) (i + 1)
+        pub text-plain : 0x20 ≤ getD s i 0 → getD s i 0 ≤ 0x7E → Runs scan s (text q u) i (text q (u ++ (getD s i 0 ∷ []))) (i + 1)
         unfolding scan onText
         text-plain k l = run-take scan s i (text q u) (text q (u ++ (getD s i 0 ∷ []))) h (rw (ne-eqb _ _ n, ne-eqb _ _ m, le-ltb _ _ k, le-leb _ _ l))
 
@@ -252,12 +250,12 @@ module _ (s : List ℕ) (i : ℕ) (u : List ℕ) where
   one-pair = u ++ ((16 * digitAt s i + digitAt s (i + 1)) ∷ [])
 
   module _ (g : digitAt s (i + 1) < noDigit) where
-    whole-pair : Turns s (pairing s u i) (i + 1) (pairs one-pair) (i + 2)
+    whole-pair : Runs scan s (pairing s u i) (i + 1) (pairs one-pair) (i + 2)
     unfolding scan
     whole-pair = digit-goes s (i + 1) (pairing s u i) (λ x. pairs (u ++ ((16 * digitAt s i + x) ∷ []))) (breaks (NotGrammar (i + 1))) refl g
         ∙ (let n : i + 1 + 1 ≡ i + 2 = omega arith in ap (λ (j : ℕ). ran scan j (pairs one-pair) (drop j s)) n)
 
-    pub pair-more : (j : ℕ) → PairSays s (i + 2) (Pair.Digit j) → Turns s (pairing s u i) (i + 1) (pairing s one-pair j) (j + 1)
+    pub pair-more : (j : ℕ) → PairSays s (i + 2) (Pair.Digit j) → Runs scan s (pairing s u i) (i + 1) (pairing s one-pair j) (j + 1)
     pair-more j w = whole-pair ∙ w .0 one-pair
 
     pub pair-wrongs : (j : ℕ) → PairSays s (i + 2) (Pair.Wrong j) → ran scan (i + 1) (pairing s u i) (drop (i + 1) s) ≡ broke (NotGrammar j)
@@ -279,7 +277,7 @@ module _ (s : List ℕ) (p first : ℕ) (entry : List ℕ) where
     part-none n = run-break scan s p begin (NotGrammar p) h (rw (ne-eqb _ _ n))
 
     module _ (e : getD s p 0 ≡ ch "$") where
-      opened : Turns s begin p dollar (p + 1)
+      opened : Runs scan s begin p dollar (p + 1)
       unfolding scan
       opened = run-take scan s p begin dollar h (rw e)
 
@@ -296,7 +294,7 @@ module _ (s : List ℕ) (p first : ℕ) (entry : List ℕ) where
       part-end g = empty (end-stop scan s (p + 1) dollar [] g refl)
 
       -- what a reader of the rest says, from the state c at i on
-      pub part-rest : (c : St) (from i : ℕ) → p < from → Turns s dollar (p + 1) c i → (exit : List ℕ) (r : Piece) → StateSays s c from i first entry exit r → PieceSays s p first entry exit r
+      pub part-rest : (c : St) (from i : ℕ) → p < from → Runs scan s dollar (p + 1) c i → (exit : List ℕ) (r : Piece) → StateSays s c from i first entry exit r → PieceSays s p first entry exit r
       part-rest c from i l t exit (Piece.Closed q n) w = record {
         u = w .u;
         runs = opened ∙ t ∙ w .runs;
@@ -306,16 +304,16 @@ module _ (s : List ℕ) (p first : ℕ) (entry : List ℕ) where
       part-rest c from i l t exit (Piece.Wrong q) w = opened ∙ t ∙ w
 
       module _ (g : p + 1 < length s) where
-        pub part-double : getD s (p + 1) 0 ≡ ch "\"" → Turns s dollar (p + 1) (text (ch "\"") []) (p + 1 + 1)
+        pub part-double : getD s (p + 1) 0 ≡ ch "\"" → Runs scan s dollar (p + 1) (text (ch "\"") []) (p + 1 + 1)
         unfolding scan
         part-double x = run-take scan s (p + 1) dollar (text (ch "\"") []) g (rw x)
 
-        pub part-single : getD s (p + 1) 0 ≡ ch "'" → Turns s dollar (p + 1) (text (ch "'") []) (p + 1 + 1)
+        pub part-single : getD s (p + 1) 0 ≡ ch "'" → Runs scan s dollar (p + 1) (text (ch "'") []) (p + 1 + 1)
         unfolding scan
         part-single x = run-take scan s (p + 1) dollar (text (ch "'") []) g (rw x)
 
         module _ (n : getD s (p + 1) 0 ≡ ch "\"" → ⊥) (m : getD s (p + 1) 0 ≡ ch "'" → ⊥) where
-          pub part-pairs : digitAt s (p + 1) < noDigit → Turns s dollar (p + 1) (low [] (digitAt s (p + 1))) (p + 1 + 1)
+          pub part-pairs : digitAt s (p + 1) < noDigit → Runs scan s dollar (p + 1) (low [] (digitAt s (p + 1))) (p + 1 + 1)
           unfolding scan
           part-pairs d = digit-goes s (p + 1) dollar (low []) (stops []) (rw (ne-eqb _ _ n, ne-eqb _ _ m)) d
 

@@ -7,10 +7,9 @@ use lib.ListN.{length, take, drop, getD, length-drop}
 use lib.Seq.{take-suc, getD-drop}
 use Rattle.machine.specs.Scan.{takes, ran}
 use Rattle.machine.specs.Names.{St, name, scan, onName, onStart, Class, classOf, letter, figure, neither}
-use Rattle.reader.specs.Scanning.{Onward}
-use Rattle.reader.specs.Joins.{NameEnds}
-use Rattle.reader.proofs.Runs.{here, further}
-use Rattle.reader.proofs.Scans.{run-take}
+use Rattle.items.specs.Places.{Onward}
+use Rattle.items.specs.Names.{NameEnds}
+use Rattle.items.proofs.PlacesLaws.{run-take, here, further}
 
 -- one byte more of the text
 pub take-more : (text : List ℕ) (p q : ℕ) → p ≤ q → q < length text → take (q + 1 - p) (drop p text) ≡ take (q - p) (drop p text) ++ (getD text q 0 ∷ [])

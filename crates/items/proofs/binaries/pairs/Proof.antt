@@ -6,15 +6,15 @@ use Prim.Native.Nat.{_-_, _+_, _*_, _<_, _≤_}
 use lib.ListN.{length}
 use Rattle.machine.specs.Strings.{noDigit}
 use Rattle.machine.specs.Binaries.{low}
 use Rattle.items.specs.Places.{digitAt}
-use Rattle.reader.proofs.Dollars.{Filling, filling, fill-more, fill-wrong, fill-last, pairing, next-place, pair-open, pair-more, pair-wrongs, pair-ends, digit-in}
-use Rattle.reader.proofs.binaries.pairs.Statement.{statement}
-use Rattle.reader.proofs.binaries.pairs.Tie as tie
-use Rattle.reader.proofs.binaries.pairs.Reads as reads
-use Rattle.reader.proofs.binaries.pairs.Lts as lts
-use Rattle.reader.proofs.binaries.after_pair.Reads as after-pair-reads
+use Rattle.items.proofs.BinariesLaws.{Filling, filling, fill-more, fill-wrong, fill-last, pairing, next-place, pair-open, pair-more, pair-wrongs, pair-ends, digit-in}
+use Rattle.items.proofs.binaries.pairs.Statement.{statement}
+use Rattle.items.proofs.binaries.pairs.Tie as tie
+use Rattle.items.proofs.binaries.pairs.Reads as reads
+use Rattle.items.proofs.binaries.pairs.Lts as lts
+use Rattle.items.proofs.binaries.after_pair.Reads as after-pair-reads
 use Rattle.items.proofs.hexes.digit.Reads as digit-reads
 use Rattle.items.proofs.stores.put_byte.Reads as put-byte-reads
 
 abbrev Inv-loop : tie.InvT-loop
 Inv-loop text from store₀ start i₀ out₀ store i out = (Filling text (low [] (digitAt text from)) (from + 1) (pairing text) next-place from start store₀ store i out × (digitAt text i < noDigit)) × (length store ≡ length store₀)

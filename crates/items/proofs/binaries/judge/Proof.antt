@@ -2,19 +2,19 @@ use native.Mathlib.Omega.{arith}
 use mathlib.Core.List.{[]}
 use Rattle.meaning.specs.Letters.{ch}
 use Rattle.machine.specs.Binaries.{text as textB, low}
 use Rattle.items.specs.Places.{digitAt}
-use Rattle.reader.proofs.Dollars.{digit-is, part-over, part-none, part-end, part-rest, part-double, part-single, part-pairs, part-bare}
+use Rattle.items.proofs.BinariesLaws.{digit-is, part-over, part-none, part-end, part-rest, part-double, part-single, part-pairs, part-bare}
 use Prim.Native.Nat.{_+_, _<_, _≤_}
 use mathlib.Core.Path.{sym, _≡_, _∙_}
 use Rattle.machine.specs.Strings.{noDigit}
 use borrow.Author.Needs.{needs}
-use Rattle.reader.proofs.binaries.judge.Statement.{statement}
-use Rattle.reader.proofs.binaries.judge.Tie as tie
-use Rattle.reader.proofs.binaries.judge.Reads as reads
-use Rattle.reader.proofs.binaries.judge.Lts as lts
-use Rattle.reader.proofs.binaries.pairs.Reads as pairs-reads
-use Rattle.reader.proofs.binaries.quoted.Reads as quoted-reads
+use Rattle.items.proofs.binaries.judge.Statement.{statement}
+use Rattle.items.proofs.binaries.judge.Tie as tie
+use Rattle.items.proofs.binaries.judge.Reads as reads
+use Rattle.items.proofs.binaries.judge.Lts as lts
+use Rattle.items.proofs.binaries.pairs.Reads as pairs-reads
+use Rattle.items.proofs.binaries.quoted.Reads as quoted-reads
 use Rattle.items.proofs.hexes.hex.Reads as hex-reads
 
 returns : tie.Need-returns
 returns c = part-over (c .before .before .before .args .text .now) (c .before .before .before .args .at) (c .before .before .before .args .start) (c .before .before .before .args .store .now) (c .if1 .taken)
