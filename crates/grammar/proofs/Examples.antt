@@ -1,8 +1,7 @@
--- The examples of documents 002 and 01 are derived. Assumes nothing.
+-- The examples (specs/Examples.antt) are derived. Assumes nothing.
 
 -- the texts with their meanings
 pub mod Texts
-
 use Prim.Native.Nat.{ℕ, zero, suc, _+_, _*_, _-_, _≤_, _<_, _^_, _%_}
 use mathlib.Core.Path.{_≡_, refl, sym, ap, _∙_, subst}
 use mathlib.Core.Bool.{Bool, true, false, cond}

@@ -14,7 +14,7 @@ pub mod Sizes
 pub mod Bytewise
 -- The canonical text of every good meaning is derived with that meaning.
 pub mod Canonical
--- The examples of documents 002 and 01 are derived.
+-- The examples (specs/Examples.antt) are derived.
 pub mod Examples
 -- A fault of 4 to 7 comes before any 3.
 pub mod Refused

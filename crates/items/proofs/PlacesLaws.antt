@@ -13,7 +13,7 @@ use native.Mathlib.Nat.{add-suc, add-zero, zero-add}
 use borrow.Author.Tests.{ltb-true, ltb-false}
 use Rattle.meaning.specs.declared.Refusal.{Refusal}
 use Rattle.machine.specs.Scan.{Out, takes, stops, breaks, over, Ran, ended, broke, unended, goesOn, ran}
-use Rattle.items.specs.Places.{byteAt, Onward, ranFrom, Goes, ranAt, Runs}
+use Rattle.items.specs.Between.Places.{byteAt, Onward, ranFrom, Goes, ranAt, Runs}
 
 pub byte-in : (s : List ℕ) (i : ℕ) → i < length s → byteAt s i ≡ getD s i 0
 byte-in [] i h = absurd (omega arith)

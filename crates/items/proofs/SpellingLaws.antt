@@ -11,9 +11,9 @@ use borrow.Author.Tests.{eq-eqb, ne-eqb}
 use Rattle.meaning.specs.declared.Refusal.the-variants.{NotGrammar}
 use Rattle.machine.specs.Scan.{over}
 use Rattle.machine.specs.Names.{wordScan}
-use Rattle.items.specs.declared.words.Word.{Word}
-use Rattle.items.specs.Places.{Runs}
-use Rattle.items.specs.Spelling.{WordSays}
+use Rattle.items.specs.declared.word.Word.{Word}
+use Rattle.items.specs.Between.Places.{Runs}
+use Rattle.items.specs.Between.Spelling.{WordSays}
 use Rattle.items.proofs.PlacesLaws.{byte-in, byte-out, runs-by, broken-by, ended-by}
 
 -- ---- words
@@ -33,12 +33,12 @@ module _ {s : List ℕ} {p : ℕ} {word : List ℕ} {i : ℕ} (t : Spelt s p wor
   spelt-whole h = (t .goes ∙ ended-by wordScan s (drop i word) tt (p + i) (rw (drop-of-length-le word {i = i} h)), t .within)
 
   module _ (l : i < length word) where
-    pub spelt-end : length s ≤ p + i → getD word i 0 < over → WordSays s p word (Word.Cut (p + i))
+    pub spelt-end : length s ≤ p + i → getD word i 0 < over → WordSays s p word (Word.NotGrammar (p + i))
     unfolding wordScan
     spelt-end h small = (t .goes ∙ broken-by wordScan s (drop i word) (NotGrammar (p + i)) (p + i) (let n : over ≡ getD word i 0 → ⊥ = λ e. omega arith in rw (byte-out s (p + i) h, drop-cons word i 0 l) (simp (ne-eqb _ _ n))), t .within)
 
     module _ (h : p + i < length s) where
-      pub spelt-cut : (getD s (p + i) 0 ≡ getD word i 0 → ⊥) → WordSays s p word (Word.Cut (p + i))
+      pub spelt-cut : (getD s (p + i) 0 ≡ getD word i 0 → ⊥) → WordSays s p word (Word.NotGrammar (p + i))
       unfolding wordScan
       spelt-cut n = (t .goes ∙ broken-by wordScan s (drop i word) (NotGrammar (p + i)) (p + i) (rw (byte-in s (p + i) h, drop-cons word i 0 l) (simp (ne-eqb _ _ n))), t .within)
 

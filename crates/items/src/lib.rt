@@ -1,13 +1,13 @@
 // The items of a text, each by itself: words, identifiers, parts of strings and of binary, numbers and times.
-pub mod binaries;
-pub mod hexes;
-pub mod names;
-pub mod numbers;
-pub mod numerics;
-pub mod parts;
-pub mod stores;
-pub mod times;
-pub mod words;
+pub mod binary_part;
+pub mod hex_digit;
+pub mod identifier;
+pub mod number;
+pub mod number_or_time;
+pub mod store;
+pub mod string_part;
+pub mod time_value;
+pub mod word;
 
 use meaning::Number;
 use meaning::Refusal;

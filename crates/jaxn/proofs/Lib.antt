@@ -1,3 +1,3 @@
--- Rewriting: a text read, and its tape and store written. Lines: the whole line, and that there is one
-pub mod Rewriting
+-- RewritesLaws: a text read, and its tape and store written. Lines: the whole line, and that there is one
+pub mod RewritesLaws
 pub mod Lines

@@ -21,11 +21,11 @@ use Rattle.machine.proofs.Refusals.Whole.{one-text-refusal, not-refused}
 use Rattle.writer.specs.declared.Written.{Written}
 use Rattle.writer.specs.declared.Written.the-variants.{Wrote, Refused}
 use Rattle.writer.specs.Paper.{writeSaid}
-use Rattle.writer.specs.Laid.{Put, PutAt}
-use Rattle.writer.proofs.Laid.{put-as, put-at-as, put-next, put-whole}
+use Rattle.writer.specs.Between.Laid.{Put, PutAt}
+use Rattle.writer.proofs.LaidLaws.{put-as, put-at-as, put-next, put-whole}
 use Rattle.jaxn.specs.declared.Input.{Input}
 use Rattle.jaxn.specs.Line.{room, refusedLine, Line, longer, no-text, tape-short, output-short, printed, Tells}
-use Rattle.jaxn.specs.Steps.{Within, bytes, failed, Rewrites, refusing, printing}
+use Rattle.jaxn.specs.Between.Steps.{Within, bytes, failed, Rewrites, refusing, printing}
 
 -- ---- what was read
 

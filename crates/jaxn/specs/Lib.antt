@@ -1,3 +1,4 @@
 -- What the program prints (Line), and what its parts do on the way (Steps)
 pub mod Line
-pub mod Steps
+-- Between: what functions promise each other
+pub mod Between

@@ -1,4 +1,4 @@
--- What the program prints for an input (document 01, "The calls"). Assumes nothing.
+-- What the program prints for an input (docs/FORMAT.md, 13.1). Assumes nothing.
 use mathlib.Core.Path.{_≡_}
 use mathlib.Core.Bool.{true}
 use mathlib.Core.List.{List, _++_}

@@ -3,14 +3,14 @@
 ghost use Prim.Native.Nat.{_≤_};
 ghost use mathlib.Core.Path.{_≡_};
 ghost use lib.ListN.{length};
-ghost use Rattle.writer.specs.Laid.{Put};
+ghost use Rattle.writer.specs.Between.Laid.{Put};
 ghost use Rattle.jaxn.specs.Line.{refusedLine, Tells};
-ghost use Rattle.jaxn.specs.Steps.{Within, Rewrites};
+ghost use Rattle.jaxn.specs.Between.Steps.{Within, Rewrites};
 use lanternrung::Answer;
 use lanternrung::Written;
 use libc::STDIN_FILENO;
 use libc::STDOUT_FILENO;
-use writer::digits;
+use writer::byte_or_digit;
 
 // The longest input, and what is lent for the tape, the store and the output.
 const ROOM: usize = 65536;
@@ -64,11 +64,11 @@ fn refused_line(out: &mut [u8], number: u64, place: u64) -> usize
     requires { ⌜ 53 ≤ length (now out) ⌝ }
     ensures { λ r. ⌜ Put (refusedLine number place) (now (out .entry)) (now (out .exit)) r ⌝ }
 {
-    let a = digits::bytes_at(out, 0, b"refused ");
-    let b = digits::decimal_at(out, a, number);
-    let c = digits::bytes_at(out, b, b" at ");
-    let d = digits::decimal_at(out, c, place);
-    digits::byte_at(out, d, b'\n')
+    let a = byte_or_digit::bytes_at(out, 0, b"refused ");
+    let b = byte_or_digit::decimal_at(out, a, number);
+    let c = byte_or_digit::bytes_at(out, b, b" at ");
+    let d = byte_or_digit::decimal_at(out, c, place);
+    byte_or_digit::byte_at(out, d, b'\n')
 }
 
 // All that is printed for an input, from the start of the output.
@@ -85,7 +85,7 @@ fn line(input: &[u8], out: &mut [u8]) -> usize
             let place = lanternrung::place(why);
             refused_line(out, number, place)
         }
-        Written::Wrote(size) => digits::byte_at(out, size, b'\n'),
+        Written::Wrote(size) => byte_or_digit::byte_at(out, size, b'\n'),
     }
 }
 

@@ -1,3 +1,3 @@
--- What C is handed: document 01's number and place for each answer, and the fields of a record.
+-- What C is handed: the number and place of each answer, and the fields of a record.
 pub mod Told
 pub mod Samples

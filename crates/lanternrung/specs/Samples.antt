@@ -1,4 +1,4 @@
--- Document 01's cases marked P, one list; its slips to rule out; and what it is for a case to hold. Assumes nothing.
+-- The cases marked P, one list; the slips to rule out (docs/FORMAT.md, 14); and what it is for a case to hold. Assumes nothing.
 use mathlib.Core.Path.{_≡_}
 use mathlib.Core.Bool.{true, false}
 use mathlib.Core.List.{List, [], _∷_, _++_}
@@ -24,7 +24,7 @@ pub data Outcome : Type 0 where
   -- refused, with this number and place
   refused : ℕ → ℕ → Outcome
 
--- ---- the cases marked P, in document 01's order
+-- ---- the cases marked P, in their order there
 
 -- U+1D11E
 abbrev pub clef : List ℕ

@@ -1,4 +1,4 @@
--- What the calls for C hand back (include/lanternrung.h): document 01's number and place for each answer, 0 and 0 where nothing is
+-- What the calls for C hand back (include/lanternrung.h): the number and place of each answer (docs/FORMAT.md, 10.1), 0 and 0 where nothing is
 -- refused; in a refusal all else is 0. Assumes nothing.
 use mathlib.Core.Path.{_≡_}
 use mathlib.Core.Bool.{Bool, true, false}

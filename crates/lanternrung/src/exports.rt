@@ -1,4 +1,4 @@
-// The calls for C and Rust (include/lanternrung.h). Each passes on the library's answer, as document 01's number and place.
+// The calls for C and Rust (include/lanternrung.h). Each passes on the library's answer, as its number and place (docs/FORMAT.md, 10.1).
 ghost use mathlib.Core.Path.{_≡_};
 ghost use Rattle.lanternrung.specs.Told.{sizesOf, textOf, flagOf, refusedFields, plainFields, numberFields, datedFields, timeFields, fieldsOf, Utf8Told, DateTold, MeasureTold, ReadTold, LookTold, JaxnTold, JsonTold};
 use crate::number;

@@ -1,5 +1,5 @@
 // The public calls under one roof, with the types of their answers. Each call stands, with its promise, in the crate that is named
-// here. A refusal's number and place in document 01's table are `number` and `place`; the same calls for C are in `exports`.
+// here. A refusal's number and place in the table of docs/FORMAT.md, 10, are `number` and `place`; the same calls for C are in `exports`.
 ghost use mathlib.Core.Path.{_≡_};
 ghost use Rattle.meaning.specs.Paper.{numberOf, placeOf};
 
@@ -26,7 +26,7 @@ pub use writer::write_json;
 // The longest text: the place of its refusal.
 const LONGEST: u64 = meaning::TEXT_LIMIT as u64;
 
-// A refusal's number in document 01's table.
+// A refusal's number in the table.
 pub fn number(why: Refusal) -> u32
     ensures { λ r. ⌜ r ≡ numberOf why ⌝ }
 {

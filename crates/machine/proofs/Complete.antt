@@ -25,7 +25,7 @@ use Rattle.machine.specs.Numeric
 use Rattle.machine.specs.Strings
 use Rattle.machine.specs.Binaries
 use Rattle.machine.specs.Names
-use Rattle.machine.proofs.Runs.{Ends, PartEnds, NoDigit, Halt, Goes, adv}
+use Rattle.machine.proofs.Runs.{EndsItem, PartEnds, NoDigit, Halt, Goes, adv}
 use Rattle.machine.proofs.Classes.{ClassIs, class-is}
 use Rattle.machine.proofs.Layouts.{adv-join, stepped, layout-run, line-run}
 use Rattle.machine.proofs.Numeric.{NumericItem, numeric-goes, numeric-begins}
@@ -108,10 +108,10 @@ module _ {F : ℕ → Type 0} (lays : (b : ℕ) → Lays b → F b) (no-digit : 
   layout-follows (Ws.line (C-line.c-line C-begin-line.slashes x) y w) r h = Follows.byte (lays _ Lays.slash) (λ e. absurd (omega arith))
   layout-follows (Ws.block (C-block.c-block x y) w) r h = Follows.byte (lays _ Lays.slash) (λ e. absurd (omega arith))
 
-lay-ends : (b : ℕ) → Lays b → Ends b
-lay-ends b (Lays.blank x) = Ends.blank x
-lay-ends b Lays.hash = Ends.hash
-lay-ends b Lays.slash = Ends.slash
+lay-ends : (b : ℕ) → Lays b → EndsItem b
+lay-ends b (Lays.blank x) = EndsItem.blank x
+lay-ends b Lays.hash = EndsItem.hash
+lay-ends b Lays.slash = EndsItem.slash
 
 lay-part-ends : (b : ℕ) → Lays b → PartEnds b
 lay-part-ends b x = PartEnds.ends (lay-ends b x)
@@ -128,21 +128,21 @@ blank-no-digit Blank.tab = lower (ch "\t") (omega arith)
 blank-no-digit Blank.line-feed = lower (ch "\n") (omega arith)
 blank-no-digit Blank.carriage-return = lower (ch "\r") (omega arith)
 
-ends-no-digit : (b : ℕ) → Ends b → NoDigit b
-ends-no-digit b (Ends.blank x) = blank-no-digit x
-ends-no-digit b Ends.hash = lower b (omega arith)
-ends-no-digit b Ends.slash = lower b (omega arith)
-ends-no-digit b Ends.comma = lower b (omega arith)
-ends-no-digit b Ends.bracket = higher b (omega arith)
-ends-no-digit b Ends.brace = higher b (omega arith)
-ends-no-digit b Ends.end = higher b (omega arith)
+ends-no-digit : (b : ℕ) → EndsItem b → NoDigit b
+ends-no-digit b (EndsItem.blank x) = blank-no-digit x
+ends-no-digit b EndsItem.hash = lower b (omega arith)
+ends-no-digit b EndsItem.slash = lower b (omega arith)
+ends-no-digit b EndsItem.comma = lower b (omega arith)
+ends-no-digit b EndsItem.bracket = higher b (omega arith)
+ends-no-digit b EndsItem.brace = higher b (omega arith)
+ends-no-digit b EndsItem.end = higher b (omega arith)
 
 pub part-no-digit : (b : ℕ) → PartEnds b → NoDigit b
 part-no-digit b (PartEnds.ends x) = ends-no-digit b x
 part-no-digit b PartEnds.plus = lower b (omega arith)
 part-no-digit b PartEnds.colon = higher b (omega arith)
 
-pub after-layout : {w : List ℕ} → Ws w → (r : List ℕ) → Follows Ends r → Follows Ends (w ++ r)
+pub after-layout : {w : List ℕ} → Ws w → (r : List ℕ) → Follows EndsItem r → Follows EndsItem (w ++ r)
 after-layout w r h = layout-follows lay-ends ends-no-digit w r h
 
 pub part-after-layout : {w : List ℕ} → Ws w → (r : List ℕ) → Follows PartEnds r → Follows PartEnds (w ++ r)
@@ -254,7 +254,7 @@ valued (Meaning.array x) = refl
 valued (Meaning.object x) = refl
 
 abbrev pub ValueRun : ℕ → List ℕ → Meaning → Type 0
-ValueRun d a m = (p : ℕ) (k : List Frame) (r : List ℕ) → Follows Ends r → read p (at (base want) d k) (a ++ r) ≡ read (adv p a) (at (base (got (gotOf m))) d k) r
+ValueRun d a m = (p : ℕ) (k : List Frame) (r : List ℕ) → Follows EndsItem r → read p (at (base want) d k) (a ++ r) ≡ read (adv p a) (at (base (got (gotOf m))) d k) r
 
 abbrev pub StartsNumeric : ℕ → Type 0
 StartsNumeric b = (p d : ℕ) (k : List Frame) → Machine.onBase p d k b want ≡ Machine.start p d k b (Machine.numeric Numeric.begin)
@@ -292,18 +292,18 @@ lead-starts N.Lead.point = λ p d k. refl
 lead-starts N.Lead.n-letter = λ p d k. refl
 lead-starts N.Lead.i-letter = λ p d k. refl
 
-numeric-run : {a : List ℕ} {m : Meaning} → NumericItem true a m → (p d : ℕ) (k : List Frame) (r : List ℕ) → Follows Ends r → read p (at (base want) d k) (a ++ r) ≡ read (adv p a) (at (base (got (Got.value m))) d k) r
+numeric-run : {a : List ℕ} {m : Meaning} → NumericItem true a m → (p d : ℕ) (k : List Frame) (r : List ℕ) → Follows EndsItem r → read p (at (base want) d k) (a ++ r) ≡ read (adv p a) (at (base (got (Got.value m))) d k) r
 numeric-run {a} {m} x p d k r h = go a (numeric-begins x) (numeric-goes x p)
   where
-    from : (b : ℕ) (t : List ℕ) → StartsNumeric b → Goes Numeric.scan Ends p Numeric.begin (b ∷ t) m → read p (at (base want) d k) ((b ∷ t) ++ r) ≡ read (adv p (b ∷ t)) (at (base (got (Got.value m))) d k) r
+    from : (b : ℕ) (t : List ℕ) → StartsNumeric b → Goes Numeric.scan EndsItem p Numeric.begin (b ∷ t) m → read p (at (base want) d k) ((b ∷ t) ++ r) ≡ read (adv p (b ∷ t)) (at (base (got (Got.value m))) d k) r
     from b t y w =
         begun p d k want b (t ++ r) _ (y p d k)
         ∙ item-run Numeric.scan Machine.numeric Got.value (λ p s b. refl) w d k r h
 
-    go : (c : List ℕ) → N.Begins c → Goes Numeric.scan Ends p Numeric.begin c m → read p (at (base want) d k) (c ++ r) ≡ read (adv p c) (at (base (got (Got.value m))) d k) r
+    go : (c : List ℕ) → N.Begins c → Goes Numeric.scan EndsItem p Numeric.begin c m → read p (at (base want) d k) (c ++ r) ≡ read (adv p c) (at (base (got (Got.value m))) d k) r
     go c (N.Begins.begins {b = b} {a = t} y) w = from b t (lead-starts y) w
 
-pub word-run : (b : ℕ) (t : List ℕ) (m : Meaning) → ((p d : ℕ) (k : List Frame) → Machine.onBase p d k b want ≡ Machine.start p d k b (Machine.word (b ∷ t) m)) → (p d : ℕ) (k : List Frame) (r : List ℕ) → Follows Ends r → read p (at (base want) d k) ((b ∷ t) ++ r) ≡ read (adv p (b ∷ t)) (at (base (got (Got.value m))) d k) r
+pub word-run : (b : ℕ) (t : List ℕ) (m : Meaning) → ((p d : ℕ) (k : List Frame) → Machine.onBase p d k b want ≡ Machine.start p d k b (Machine.word (b ∷ t) m)) → (p d : ℕ) (k : List Frame) (r : List ℕ) → Follows EndsItem r → read p (at (base want) d k) ((b ∷ t) ++ r) ≡ read (adv p (b ∷ t)) (at (base (got (Got.value m))) d k) r
 word-run b t m e p d k r h =
     begun p d k want b (t ++ r) _ (e p d k)
     ∙ item-run Names.wordScan (λ x. Machine.word x m) (λ x. Got.value m) (λ p s b. refl) (word-goes (b ∷ t) p) d k r h
@@ -366,9 +366,9 @@ pub comma-after : {f : Frame} {m : Meaning} {y : Inside} → Adds f m y → (p d
 comma-after {m = m} Adds.element p d k = rw (valued m)
 comma-after {m = m} Adds.member p d k = rw (valued m)
 
-pub closes-end : {x : Inside} {b : ℕ} → Closes x b → Ends b × (b ≡ ch " " → ⊥)
-closes-end Closes.bracket = (Ends.bracket, λ e. omega arith)
-closes-end Closes.brace = (Ends.brace, λ e. omega arith)
+pub closes-end : {x : Inside} {b : ℕ} → Closes x b → EndsItem b × (b ≡ ch " " → ⊥)
+closes-end Closes.bracket = (EndsItem.bracket, λ e. omega arith)
+closes-end Closes.brace = (EndsItem.brace, λ e. omega arith)
 
 -- ---- the productions
 
@@ -377,14 +377,14 @@ RestRun d x a y = (p : ℕ) (k : List Frame) (r : List ℕ) → read p (at (base
 
 abbrev AfterRun : ℕ → Inside → List ℕ → Inside → Type 0
 AfterRun d y a z =
-    ((r : List ℕ) → Follows Ends (a ++ r))
+    ((r : List ℕ) → Follows EndsItem (a ++ r))
     × ((f : Frame) (m : Meaning) → Adds f m y → (p : ℕ) (k : List Frame) (r : List ℕ) → read p (at (base (got (gotOf m))) d (f ∷ k)) (a ++ r) ≡ read (adv p a) (at (base (got (Got.value (shut z)))) (suc d) k) r)
 
 record ItemRun (d : ℕ) (x : Inside) (a : List ℕ) (y : Inside) : Type 0 where
   frame : Frame
   last : Meaning
   adds : Adds frame last y
-  runs : (p : ℕ) (k : List Frame) (r : List ℕ) → Follows Ends r → read p (at (base (wanted x)) d (inside x ∷ k)) (a ++ r) ≡ read (adv p a) (at (base (got (gotOf last))) d (frame ∷ k)) r
+  runs : (p : ℕ) (k : List Frame) (r : List ℕ) → Follows EndsItem r → read p (at (base (wanted x)) d (inside x ∷ k)) (a ++ r) ≡ read (adv p a) (at (base (got (gotOf last))) d (frame ∷ k)) r
 
 close-run : (d b : ℕ) (x : Inside) (w : List ℕ) → Ws w → Closes x b → RestRun d x (w ++ (b ∷ [])) x
 close-run d b x w y c p k r =
@@ -406,7 +406,7 @@ end-run d b x w y c = (
 
 comma-run : (d : ℕ) (x y : Inside) (w a : List ℕ) → Ws w → RestRun d x a y → AfterRun d x (w ++ (ch "," ∷ a)) y
 comma-run d x y w a l t = (
-  (λ r. rw append-assoc (after-layout l (ch "," ∷ (a ++ r)) (one-more (a ++ r) Ends.comma (λ e. omega arith)))),
+  (λ r. rw append-assoc (after-layout l (ch "," ∷ (a ++ r)) (one-more (a ++ r) EndsItem.comma (λ e. omega arith)))),
   λ f m g p k r. simp (append-assoc, adv-join) (layout-run l (got (gotOf m)) p d (f ∷ k) (ch "," ∷ (a ++ r)) ∙ stepped _ _ _ _ _ (comma-after g (adv p w) d k) (t (suc (adv p w)) k r)),
 )
 
@@ -462,10 +462,10 @@ value-run x = elim x as (λ d a m _. ValueRun d a m) (λ d x a y _. RestRun d x 
 
 -- ---- the whole text
 
-pub last-follows : {a : List ℕ} → Last a → Follows Ends a
-last-follows {a} (Last.ended w) = rw (← append-nil a) (after-layout w [] (Follows.nothing Ends.end))
-last-follows (Last.unended {a = a} {c = c} w (C-line.c-line C-begin-line.hash x)) = after-layout w c (one-more _ Ends.hash (λ e. omega arith))
-last-follows (Last.unended {a = a} {c = c} w (C-line.c-line C-begin-line.slashes x)) = after-layout w c (one-more _ Ends.slash (λ e. omega arith))
+pub last-follows : {a : List ℕ} → Last a → Follows EndsItem a
+last-follows {a} (Last.ended w) = rw (← append-nil a) (after-layout w [] (Follows.nothing EndsItem.end))
+last-follows (Last.unended {a = a} {c = c} w (C-line.c-line C-begin-line.hash x)) = after-layout w c (one-more _ EndsItem.hash (λ e. omega arith))
+last-follows (Last.unended {a = a} {c = c} w (C-line.c-line C-begin-line.slashes x)) = after-layout w c (one-more _ EndsItem.slash (λ e. omega arith))
 
 last-run : {a : List ℕ} → Last a → (p d : ℕ) (m : Meaning) → read p (at (base (got (gotOf m))) d []) a ≡ Ok m
 unfolding read

@@ -59,27 +59,27 @@ module _ {S M : Type 0} (run : ℕ → S → ℕ → Out S M) (f : S → Machine
   stop-byte p s b d k t x e = at-byte p s b d k t (stops x) e
 
   module _ (d : ℕ) (k : List Frame) where
-    abbrev Ends : ℕ → S → List ℕ → M → ℕ → Type 0
-    Ends p s t v q = Goes-on (at (item (f s)) d k) p t (at (base (got (g v))) d k) q
+    abbrev ItemEnds : ℕ → S → List ℕ → M → ℕ → Type 0
+    ItemEnds p s t v q = Goes-on (at (item (f s)) d k) p t (at (base (got (g v))) d k) q
 
-    stopped : (p : ℕ) (s : S) (t : List ℕ) (x v : M) (q : ℕ) → _≡_ {A = Ran M} (ended x p) (ended v q) → read p (at (item (f s)) d k) t ≡ read p (at (base (got (g x))) d k) t → Ends p s t v q
+    stopped : (p : ℕ) (s : S) (t : List ℕ) (x v : M) (q : ℕ) → _≡_ {A = Ran M} (ended x p) (ended v q) → read p (at (item (f s)) d k) t ≡ read p (at (base (got (g x))) d k) t → ItemEnds p s t v q
     stopped p s t x v q e h =
         let a : x ≡ v = cc in
         let b : p ≡ q = cc in
-        subst₂ (λ (y : M) (n : ℕ). Ends p s t y n) a b (here (at (item (f s)) d k) (at (base (got (g x))) d k) p t h)
+        subst₂ (λ (y : M) (n : ℕ). ItemEnds p s t y n) a b (here (at (item (f s)) d k) (at (base (got (g x))) d k) p t h)
 
     -- where the item ends, the machine goes on with what it gives
-    pub item-ends : (t : List ℕ) (p : ℕ) (s : S) (v : M) (q : ℕ) → ran run p s t ≡ ended v q → Ends p s t v q
+    pub item-ends : (t : List ℕ) (p : ℕ) (s : S) (v : M) (q : ℕ) → ran run p s t ≡ ended v q → ItemEnds p s t v q
     unfolding ran
     item-ends [] p s v q e = go (run p s over) refl e
       where
-        go : (o : Out S M) → run p s over ≡ o → goesOn run p (λ s'. unended) o ≡ ended v q → Ends p s [] v q
+        go : (o : Out S M) → run p s over ≡ o → goesOn run p (λ s'. unended) o ≡ ended v q → ItemEnds p s [] v q
         go (takes s') w h = absurd (let z : _≡_ {A = ℕ} 0 1 = cc in omega arith)
         go (stops x) w h = stopped p s [] x v q h (stop-end p s d k x w)
         go (breaks r) w h = absurd (let z : _≡_ {A = ℕ} 0 1 = cc in omega arith)
     item-ends (b ∷ t) p s v q e = go (λ s'. item-ends t (suc p) s' v q) (run p s b) refl e
       where
-        go : ((s' : S) → ran run (suc p) s' t ≡ ended v q → Ends (suc p) s' t v q) → (o : Out S M) → run p s b ≡ o → goesOn run p (λ s'. ran run (suc p) s' t) o ≡ ended v q → Ends p s (b ∷ t) v q
+        go : ((s' : S) → ran run (suc p) s' t ≡ ended v q → ItemEnds (suc p) s' t v q) → (o : Out S M) → run p s b ≡ o → goesOn run p (λ s'. ran run (suc p) s' t) o ≡ ended v q → ItemEnds p s (b ∷ t) v q
         go ih (takes s') w h = later _ (at (item (f s')) d k) _ p b t q (on p s b d k (takes s') w) (ih s' h)
         go ih (stops x) w h = stopped p s (b ∷ t) x v q h (stop-byte p s b d k t x w)
         go ih (breaks r) w h = absurd (let z : _≡_ {A = ℕ} 0 1 = cc in omega arith)

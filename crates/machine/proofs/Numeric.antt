@@ -4,7 +4,7 @@ use mathlib.Core.Bool.{Bool, true}
 use mathlib.Core.List.{List}
 use Rattle.meaning.specs.Meaning.{Meaning}
 use Rattle.machine.specs.Numeric.{begin, scan}
-use Rattle.machine.proofs.Runs.{Ends, Goes}
+use Rattle.machine.proofs.Runs.{EndsItem, Goes}
 -- what a row of its tables knows
 pub mod Rows
 -- the check of a number
@@ -31,7 +31,7 @@ unfoldable pub use Places.{firstOf}
 pub use Places.{Blame, first-begin, numeric-first, numeric-place}
 
 -- complete: every number and every time value is taken, and ends with its meaning before every byte that may follow it
-pub numeric-goes : {a : List ℕ} {m : Meaning} → NumericItem true a m → (p : ℕ) → Goes scan Ends p begin a m
+pub numeric-goes : {a : List ℕ} {m : Meaning} → NumericItem true a m → (p : ℕ) → Goes scan EndsItem p begin a m
 numeric-goes (NumericItem.number n) p = Complete.number-goes n p
 numeric-goes (NumericItem.time-value t) p = CompleteTime.time-goes t p
 

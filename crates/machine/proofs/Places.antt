@@ -12,7 +12,7 @@ use Rattle.rules.specs.Rfc3629.{Judged}
 use Rattle.rules.proofs.Outcomes.{utf8-fault}
 use Rattle.rules.specs.declared.Utf8Answer.{Utf8Answer}
 use Rattle.rules.specs.declared.Utf8Answer.the-variants.{Done, IllFormed}
-use Rattle.rules.specs.Decided.{judged}
+use Rattle.rules.specs.Between.Decided.{judged}
 use Rattle.rules.proofs.Decided.{judged-is}
 use Rattle.meaning.specs.Letters.{letters, ch}
 use Rattle.meaning.specs.Limits.{depthLimit, textLimit}

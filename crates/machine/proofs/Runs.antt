@@ -8,18 +8,18 @@ use Rattle.grammar.specs.Comments.{Blank}
 use Rattle.machine.specs.Scan.{Out, takes, stops, breaks, over}
 
 -- a byte that may come after a number, a time value or a word: layout, a comma, a closing bracket, the text's end
-pub data Ends : ℕ → Type 0 where
-  blank : {b : ℕ} → Blank b → Ends b
-  hash : Ends (ch "#")
-  slash : Ends (ch "/")
-  comma : Ends (ch ",")
-  bracket : Ends (ch "]")
-  brace : Ends (ch "}")
-  end : Ends over
+pub data EndsItem : ℕ → Type 0 where
+  blank : {b : ℕ} → Blank b → EndsItem b
+  hash : EndsItem (ch "#")
+  slash : EndsItem (ch "/")
+  comma : EndsItem (ch ",")
+  bracket : EndsItem (ch "]")
+  brace : EndsItem (ch "}")
+  end : EndsItem over
 
 -- after a string part or a binary part also a plus, after a key a colon
 pub data PartEnds : ℕ → Type 0 where
-  ends : {b : ℕ} → Ends b → PartEnds b
+  ends : {b : ℕ} → EndsItem b → PartEnds b
   plus : PartEnds (ch "+")
   colon : PartEnds (ch ":")
 

@@ -1,14 +1,14 @@
--- Vectors, computed by the checker: texts with their refusal (document 01's number and place) or the canonical text of their meaning.
+-- Vectors, computed by the checker: texts with their refusal (number and place) or the canonical text of their meaning.
 -- Assumes nothing.
 use Prim.Native.Nat.{ℕ}
 use Prim.Native.String.{String}
 use mathlib.Core.Path.{_≡_, refl}
 use mathlib.Core.List.{List, [], _∷_}
 use lib.Count.{leadingZeros}
-use Rattle.rules.specs.Posts.{lowOf, highOf}
+use Rattle.rules.specs.Between.Posts.{lowOf, highOf}
 use Rattle.rules.specs.Rfc3629.{encode}
-use Rattle.rules.specs.Decided.{isWide, lengthAt, faultFrom, judged}
-use Rattle.rules.specs.Decided.{isLeap, isDate}
+use Rattle.rules.specs.Between.Decided.{isWide, lengthAt, faultFrom, judged}
+use Rattle.rules.specs.Between.Decided.{isLeap, isDate}
 use Rattle.meaning.specs.Letters.{letters}
 use Rattle.meaning.specs.Limits.{depthLimit}
 use Rattle.meaning.specs.Paper.{numberOf, placeOf}
@@ -39,7 +39,7 @@ text t o = record { got = seen (verdict (letters t)); want = wanted o }
 
 unfoldable pub vectors : List (Vector (List ℕ))
 vectors =
-    -- document 01's sample record and its cases marked P
+    -- the sample record and the cases marked P (docs/FORMAT.md, 14)
     text "{ run: 0x1F, # melt\n  eta: NaN, at: 2021-03-04 05:06:07.50Z, t: [.5, 1250.5,], }" (means "{\"run\":31,\"eta\":NaN,\"at\":2021-03-04T05:06:07.5Z,\"t\":[5e-1,12505e-1]}")
     ∷ text "" (refused 3 0)
     ∷ text "[,]" (refused 3 1)
@@ -68,7 +68,7 @@ vectors =
     ∷ text "[[[[[[[[[[[[[[[[[[[[[[[[[[[[[[[[[[[[[[[[[[[[[[[[[[[[[[[[[[[[[[[[]]]]]]]]]]]]]]]]]]]]]]]]]]]]]]]]]]]]]]]]]]]]]]]]]]]]]]]]]]]]]]]]" (means "[[[[[[[[[[[[[[[[[[[[[[[[[[[[[[[[[[[[[[[[[[[[[[[[[[[[[[[[[[[[[[[[]]]]]]]]]]]]]]]]]]]]]]]]]]]]]]]]]]]]]]]]]]]]]]]]]]]]]]]]]]]]]]]]")
     ∷ text "[[[[[[[[[[[[[[[[[[[[[[[[[[[[[[[[[[[[[[[[[[[[[[[[[[[[[[[[[[[[[[[[[" (refused 7 64)
     ∷ text "[{a:[{a:[{a:[{a:[{a:[{a:[{a:[{a:[{a:[{a:[{a:[{a:[{a:[{a:[{a:[{a:[{a:[{a:[{a:[{a:[{a:[{a:[{a:[{a:[{a:[{a:[{a:[{a:[{a:[{a:[{a:[{a:[" (refused 7 128)
-    -- the readings of the documents' open points, in their order
+    -- the points about texts that docs/FORMAT.md marks as decided
     -- 1. 3 to 7 "from left to right" means in reading order of items, not by smallest place.
     ∷ text "[24:00:00.]" (refused 3 10)
     ∷ text "24:00:00x" (refused 5 0)

@@ -1,11 +1,11 @@
--- The scanner of a number or a time value (document 002, "Numbers" and "Date / Time"). Digits with no sign stay open as number and as
+-- The scanner of a number or a time value (docs/FORMAT.md, 5 and 6). Digits with no sign stay open as number and as
 -- time while both are possible; a date goes on with a time after T, or after one space followed by a digit. Assumes nothing.
 use Prim.Native.Nat.{ℕ, zero, suc, _+_, _*_, _-_, _/_, _%_, _^_}
 use mathlib.Core.Bool.{Bool, true, false, cond, _&&_}
 use mathlib.Core.List.{List, [], _∷_}
 use lib.Dec.{ltb, leb, eqb}
 use lib.IntN.{ℤ, pos, negsuc}
-use Rattle.rules.specs.Decided.{isDate}
+use Rattle.rules.specs.Between.Decided.{isDate}
 use Rattle.meaning.specs.declared.Number.{Number}
 use Rattle.meaning.specs.declared.Number.the-variants.{Finite, NotANumber, Infinite}
 use Rattle.meaning.specs.declared.Date.{Date}

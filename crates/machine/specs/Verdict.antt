@@ -6,7 +6,7 @@ use lib.Dec.{leb}
 use lib.ListN.{length}
 use Rattle.rules.specs.declared.Utf8Answer.{Utf8Answer}
 use Rattle.rules.specs.declared.Utf8Answer.the-variants.{Done, IllFormed}
-use Rattle.rules.specs.Decided.{judged}
+use Rattle.rules.specs.Between.Decided.{judged}
 use Rattle.meaning.specs.Limits.{textLimit}
 use Rattle.meaning.specs.declared.Refusal.the-variants.{TextTooLong, NotUtf8}
 use Rattle.machine.specs.Machine.{Verdict, No, reading}

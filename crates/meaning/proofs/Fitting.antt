@@ -19,7 +19,7 @@ use Rattle.meaning.specs.Limits.{coefficientLimit, powerLimit, recordLim
 use Rattle.meaning.specs.Meaning.{Meaning, Meanings, Members, null, bool, number, string, binary, time, array, object, none, more, bare, member}
 use Rattle.meaning.specs.Good.{GoodFinite, nought, nonzero, GoodNumber, GoodDate, GoodTime, Bytes, GoodParts, GoodElements, GoodMembers}
 use Rattle.meaning.specs.Tape.{records, elementsRecords, membersRecords, storeOf, elementsStore, membersStore, recordsOf, elementsOf, membersOf}
-use Rattle.meaning.specs.Words.{FitDate, Fit}
+use Rattle.meaning.specs.Between.Words.{FitDate, Fit}
 use Rattle.meaning.proofs.Bytes.{bytes-append}
 use Rattle.meaning.proofs.Records.{Fits, fits-append}
 

@@ -19,7 +19,7 @@ use Rattle.meaning.specs.Letters.{letters}
 use Rattle.meaning.specs.Good.{Bytes}
 use Rattle.meaning.specs.Bytes.{le, get, flag}
 use Rattle.meaning.specs.Tape.{recordBytes, recordsBytes}
-use Rattle.meaning.specs.Words.{mark, markOf, lowOf, monthDay, midOf, highOf, fourWords, FitDate, Fit}
+use Rattle.meaning.specs.Between.Words.{mark, markOf, lowOf, monthDay, midOf, highOf, fourWords, FitDate, Fit}
 use Rattle.meaning.proofs.Bytes.{bytes-append, le-length, le-join, get-le, get-at, le-drop}
 
 -- ---- sixteen bytes

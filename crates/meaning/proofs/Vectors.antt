@@ -1,4 +1,4 @@
--- Vectors, computed by the checker: document 01's sample, each mark of the table, and the signs. Assumes nothing.
+-- Vectors, computed by the checker: the sample record (docs/FORMAT.md, 14), each mark of the table, and the signs. Assumes nothing.
 use mathlib.Core.Path.{_≡_, refl}
 use mathlib.Core.Bool.{true, false}
 use mathlib.Core.List.{List, [], _∷_}

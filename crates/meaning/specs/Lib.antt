@@ -8,5 +8,6 @@ pub mod Tape
 pub mod Canonical
 pub mod Json
 pub mod Paper
-pub mod Words
 pub mod Look
+-- Between: what functions promise each other
+pub mod Between

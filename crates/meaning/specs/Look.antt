@@ -1,13 +1,17 @@
 -- What one record must be by itself (docs/FORMAT.md, 11.4). Assumes nothing.
 use mathlib.Core.Path.{_≡_}
 use mathlib.Core.List.{List}
-use Prim.Native.Nat.{ℕ, _+_, _*_, _/_, _≤_, _<_}
+use Prim.Native.Nat.{ℕ, _+_, _*_, _/_, _≤_, _<_, _^_}
+use mir.Syntax.{w16, w32}
+use mir.Val.{SFits}
 use lib.ListN.{length, take, drop}
 use Rattle.rules.specs.Rfc3629.{Octets}
+use Rattle.meaning.specs.declared.Number.the-variants.{Finite, NotANumber, Infinite}
+use Rattle.meaning.specs.declared.Date.{Date}
+use Rattle.meaning.specs.declared.Time.the-variants.{LocalDate, LocalTime, LocalDateTime, OffsetDateTime}
 use Rattle.meaning.specs.declared.Record.{Record}
 use Rattle.meaning.specs.Good.{GoodNumber, GoodTime}
 use Rattle.meaning.specs.Tape.{recordBytes}
-use Rattle.meaning.specs.Words.{Fit}
 
 -- its bytes lie inside the store
 abbrev pub Inside : ℕ → ℕ → List ℕ → Type 0
@@ -36,6 +40,26 @@ OwnFields (Record.Object end) index whole store = Ends end index whole
 -- the number of whole records
 abbrev pub wholeRecords : List ℕ → ℕ
 wholeRecords tape = length tape / 16
+
+-- the fields fit their places
+abbrev pub FitDate : Date → Type 0
+FitDate d = (d .year < 2 ^ 16) × (d .month < 2 ^ 8) × (d .day < 2 ^ 8)
+
+abbrev pub Fit : Record → Type 0
+Fit Record.Null = Unit {0}
+Fit (Record.Bool b) = Unit {0}
+Fit (Record.Number (Finite minus coefficient power)) = (coefficient < 2 ^ 64) × SFits w32 power
+Fit (Record.Number NotANumber) = Unit {0}
+Fit (Record.Number (Infinite minus)) = Unit {0}
+Fit (Record.Str size start) = (size < 2 ^ 32) × (start < 2 ^ 64)
+Fit (Record.Key size start) = (size < 2 ^ 32) × (start < 2 ^ 64)
+Fit (Record.Bin size start) = (size < 2 ^ 32) × (start < 2 ^ 64)
+Fit (Record.Time (LocalDate d)) = FitDate d
+Fit (Record.Time (LocalTime t)) = t < 2 ^ 64
+Fit (Record.Time (LocalDateTime d t)) = FitDate d × (t < 2 ^ 64)
+Fit (Record.Time (OffsetDateTime d t offset)) = FitDate d × (t < 2 ^ 64) × SFits w16 offset
+Fit (Record.Array end) = end < 2 ^ 64
+Fit (Record.Object end) = end < 2 ^ 64
 
 -- The record r at this index: the sixteen bytes are its mark and fields, with unnamed bytes zero; each field fits its
 -- place, and is as it must be.

@@ -58,7 +58,7 @@ pub enum Time {
     OffsetDateTime(Date, u64, i16),
 }
 
-// Document 01's refusals, each with what its place is made of.
+// The refusals (docs/FORMAT.md, 10.1), each with what its place is made of.
 pub enum Refusal {
     TextTooLong,
     NotUtf8(usize),

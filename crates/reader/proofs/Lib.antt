@@ -1,22 +1,22 @@
--- Runs: the machine over a text, a byte at a time
-pub mod Runs
--- Classes: what a byte's class says of it
-pub mod Classes
--- Blanked: layout
-pub mod Blanked
--- Scans: a scanner, lifted to the machine
-pub mod Scans
--- Joints: parts joined by a plus
-pub mod Joints
--- Keys: where a key is wanted
-pub mod Keys
--- Heads: where a value is wanted
-pub mod Heads
--- Rounds: a turn of the loops over elements and members
-pub mod Rounds
+-- ScanningLaws: the machine over a text, a byte at a time
+pub mod ScanningLaws
+-- ScanningClassLaws: what a byte's class says of it
+pub mod ScanningClassLaws
+-- LayoutLaws: layout
+pub mod LayoutLaws
+-- ScanningItemLaws: a scanner, lifted to the machine
+pub mod ScanningItemLaws
+-- JoinedLaws: parts joined by a plus
+pub mod JoinedLaws
+-- KeyLaws: where a key is wanted
+pub mod KeyLaws
+-- CursorHeadLaws: where a value is wanted
+pub mod CursorHeadLaws
+-- CursorLoopLaws: a round of the loops over elements and members
+pub mod CursorLoopLaws
 -- Claims: what the promises come to, in terms of the grammar
 pub mod Claims
--- Containers: brackets, commas and colons
-pub mod Containers
--- Walks: one walk over a text, and what `measure` and `read` make of it
-pub mod Walks
+-- CursorBracketLaws: brackets, commas and colons
+pub mod CursorBracketLaws
+-- AnswersLaws: one walk over a text, and what `measure` and `read` make of it
+pub mod AnswersLaws

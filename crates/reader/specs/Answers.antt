@@ -1,4 +1,4 @@
--- What `measure` and `read` promise (document 01, "The calls"), by the grammar alone. Assumes nothing.
+-- What `measure` and `read` promise (docs/FORMAT.md, 13), by the grammar alone. Assumes nothing.
 use mathlib.Core.Path.{_≡_}
 use mathlib.Core.Bool.{true}
 use mathlib.Core.List.{List}
@@ -14,7 +14,7 @@ use Rattle.grammar.specs.Values.{Text}
 use Rattle.grammar.specs.Refused.{Text-refused}
 use Rattle.reader.specs.declared.Answer.{Answer}
 
--- in document 01's terms: the number of records and of store bytes, or a refusal
+-- in the terms of docs/FORMAT.md, 10.1: the number of records and of store bytes, or a refusal
 abbrev pub answerSaid : Answer → Said (ℕ × ℕ)
 answerSaid (Answer.Counts recordCount byteCount) = done (recordCount, byteCount)
 answerSaid (Answer.Refused why) = refusalSaid why

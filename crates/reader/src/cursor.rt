@@ -4,18 +4,18 @@ ghost use Prim.Native.Nat.{suc, _+_, _≤_, _<_};
 ghost use lib.ListN.{length, getD};
 ghost use Rattle.meaning.specs.Letters.{ch};
 ghost use Rattle.machine.specs.Machine.{square, curly};
-ghost use Rattle.reader.specs.Scanning.{Bare, Shut};
-ghost use Rattle.reader.specs.Cursors.{Ready, AtMember, AtValue, Inner, HeadSays, OpenSays, AfterSays, ColonSays, MemberSays, Says, wants, bareIn, always, recordItem, itemBytes, SpeltSays, Quoted, AtScalar, ScalarSays};
-use crate::joins;
-use crate::joins::Bytes;
-use crate::layouts;
-use crate::layouts::Layout;
-use crate::names;
+ghost use Rattle.reader.specs.Between.Scanning.{Bare, Shut};
+ghost use Rattle.reader.specs.Between.Cursor.{Ready, AtMember, AtValue, Inner, HeadSays, AheadSays, AfterSays, ColonSays, MemberSays, Says, wants, bareIn, always, recordItem, itemBytes, SpeltSays, Quoted, AtScalar, ScalarSays};
+use crate::joined;
+use crate::joined::Bytes;
+use crate::key;
+use crate::layout;
+use crate::layout::Layout;
 use items::Item;
 use items::Scanned;
-use items::numerics;
-use items::words;
-use items::words::Word;
+use items::number_or_time;
+use items::word;
+use items::word::Word;
 use meaning::Record;
 use meaning::Refusal;
 use tape::put_record;
@@ -43,7 +43,7 @@ pub enum Head {
 }
 
 // In a container, where an element or a member may stand.
-pub enum Open {
+pub enum Ahead {
     Close(Cursor),
     More(Cursor),
     Refused(Refusal),
@@ -86,8 +86,8 @@ fn spelt(text: &[u8], at: usize, letters: &[u8], item: Item) -> Scanned
     requires { ⌜ at ≤ length (now text) ⌝ }
     ensures { λ r. ⌜ SpeltSays (now (text .entry)) at (now (letters .entry)) item r ⌝ }
 {
-    match words::spell(text, at, letters) {
-        Word::Cut(p) => Scanned::Refused(Refusal::NotGrammar(p)),
+    match word::spell(text, at, letters) {
+        Word::NotGrammar(p) => Scanned::Refused(Refusal::NotGrammar(p)),
         Word::Whole(end) => Scanned::Item(item, end),
     }
 }
@@ -97,9 +97,9 @@ fn string(text: &[u8], at: usize, store: &mut [u8], start: usize) -> Scanned
     requires { ⌜ Quoted (now text) at × (start ≤ at) ⌝ }
     ensures { λ r. ⌜ ScalarSays (now (text .entry)) at start (now (store .entry)) (now (store .exit)) r ⌝ }
 {
-    match joins::string(text, at, store, start) {
+    match joined::string(text, at, store, start) {
         Bytes::Refused(why) => Scanned::Refused(why),
-        Bytes::Whole(end, n) => Scanned::Item(Item::Str(n), end),
+        Bytes::Whole { end, bytes: n } => Scanned::Item(Item::Str(n), end),
     }
 }
 
@@ -108,9 +108,9 @@ fn binary(text: &[u8], at: usize, store: &mut [u8], start: usize) -> Scanned
     requires { ⌜ (at < length (now text)) × (getD (now text) at 0 ≡ ch "$") × (start ≤ at) ⌝ }
     ensures { λ r. ⌜ ScalarSays (now (text .entry)) at start (now (store .entry)) (now (store .exit)) r ⌝ }
 {
-    match joins::binary(text, at, store, start) {
+    match joined::binary(text, at, store, start) {
         Bytes::Refused(why) => Scanned::Refused(why),
-        Bytes::Whole(end, n) => Scanned::Item(Item::Bin(n), end),
+        Bytes::Whole { end, bytes: n } => Scanned::Item(Item::Bin(n), end),
     }
 }
 
@@ -138,7 +138,7 @@ fn scalar(text: &[u8], at: usize, store: &mut [u8], start: usize) -> Scanned
     if b == b'f' {
         return spelt(text, at, b"false", Item::Bool(false));
     }
-    numerics::numeric(text, at)
+    number_or_time::numeric(text, at)
 }
 
 // How many store bytes an item has.
@@ -194,24 +194,24 @@ impl Cursor {
     }
 
     // In a container that this byte closes: its end, or where an element or a member begins.
-    fn open(self, text: &[u8], closing: u8) -> Open
+    fn ahead(self, text: &[u8], closing: u8) -> Ahead
         requires { ⌜ Ready (now text) self ⌝ }
-        ensures { λ r. ⌜ OpenSays (now (text .entry)) self closing r ⌝ }
+        ensures { λ r. ⌜ AheadSays (now (text .entry)) self closing r ⌝ }
     {
-        match layouts::pass(text, self.at) {
-            Layout::Broken(p) => Open::Refused(Refusal::NotGrammar(p)),
+        match layout::pass(text, self.at) {
+            Layout::NotGrammar(p) => Ahead::Refused(Refusal::NotGrammar(p)),
             Layout::Ended(at) => {
                 if at >= text.len() {
-                    return Open::Refused(Refusal::NotGrammar(at));
+                    return Ahead::Refused(Refusal::NotGrammar(at));
                 }
                 if text[at] == closing {
-                    return Open::Close(Cursor {
+                    return Ahead::Close(Cursor {
                         at: at + 1,
                         records: self.records,
                         stored: self.stored,
                     });
                 }
-                Open::More(Cursor {
+                Ahead::More(Cursor {
                     at: at,
                     records: self.records,
                     stored: self.stored,
@@ -225,8 +225,8 @@ impl Cursor {
         requires { ⌜ Ready (now text) self ⌝ }
         ensures { λ r. ⌜ AfterSays (now (text .entry)) self closing r ⌝ }
     {
-        match layouts::pass(text, self.at) {
-            Layout::Broken(p) => After::Refused(Refusal::NotGrammar(p)),
+        match layout::pass(text, self.at) {
+            Layout::NotGrammar(p) => After::Refused(Refusal::NotGrammar(p)),
             Layout::Ended(at) => {
                 if at >= text.len() {
                     return After::Refused(Refusal::NotGrammar(at));
@@ -256,8 +256,8 @@ impl Cursor {
         requires { ⌜ self .at ≤ length (now text) ⌝ }
         ensures { λ r. ⌜ ColonSays (now (text .entry)) self n r ⌝ }
     {
-        match layouts::pass(text, self.at) {
-            Layout::Broken(p) => Member::Refused(Refusal::NotGrammar(p)),
+        match layout::pass(text, self.at) {
+            Layout::NotGrammar(p) => Member::Refused(Refusal::NotGrammar(p)),
             Layout::Ended(at) => {
                 if at >= text.len() {
                     return Member::Refused(Refusal::NotGrammar(at));
@@ -265,8 +265,8 @@ impl Cursor {
                 if text[at] != b':' {
                     return Member::Refused(Refusal::NotGrammar(at));
                 }
-                match layouts::pass(text, at + 1) {
-                    Layout::Broken(p) => Member::Refused(Refusal::NotGrammar(p)),
+                match layout::pass(text, at + 1) {
+                    Layout::NotGrammar(p) => Member::Refused(Refusal::NotGrammar(p)),
                     Layout::Ended(next) => Member::Key(
                         n,
                         Cursor {
@@ -285,9 +285,9 @@ impl Cursor {
         requires { ⌜ AtMember (now text) self ⌝ }
         ensures { λ r. ⌜ MemberSays (now (text .entry)) self (now (store .entry)) (now (store .exit)) r ⌝ }
     {
-        match names::key(text, self.at, store, self.stored) {
+        match key::key(text, self.at, store, self.stored) {
             Bytes::Refused(why) => Member::Refused(why),
-            Bytes::Whole(end, n) => (Cursor {
+            Bytes::Whole { end, bytes: n } => (Cursor {
                 at: end,
                 records: self.records + 1,
                 stored: self.stored + n,
@@ -335,8 +335,8 @@ impl Cursor {
                 at: at,
                 records: records,
                 stored: stored,
-            }).open(text, b']') {
-                Open::Refused(why) => {
+            }).ahead(text, b']') {
+                Ahead::Refused(why) => {
                     return Step::Refused(
                         Cursor {
                             at: at,
@@ -346,11 +346,11 @@ impl Cursor {
                         why,
                     );
                 }
-                Open::Close(next) => {
+                Ahead::Close(next) => {
                     put_record(tape, own, Record::Array { end: next.records });
                     return Step::Value(next);
                 }
-                Open::More(first) => match first.value(text, depth, tape, store) {
+                Ahead::More(first) => match first.value(text, depth, tape, store) {
                     Step::Refused(_, why) => {
                         return Step::Refused(first, why);
                     }
@@ -387,8 +387,8 @@ impl Cursor {
                 at: at,
                 records: records,
                 stored: stored,
-            }).open(text, b'}') {
-                Open::Refused(why) => {
+            }).ahead(text, b'}') {
+                Ahead::Refused(why) => {
                     return Step::Refused(
                         Cursor {
                             at: at,
@@ -398,11 +398,11 @@ impl Cursor {
                         why,
                     );
                 }
-                Open::Close(next) => {
+                Ahead::Close(next) => {
                     put_record(tape, own, Record::Object { end: next.records });
                     return Step::Value(next);
                 }
-                Open::More(first) => match first.member(text, store) {
+                Ahead::More(first) => match first.member(text, store) {
                     Member::Refused(why) => {
                         return Step::Refused(first, why);
                     }

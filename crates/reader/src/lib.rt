@@ -1,17 +1,17 @@
 // Reads a text into a tape and a store: `measure` says what it needs, `read` fills.
 mod cursor;
-mod joins;
-mod layouts;
-mod names;
+mod joined;
+mod key;
+mod layout;
 
 ghost use Prim.Native.Nat.{_≤_};
 ghost use lib.ListN.{length};
 ghost use Rattle.meaning.specs.Limits.{textLimit};
 ghost use Rattle.reader.specs.Answers.{Measures, Reads};
-ghost use Rattle.reader.specs.Walk.{WalkSays};
+ghost use Rattle.reader.specs.Between.Walk.{WalkSays};
 use cursor::Cursor;
 use cursor::Step;
-use layouts::Layout;
+use layout::Layout;
 use meaning::DEPTH_LIMIT;
 use meaning::RECORD_SIZE;
 use meaning::Refusal;
@@ -29,16 +29,16 @@ fn walk(text: &[u8], tape: &mut [u8], store: &mut [u8]) -> Answer
     requires { ⌜ length (now text) ≤ textLimit ⌝ }
     ensures { λ a. ⌜ WalkSays (now (text .entry)) (now (tape .entry)) (now (tape .exit)) (now (store .entry)) (now (store .exit)) a ⌝ }
 {
-    match layouts::pass(text, 0) {
-        Layout::Broken(p) => Answer::Refused(Refusal::NotGrammar(p)),
+    match layout::pass(text, 0) {
+        Layout::NotGrammar(p) => Answer::Refused(Refusal::NotGrammar(p)),
         Layout::Ended(first) => match (Cursor {
             at: first,
             records: 0,
             stored: 0,
         }).value(text, DEPTH_LIMIT, tape, store) {
             Step::Refused(_, why) => Answer::Refused(why),
-            Step::Value(next) => match layouts::pass(text, next.at) {
-                Layout::Broken(p) => Answer::Refused(Refusal::NotGrammar(p)),
+            Step::Value(next) => match layout::pass(text, next.at) {
+                Layout::NotGrammar(p) => Answer::Refused(Refusal::NotGrammar(p)),
                 Layout::Ended(end) => {
                     if end < text.len() {
                         return Answer::Refused(Refusal::NotGrammar(end));

@@ -10,8 +10,8 @@ use lib.Dec.{eqb, leb, ltb}
 use lib.ListN.{length, getD}
 use borrow.Author.Tests.{eqb-true, eqb-false, leb-true, leb-false, ltb-true, ltb-false, le-leb, lt-ltb, le-ltb}
 use Rattle.rules.specs.Rfc3629.{Octets, Judged, done}
-use Rattle.rules.specs.Posts.{Passed, CharAt, lowOf, highOf}
-use Rattle.rules.specs.Decided.{ones, conj, bounds, isWide, lengthAt, faultFrom, judged}
+use Rattle.rules.specs.Between.Posts.{Passed, CharAt, lowOf, highOf}
+use Rattle.rules.specs.Between.Decided.{ones, conj, bounds, isWide, lengthAt, faultFrom, judged}
 use Rattle.rules.specs.declared.Utf8Answer.{Utf8Answer}
 use Rattle.rules.specs.declared.Utf8Answer.the-variants.{Done, IllFormed}
 use Rattle.rules.proofs.Places.{step1, down⁻, Wide, no-char, ascii-char, back2, back3, back4}

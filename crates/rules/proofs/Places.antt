@@ -12,8 +12,8 @@ use lib.ListN.{length, getD, take, drop, length-append, length-drop}
 use lib.Seq.{getD-drop, drop-cons}
 use borrow.Author.Tests.{ne-eqb, le-leb, lt-leb, leb-true, leb-false}
 use Rattle.rules.specs.Rfc3629.{In, Tail, Char, utf8-1, utf8-2, utf8-3a, utf8-3b, utf8-3c, utf8-3d, utf8-4a, utf8-4b, utf8-4c, NoChar}
-use Rattle.rules.specs.Decided.{ones}
-use Rattle.rules.specs.Posts.{CharAt, char, gap, lowOf, highOf}
+use Rattle.rules.specs.Between.Decided.{ones}
+use Rattle.rules.specs.Between.Posts.{CharAt, char, gap, lowOf, highOf}
 use Rattle.rules.proofs.Computed.{every, below, agree, agreed}
 use Rattle.rules.proofs.Characters.{short}
 

@@ -11,7 +11,7 @@ use lib.ListN.{length, getD, take, drop, take-append-drop, length-drop}
 use lib.Seq.{take-suc, take-add, take-length, length-take-le}
 use Rattle.rules.specs.Rfc3629.{In, Char, utf8-1, NoChar, Octets, none, more, Fault, Judged, done, ill}
 use Rattle.rules.specs.declared.Utf8Answer.the-variants.{Done, IllFormed}
-use Rattle.rules.specs.Posts.{AtMost, Ascii, Passed, CharAt, char, gap}
+use Rattle.rules.specs.Between.Posts.{AtMost, Ascii, Passed, CharAt, char, gap}
 use Rattle.rules.proofs.Characters.{join, one}
 
 pub at-most-none : (s : List ℕ) (at r : ℕ) → AtMost s at 0 r

@@ -3,13 +3,9 @@
 pub mod Rfc3629
 -- Rfc3339: leap years, the days of a month, which three numbers are a date.
 pub mod Rfc3339
--- Paper: document 01's number and place for each answer.
+-- Paper: the number and place of each answer.
 pub mod Paper
 -- Told: what the calls for C hand over.
 pub mod Told
--- Posts: what the functions below the two public calls promise.
-pub mod Posts
--- Beside: what a byte may be beside the three before it, for the functions over blocks.
-pub mod Beside
--- Decided: the first fault, and a date, as functions that compute.
-pub mod Decided
+-- Between: what functions promise each other
+pub mod Between

@@ -5,8 +5,8 @@ use crate::octets;
 ghost use mathlib.Core.Path.{_≡_};
 ghost use Prim.Native.Nat.{_+_, _-_, _≤_, _<_};
 ghost use lib.ListN.{length};
-ghost use Rattle.rules.specs.Posts.{Passed};
-ghost use Rattle.rules.specs.Beside.{Greater, IsTail, Wanted, Barred, Beside, Clean, Open, BlockIs, Begun};
+ghost use Rattle.rules.specs.Between.Posts.{Passed};
+ghost use Rattle.rules.specs.Between.Beside.{Greater, IsTail, Wanted, Barred, Beside, Clean, Open, BlockIs, Begun};
 
 // What a block is beside the three bytes before it.
 enum Block {

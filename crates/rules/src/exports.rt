@@ -3,7 +3,7 @@ use crate::DateAnswer;
 use crate::Utf8Answer;
 ghost use Rattle.rules.specs.Told.{Utf8Told, DateTold};
 
-// A refusal's number in document 01, 0 where there is none, and its place.
+// A refusal's number (docs/FORMAT.md, 10.1), 0 where there is none, and its place.
 #[repr(C)]
 pub struct Status {
     pub refused: u32,

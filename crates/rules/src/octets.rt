@@ -2,7 +2,7 @@
 ghost use mathlib.Core.Path.{_≡_};
 ghost use Prim.Native.Nat.{_+_, _≤_, _<_};
 ghost use lib.ListN.{length};
-ghost use Rattle.rules.specs.Posts.{AtMost, Ascii, CharAt, lowOf, highOf};
+ghost use Rattle.rules.specs.Between.Posts.{AtMost, Ascii, CharAt, lowOf, highOf};
 
 // The greatest of the 32 bytes at `at`. There is no early exit, so that it is compiled to vector instructions.
 pub(crate) fn greatest(s: &[u8], at: usize) -> u8

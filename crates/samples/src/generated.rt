@@ -2,13 +2,13 @@
 use crate::calls;
 use crate::showing;
 use crate::spelling;
-use items::stores;
+use items::store;
 
 // The bytes from a place on, and the place after them.
 fn put(out: &mut [u8; 4096], at: usize, s: &[u8]) -> usize {
     if at <= 1024 {
         if s.len() <= 64 {
-            stores::copy(s, 0, s.len(), out, at);
+            store::copy(s, 0, s.len(), out, at);
             return at + s.len();
         }
     }

@@ -1,28 +1,28 @@
 -- Two's complement.
-pub mod Signs
+pub mod LittleEndianSignLaws
 -- What a test promises, used and made.
-pub mod Deciding
+pub mod FieldsLaws
 -- The rules of a record's own fields, as their tests say them.
-pub mod Ranges
+pub mod FieldsRangeLaws
 -- Put: where there is room, and where there is none; one piece after the other.
-pub mod Puts
+pub mod PuttingLaws
 -- Numbers in bytes, as the code puts and gets them.
-pub mod Little
+pub mod LittleEndianLaws
 -- A record's four numbers: they make its bytes, and they are of no other record.
-pub mod Wording
+pub mod ShapesLaws
 -- The record at an index, by its four numbers.
-pub mod Looks
+pub mod LookingLaws
 -- What the record at an index does to the judge, by its four numbers.
-pub mod Stepping
+pub mod TurnsLaws
 -- A machine that reads records.
-pub mod Machine
+pub mod JudgingMachineLaws
 -- It takes the records of every meaning that is not too deep.
-pub mod Full
+pub mod JudgingCompleteLaws
 -- What it says yes to are the records of a meaning.
-pub mod Sound
+pub mod JudgingSoundLaws
 -- Well formed is what it says yes to, where each record stands by itself.
-pub mod Whole
+pub mod JudgingWholeLaws
 -- The code's numbers and the machine's states.
-pub mod Link
+pub mod JudgingStateLaws
 -- Two outcomes that a promise allows are equal; and what the calls answer of each other.
 pub mod Outcomes

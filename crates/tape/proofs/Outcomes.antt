@@ -10,11 +10,11 @@ use Rattle.meaning.specs.Tape.{records, recordsOf, WellFormed}
 use Rattle.meaning.proofs.Look.{one-record, well-formed-record}
 use Rattle.tape.specs.declared.Looked.{Looked}
 use Rattle.tape.specs.declared.Judged.{Judged}
-use Rattle.tape.specs.Putting.{putRecord}
+use Rattle.tape.specs.Between.Putting.{putRecord}
 use Rattle.tape.specs.Looking.{Looks, found, past-end, not-one}
-use Rattle.tape.specs.Judging.{Judges, well, ill}
+use Rattle.tape.specs.Between.Judging.{Judges, well, ill}
 use Rattle.tape.specs.Paper.{lookSaid}
-use Rattle.tape.proofs.Looks.{same-looked}
+use Rattle.tape.proofs.LookingLaws.{same-looked}
 
 -- ---- one outcome
 

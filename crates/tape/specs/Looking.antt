@@ -1,4 +1,4 @@
--- What `look` may answer (document 01, "Look: 14, 10"). Assumes nothing.
+-- What `look` may answer (docs/FORMAT.md, 11.4): 14, then 10. Assumes nothing.
 use mathlib.Core.Path.{_≡_}
 use mathlib.Core.List.{List}
 use Prim.Native.Nat.{ℕ, _≤_, _<_}

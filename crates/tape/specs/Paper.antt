@@ -1,4 +1,4 @@
--- What `look` answers, in document 01's terms. Assumes nothing.
+-- What `look` answers, in the terms of docs/FORMAT.md, 10.1. Assumes nothing.
 use Rattle.rules.specs.Paper.{Said, done}
 use Rattle.meaning.specs.declared.Record.{Record}
 use Rattle.meaning.specs.Paper.{refusalSaid}

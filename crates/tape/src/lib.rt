@@ -1,17 +1,17 @@
 // Records as bytes: put one, look at one, judge a whole tape.
 mod fields;
-mod numbers;
-mod records;
-mod steps;
-mod turns;
+mod four_words;
+mod judge_state;
+mod little_endian;
+mod step;
 
 ghost use mathlib.Core.Path.{_≡_};
-ghost use Rattle.tape.specs.Putting.{putRecord};
+ghost use Rattle.tape.specs.Between.Putting.{putRecord};
 ghost use Prim.Native.Nat.{_<_};
 ghost use Rattle.meaning.specs.Look.{wholeRecords};
 ghost use Rattle.tape.specs.Looking.{Looks};
-ghost use Rattle.tape.specs.Standing.{RecordIs};
-ghost use Rattle.tape.specs.Judging.{Judges};
+ghost use Rattle.tape.specs.Between.Standing.{RecordIs};
+ghost use Rattle.tape.specs.Between.Judging.{Judges};
 use meaning::DEPTH_LIMIT;
 use meaning::RECORD_LIMIT;
 use meaning::RECORD_SIZE;
@@ -46,8 +46,8 @@ pub enum Looked {
 // container opens, with the state after it, its end and the state in it.
 enum Turn {
     No,
-    Pass(u8, usize),
-    Open(u8, usize, u8),
+    Pass { state: u8, at: usize },
+    Open { after: u8, end: usize, inner: u8 },
 }
 
 // What `judge` answers: refusal 10 at 0 where the tape and store are not well formed.
@@ -65,7 +65,7 @@ pub fn put_record(tape: &mut [u8], index: usize, r: Record)
     if index < whole {
         let at = index * RECORD_SIZE;
         let end = at + RECORD_SIZE;
-        records::put_words(&mut tape[at..end], records::words_of(r));
+        four_words::put_words(&mut tape[at..end], four_words::words_of(r));
     }
 }
 
@@ -77,7 +77,7 @@ pub fn look(tape: &[u8], store: &[u8], index: usize) -> Looked
     if index >= whole {
         return Looked::Refused(Refusal::NoSuchRecord(index));
     }
-    match records::shape_at(tape, index * RECORD_SIZE) {
+    match four_words::shape_at(tape, index * RECORD_SIZE) {
         Shape::Junk => Looked::Refused(Refusal::NotWellFormed(index)),
         Shape::Record(r) => {
             if fields::own_fields(r, index, whole, store) {
@@ -93,7 +93,7 @@ pub fn record_at(tape: &[u8], index: usize) -> Record
     requires { ⌜ index < wholeRecords (now tape) ⌝ }
     ensures { λ r. ⌜ RecordIs (now (tape .entry)) index r ⌝ }
 {
-    records::only_at(tape, index * RECORD_SIZE)
+    four_words::only_at(tape, index * RECORD_SIZE)
 }
 
 // Judge a whole tape: one loop over its records, each looked at once, with the ends of the open containers and the states
@@ -116,12 +116,12 @@ pub fn judge(tape: &[u8], store: &[u8]) -> Judged
     let mut kinds: [u8; DEPTH_LIMIT] = [0; DEPTH_LIMIT];
     let mut d: usize = 0;
     let mut end: usize = NEVER;
-    let mut state: u8 = turns::NOTHING;
+    let mut state: u8 = judge_state::NOTHING;
     let mut at: usize = 0;
     let mut i: usize = 0;
     loop {
         if end == i {
-            if state == turns::AFTER_KEY {
+            if state == judge_state::AFTER_KEY {
                 return Judged::Ill;
             }
             if d == 0 {
@@ -132,23 +132,27 @@ pub fn judge(tape: &[u8], store: &[u8]) -> Judged
             state = kinds[d];
         } else {
             if i == n {
-                if state == turns::WHOLE {
+                if state == judge_state::WHOLE {
                     if at == room {
                         return Judged::Well;
                     }
                 }
                 return Judged::Ill;
             }
-            match steps::step(tape, store, i, at, d, state) {
+            match step::step(tape, store, i, at, d, state) {
                 Turn::No => {
                     return Judged::Ill;
                 }
-                Turn::Pass(s, a) => {
+                Turn::Pass { state: s, at: a } => {
                     state = s;
                     at = a;
                     i += 1;
                 }
-                Turn::Open(s, e, t) => {
+                Turn::Open {
+                    after: s,
+                    end: e,
+                    inner: t,
+                } => {
                     ends[d] = end;
                     kinds[d] = s;
                     d += 1;

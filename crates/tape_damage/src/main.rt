@@ -1,4 +1,4 @@
-// Document 01's sample tape, with each of its bytes set to each value: `look` and a decoder written from the table alone
+// The tape of the sample record (docs/FORMAT.md, 14), with each of its bytes set to each value: `look` and a decoder written from the table alone
 // agree on which records stand, and what `look` takes gives its bytes back. Prints how often they differ, how
 // many of the tapes are well formed, how many of the records stand, and how many were tried.
 ghost use Prim.Native.Nat.{_≤_, _<_, _^_};

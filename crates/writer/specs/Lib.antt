@@ -1,5 +1,4 @@
-pub mod Laid
-pub mod Pieces
-pub mod Walk
 pub mod Written
 pub mod Paper
+-- Between: what functions promise each other
+pub mod Between

@@ -1,4 +1,4 @@
--- What the writers answer, in document 01's terms: the length of the text, or a refusal. Assumes nothing.
+-- What the writers answer, in the terms of docs/FORMAT.md, 10.1: the length of the text, or a refusal. Assumes nothing.
 use Prim.Native.Nat.{ℕ}
 use Rattle.rules.specs.Paper.{Said, done}
 use Rattle.meaning.specs.Paper.{refusalSaid}

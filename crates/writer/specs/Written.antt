@@ -1,4 +1,4 @@
--- What the writers may answer, and the bytes that they leave (document 01, "The calls" and refusals 10 to 13): 10, 11
+-- What the writers may answer, and the bytes that they leave (docs/FORMAT.md, 13): 10, 11
 -- (JSON only), 13, 12. Assumes nothing.
 use mathlib.Core.Path.{_≡_}
 use mathlib.Core.List.{List}

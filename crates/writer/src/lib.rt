@@ -1,14 +1,14 @@
 // Write JAXN and write JSON: the canonical text of a tape and its store into a lent output.
 ghost use Rattle.meaning.specs.Tape.{WellFormed};
-ghost use Rattle.writer.specs.Walk.{WritesText};
+ghost use Rattle.writer.specs.Between.Walk.{WritesText};
 ghost use Rattle.writer.specs.Written.{WritesJaxn, WritesJson};
 
-pub mod digits;
-mod numbers;
-mod records;
-mod runs;
-mod strings;
-mod times;
+pub mod byte_or_digit;
+mod number;
+mod one_record;
+mod plain_run;
+mod string_or_binary;
+mod time_value;
 mod walk;
 
 use meaning::Refusal;
@@ -29,9 +29,9 @@ struct Trimmed {
 
 // What a record does to the walk: it is passed, and a comma comes next or not; or a container opens, with its end and
 // the bracket that closes it.
-enum Turn {
+enum Effect {
     Pass(bool),
-    Open(usize, u8),
+    Open { end: usize, closer: u8 },
 }
 
 // The first record with no JSON form.

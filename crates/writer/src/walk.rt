@@ -1,11 +1,11 @@
 // The walk over the records of a well-formed tape: the length of its text, then the text.
 ghost use lib.ListN.{length};
 ghost use Rattle.meaning.specs.Tape.{WellFormed};
-ghost use Rattle.writer.specs.Walk.{TextFits, TextLength, TextPut, FirstFormless};
+ghost use Rattle.writer.specs.Between.Walk.{TextFits, TextLength, TextPut, FirstFormless};
+use crate::Effect;
 use crate::Formless;
-use crate::Turn;
-use crate::digits;
-use crate::records;
+use crate::byte_or_digit;
+use crate::one_record;
 use meaning::DEPTH_LIMIT;
 use meaning::RECORD_SIZE;
 
@@ -19,7 +19,7 @@ pub fn text_len(tape: &[u8], store: &[u8]) -> usize
     let mut i: usize = 0;
     while i < n {
         let r = tape::record_at(tape, i);
-        total += records::share_of(r, i, store);
+        total += one_record::share_of(r, i, store);
         i += 1;
     }
     total - 1
@@ -43,21 +43,24 @@ pub fn write_records(out: &mut [u8], tape: &[u8], store: &[u8]) -> usize
             if depth == 0 {
                 return at;
             }
-            at = digits::byte_at(out, at, closer);
+            at = byte_or_digit::byte_at(out, at, closer);
             depth -= 1;
             end = ends[depth];
             closer = closers[depth];
             comma = true;
         } else {
-            let piece = records::comma_at(out, at, comma);
+            let piece = one_record::comma_at(out, at, comma);
             let r = tape::record_at(tape, i);
-            at = records::printed_at(out, piece, r, store);
-            match records::turn(r) {
-                Turn::Pass(due) => {
+            at = one_record::printed_at(out, piece, r, store);
+            match one_record::effect_of(r) {
+                Effect::Pass(due) => {
                     comma = due;
                     i += 1;
                 }
-                Turn::Open(last, bracket) => {
+                Effect::Open {
+                    end: last,
+                    closer: bracket,
+                } => {
                     ends[depth] = end;
                     closers[depth] = closer;
                     depth += 1;
@@ -78,7 +81,7 @@ pub fn first_formless(tape: &[u8], store: &[u8]) -> Formless
     let mut i: usize = 0;
     while i < n {
         let r = tape::record_at(tape, i);
-        if records::json_form(r) {
+        if one_record::json_form(r) {
             i += 1;
         } else {
             return Formless::At(i);

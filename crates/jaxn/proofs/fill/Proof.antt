@@ -1,8 +1,8 @@
--- `fill`: each turn leaves less room, and what was read lies within it. Assumes nothing.
+-- `fill`: each round leaves less room, and what was read lies within it. Assumes nothing.
 use Prim.Native.Nat.{_-_, _≤_}
 use mathlib.Core.Path.{_≡_}
 use lib.ListN.{length}
-use Rattle.jaxn.specs.Steps.{bytes, failed}
+use Rattle.jaxn.specs.Between.Steps.{bytes, failed}
 use borrow.Author.Needs.{needs}
 use Rattle.jaxn.proofs.fill.Statement.{statement}
 use Rattle.jaxn.proofs.fill.Tie as tie

@@ -14,9 +14,9 @@ use Rattle.rules.specs.declared.Utf8Answer.{Utf8Answer}
 use Rattle.rules.specs.declared.DateAnswer.{DateAnswer}
 use Rattle.rules.specs.Rfc3629.{Octets, Judged}
 use Rattle.rules.specs.Rfc3339.{Date, Dated}
-use Rattle.rules.specs.Decided.{isWide, lengthAt, faultFrom, judged}
+use Rattle.rules.specs.Between.Decided.{isWide, lengthAt, faultFrom, judged}
 use Rattle.rules.proofs.Decided.{judged-is}
-use Rattle.rules.specs.Decided.{isLeap, isDate}
+use Rattle.rules.specs.Between.Decided.{isLeap, isDate}
 use Rattle.rules.proofs.Months.{date-is, is-date}
 use Rattle.rules.proofs.Outcomes.{one-outcome-utf8, one-outcome-date}
 use Rattle.meaning.specs.declared.Number.the-variants.{Finite}

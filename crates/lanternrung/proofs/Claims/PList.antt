@@ -1,14 +1,14 @@
--- P-list: document 01's cases marked P hold; slips-hold: and so do its slips. Assumes nothing.
+-- P-list: the cases marked P hold; slips-hold: and so do the slips (docs/FORMAT.md, 14). Assumes nothing.
 use mathlib.Core.Path.{_≡_, refl, sym, ap, _∙_, subst}
 use mathlib.Core.List.{List}
 use Prim.Native.Nat.{ℕ}
 use native.Mathlib.Omega.{arith}
 use lib.Count.{leadingZeros}
 use lib.ListN.{length}
-use Rattle.rules.specs.Posts.{lowOf, highOf}
+use Rattle.rules.specs.Between.Posts.{lowOf, highOf}
 use Rattle.rules.specs.Rfc3629.{encode}
-use Rattle.rules.specs.Decided.{isWide, lengthAt, faultFrom, judged}
-use Rattle.rules.specs.Decided.{isLeap, isDate}
+use Rattle.rules.specs.Between.Decided.{isWide, lengthAt, faultFrom, judged}
+use Rattle.rules.specs.Between.Decided.{isLeap, isDate}
 use Rattle.meaning.specs.declared.Refusal.{Refusal}
 use Rattle.meaning.specs.declared.Refusal.the-variants.{NotGrammar, BadEscape, BadTime}
 use Rattle.meaning.specs.Limits.{depthLimit}

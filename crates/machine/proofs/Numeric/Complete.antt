@@ -17,19 +17,19 @@ use Rattle.grammar.specs.Characters.{Digit, Hexdig, Digits, Decimal}
 use Rattle.grammar.specs.Numbers.{Finite, Sign, Int, Frac0, Frac1, E, Exp, Dec, X, Unsigned, Number, raised, lowered}
 use Rattle.machine.specs.Scan.{takes, stops, breaks}
 use Rattle.machine.specs.Numeric.{St, Res, begin, sign, word, nought, int, point, frac, exp, expSign, expDigits, hexMark, hex, both, Len, d1, d2, d3, d4, scan, scaled, settle}
-use Rattle.machine.proofs.Runs.{Ends, Goes, GoesTo}
+use Rattle.machine.proofs.Runs.{EndsItem, Goes, GoesTo}
 use Rattle.machine.proofs.Runs as Runs
 use Rattle.machine.proofs.Numeric.Rows.{num-digit, dg-digit, exp-digit, fst-digit, hex-is, ending}
 use Rattle.machine.proofs.Numeric.Value.{settle-to}
 
 -- from s, at the place p, the scanner takes the bytes a, and what it then does has Q
 abbrev pub Run : (Res → Type 0) → ℕ → St → List ℕ → Type 0
-Run Q p s a = GoesTo scan Q Ends p s a
+Run Q p s a = GoesTo scan Q EndsItem p s a
 
 pub took : {Q : Res → Type 0} {p c : ℕ} {s s' : St} {a : List ℕ} → Run Q (suc p) s' a → scan p s c ≡ takes s' → Run Q p s (c ∷ a)
 took k e = Runs.took-to scan k e
 
-pub halts : {Q : Res → Type 0} {p : ℕ} {s : St} → ((b : ℕ) → Ends b → Q (scan p s b)) → Run Q p s []
+pub halts : {Q : Res → Type 0} {p : ℕ} {s : St} → ((b : ℕ) → EndsItem b → Q (scan p s b)) → Run Q p s []
 halts k = Runs.halts-to scan k
 
 -- the check of a hex number
@@ -67,7 +67,7 @@ module _ (q : ℕ) (g : Bool) where
   record Whole (s : St) (m : ℕ) : Type 0 where
     at-point : (p : ℕ) → scan p s (ch ".") ≡ takes (frac q g m 0)
     at-e : {b : ℕ} → E b → (p : ℕ) → scan p s b ≡ takes (exp q g m 0)
-    at-end : {b : ℕ} → Ends b → (p : ℕ) → scan p s b ≡ settle q g m 0 0
+    at-end : {b : ℕ} → EndsItem b → (p : ℕ) → scan p s b ≡ settle q g m 0 0
 
   whole-exp : {s : St} {m : ℕ} → Whole s m → {a : List ℕ} {up dn : ℕ} {Q : Res → Type 0} → Exp a up dn → Q (settle q g m up (0 + dn)) → (p : ℕ) → Run Q p s a
   whole-exp i {Q = Q} Exp.absent h p = halts (λ b e. subst Q (sym (i .at-end e p)) h)
@@ -182,5 +182,5 @@ number-goes-to p (Number.number Sign.minus u) j = took (unsigned-sign (suc p) p 
 within : (q : ℕ) (w : M.Number) → Judged true (λ o. o ≡ stops (Meaning.number w)) q w
 within q w = record { words = refl; decs = λ h. settle-to h q; hexs = λ {g = g} {v = v} l h. rw (lt-ltb v coefficientLimit l) (settle-to h q) }
 
-pub number-goes : {a : List ℕ} {w : M.Number} → Number true a w → (p : ℕ) → Goes scan Ends p begin a (Meaning.number w)
+pub number-goes : {a : List ℕ} {w : M.Number} → Number true a w → (p : ℕ) → Goes scan EndsItem p begin a (Meaning.number w)
 number-goes {w = w} x p = Runs.goes-value scan (number-goes-to p x (within p w))

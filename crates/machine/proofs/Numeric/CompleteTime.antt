@@ -20,7 +20,7 @@ use Rattle.grammar.specs.Comments.{Blank}
 use Rattle.grammar.specs.Times.{Fraction, Time-secfrac, Time-hour, Time-minute, Local-time, Local-date, Separator, Zulu, Plus-minus, Time-offset, Time-value, signed}
 use Rattle.machine.specs.Numeric.{St, Res, begin, both, field, spaced, nanos, d1, d2, d3, d4, When, alone, on, Slot, month, day, hour, minute, second, offsetHour, offsetMinute, scan, dig, onZone, okDate, okClock, dated}
 use Rattle.machine.specs.Numeric as S
-use Rattle.machine.proofs.Runs.{Ends, HaltTo, Goes, GoesTo, goes-value}
+use Rattle.machine.proofs.Runs.{EndsItem, HaltTo, Goes, GoesTo, goes-value}
 use Rattle.machine.proofs.Numeric.Rows.{Decimal-digit, num-digit, dg-digit, fst-digit, sec-digit, dg-none, zulu-is, ending}
 use Rattle.machine.proofs.Numeric.Complete.{Run, took, halts}
 
@@ -29,7 +29,7 @@ module _ {q : ℕ} (l : Slot) where
   field-run Digits.over k p = k p
   field-run (Digits.next {b = b} (Digit.digit i) d) k p = took (field-run d k (suc p)) (rw (dg-digit b i))
 
-  last-field : {n v w : ℕ} {a : List ℕ} {Q : Res → Type 0} → Decimal n v a w → ((p b : ℕ) → Ends b → Q (scan p (field q l zero w) b)) → (p : ℕ) → Run Q p (field q l n v) a
+  last-field : {n v w : ℕ} {a : List ℕ} {Q : Res → Type 0} → Decimal n v a w → ((p b : ℕ) → EndsItem b → Q (scan p (field q l zero w) b)) → (p : ℕ) → Run Q p (field q l n v) a
   last-field Digits.over k p = halts (k p)
   last-field (Digits.next {b = b} (Digit.digit i) d) k p = took (last-field d k (suc p)) (rw (dg-digit b i))
 
@@ -63,7 +63,7 @@ record Clocked (q : ℕ) (w : When) (h m s n : ℕ) (st : St) : Type 0 where
   at-zulu : {b : ℕ} → Zulu b → (p : ℕ) → scan p st b ≡ onZone q w h m s n S.zuluS
   at-plus : (p : ℕ) → scan p st (ch "+") ≡ onZone q w h m s n S.plusS
   at-minus : (p : ℕ) → scan p st (ch "-") ≡ onZone q w h m s n S.minusS
-  at-end : {b : ℕ} → Ends b → (p : ℕ) → scan p st b ≡ onZone q w h m s n S.otherS
+  at-end : {b : ℕ} → EndsItem b → (p : ℕ) → scan p st b ≡ onZone q w h m s n S.otherS
 
 module _ (q : ℕ) (w : When) (h : ℕ) where
   module _ (m s : ℕ) where
@@ -117,17 +117,17 @@ module _ (Q : Res → Type 0) (y m d p q : ℕ) (h : Q (S.dateDone q (dated y m 
   date-here : (b : ℕ) → S.dayOf b ≡ S.otherD → DateHalt b
   date-here b e = HaltTo.here {b = b} (rw e h)
 
-  date-halt : (b : ℕ) → Ends b → DateHalt b
-  date-halt b (Ends.blank Blank.space) = HaltTo.spaced {s' = spaced q (dated y m d)} refl (λ s c n. rw (dg-none n) h)
-  date-halt b (Ends.blank Blank.tab) = date-here _ refl
-  date-halt b (Ends.blank Blank.line-feed) = date-here _ refl
-  date-halt b (Ends.blank Blank.carriage-return) = date-here _ refl
-  date-halt b Ends.hash = date-here _ refl
-  date-halt b Ends.slash = date-here _ refl
-  date-halt b Ends.comma = date-here _ refl
-  date-halt b Ends.bracket = date-here _ refl
-  date-halt b Ends.brace = date-here _ refl
-  date-halt b Ends.end = date-here _ refl
+  date-halt : (b : ℕ) → EndsItem b → DateHalt b
+  date-halt b (EndsItem.blank Blank.space) = HaltTo.spaced {s' = spaced q (dated y m d)} refl (λ s c n. rw (dg-none n) h)
+  date-halt b (EndsItem.blank Blank.tab) = date-here _ refl
+  date-halt b (EndsItem.blank Blank.line-feed) = date-here _ refl
+  date-halt b (EndsItem.blank Blank.carriage-return) = date-here _ refl
+  date-halt b EndsItem.hash = date-here _ refl
+  date-halt b EndsItem.slash = date-here _ refl
+  date-halt b EndsItem.comma = date-here _ refl
+  date-halt b EndsItem.bracket = date-here _ refl
+  date-halt b EndsItem.brace = date-here _ refl
+  date-halt b EndsItem.end = date-here _ refl
 
 -- what is left of an hour, the clock, and what follows
 hour-run : {v e h m s n : ℕ} {a b c f z : List ℕ} {Q : Res → Type 0} (q : ℕ) (d : D.Date) → Decimal e v a h → Decimal 2 0 b m → Decimal 2 0 c s → Time-secfrac f n → ((st : St) → Clocked q (on d) h m s n st → (p : ℕ) → Run Q p st z) → (p : ℕ) → Run Q p (field q (hour d) e v) (a ++ (ch ":" ∷ (b ++ (ch ":" ∷ (c ++ (f ++ z))))))
@@ -168,5 +168,5 @@ time-goes-to {k} {Q = Q} p (Time-value.local-date-time (Local-date.local-date {y
 time-goes-to {k} {Q = Q} p (Time-value.offset-date-time (Local-date.local-date {y = y} {m = mo} {d = d} i j o t) x (Local-time.local-time {h = h} {m = m} {s = s} {n = n} (Time-hour.hour a l) (Time-minute.sixtieth b v) (Time-minute.sixtieth c w) f) e) z =
     simp append-assoc (date-run i j o p (sep-run x a b c f p (zone-run k p (dated y mo d) h m s n (by-checks k (both-ok _ _) (by-check k date-is t) (ok-clock k h m s l v w)) e z)))
 
-pub time-goes : {a : List ℕ} {t : M.Time} → Time-value true a t → (p : ℕ) → Goes scan Ends p begin a (Meaning.time t)
+pub time-goes : {a : List ℕ} {t : M.Time} → Time-value true a t → (p : ℕ) → Goes scan EndsItem p begin a (Meaning.time t)
 time-goes x p = goes-value scan (time-goes-to p x (λ ok e. rw e))

@@ -15,7 +15,7 @@ use Rattle.grammar.specs.Numbers.{E, X}
 use Rattle.grammar.specs.Times.{Separator, Zulu}
 use Rattle.machine.specs.Numeric as S
 use Rattle.machine.specs.Numeric.{Row, pick}
-use Rattle.machine.proofs.Runs.{Ends, NoDigit}
+use Rattle.machine.proofs.Runs.{EndsItem, NoDigit}
 
 module _ {A : Type 0} where
   -- what every row, and the default, has of its bytes, the byte's class has
@@ -235,14 +235,14 @@ pub record Ending (b : ℕ) : Type 0 where
   pub no-hex : S.hexOf b ≡ S.noHex
   pub no-sec : S.secOf b ≡ S.otherS
 
-pub ending : {b : ℕ} → Ends b → Ending b
-ending (Ends.blank Blank.space) = record { no-num = refl; no-dg = refl; no-hex = refl; no-sec = refl }
-ending (Ends.blank Blank.tab) = record { no-num = refl; no-dg = refl; no-hex = refl; no-sec = refl }
-ending (Ends.blank Blank.line-feed) = record { no-num = refl; no-dg = refl; no-hex = refl; no-sec = refl }
-ending (Ends.blank Blank.carriage-return) = record { no-num = refl; no-dg = refl; no-hex = refl; no-sec = refl }
-ending Ends.hash = record { no-num = refl; no-dg = refl; no-hex = refl; no-sec = refl }
-ending Ends.slash = record { no-num = refl; no-dg = refl; no-hex = refl; no-sec = refl }
-ending Ends.comma = record { no-num = refl; no-dg = refl; no-hex = refl; no-sec = refl }
-ending Ends.bracket = record { no-num = refl; no-dg = refl; no-hex = refl; no-sec = refl }
-ending Ends.brace = record { no-num = refl; no-dg = refl; no-hex = refl; no-sec = refl }
-ending Ends.end = record { no-num = refl; no-dg = refl; no-hex = refl; no-sec = refl }
+pub ending : {b : ℕ} → EndsItem b → Ending b
+ending (EndsItem.blank Blank.space) = record { no-num = refl; no-dg = refl; no-hex = refl; no-sec = refl }
+ending (EndsItem.blank Blank.tab) = record { no-num = refl; no-dg = refl; no-hex = refl; no-sec = refl }
+ending (EndsItem.blank Blank.line-feed) = record { no-num = refl; no-dg = refl; no-hex = refl; no-sec = refl }
+ending (EndsItem.blank Blank.carriage-return) = record { no-num = refl; no-dg = refl; no-hex = refl; no-sec = refl }
+ending EndsItem.hash = record { no-num = refl; no-dg = refl; no-hex = refl; no-sec = refl }
+ending EndsItem.slash = record { no-num = refl; no-dg = refl; no-hex = refl; no-sec = refl }
+ending EndsItem.comma = record { no-num = refl; no-dg = refl; no-hex = refl; no-sec = refl }
+ending EndsItem.bracket = record { no-num = refl; no-dg = refl; no-hex = refl; no-sec = refl }
+ending EndsItem.brace = record { no-num = refl; no-dg = refl; no-hex = refl; no-sec = refl }
+ending EndsItem.end = record { no-num = refl; no-dg = refl; no-hex = refl; no-sec = refl }

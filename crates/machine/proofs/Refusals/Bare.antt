@@ -21,7 +21,7 @@ use Rattle.machine.specs.Machine.{Use, as-value, as-key, Got, Base, want
 use Rattle.machine.specs.Machine.{reading, Verdict, Ok, No, classOf, lift, scan, asValue, wanted, shut, bareOf, onOut}
 use Rattle.machine.specs.Numeric
 use Rattle.machine.specs.Strings
-use Rattle.machine.proofs.Runs.{Ends, PartEnds, NoDigit, HaltTo, GoesTo, adv}
+use Rattle.machine.proofs.Runs.{EndsItem, PartEnds, NoDigit, HaltTo, GoesTo, adv}
 use Rattle.machine.proofs.Layouts.{adv-join, stepped, layout-run, line-run}
 use Rattle.machine.proofs.Complete.{NoDigitFirst, Follows, widen, begun, StartsString, starts-string, Quoted, part-begins, binary-run, lead-starts}
 use Rattle.machine.proofs.Complete.{word-run, key-run, closes-end, after-layout, part-after-layout, one-more, last-follows}
@@ -113,10 +113,10 @@ Then p a d k r g = Mild (read (adv p a) (at (base (got g)) d k) r)
 
 abbrev ValueMild : List ℕ → Type 0
 ValueMild a =
-    (p d : ℕ) (k : List Frame) (r : List ℕ) → Follows Ends r → ((g : Got) → IsValue g → Then p a d k r g) → Mild (read p (at (base want) d k) (a ++ r))
+    (p d : ℕ) (k : List Frame) (r : List ℕ) → Follows EndsItem r → ((g : Got) → IsValue g → Then p a d k r g) → Mild (read p (at (base want) d k) (a ++ r))
 
 -- a number or a time value
-numeric-mild : {a : List ℕ} → N.Begins a → (p d : ℕ) (k : List Frame) (r : List ℕ) → GoesTo Numeric.scan Ended Ends p Numeric.begin a → Follows Ends r
+numeric-mild : {a : List ℕ} → N.Begins a → (p d : ℕ) (k : List Frame) (r : List ℕ) → GoesTo Numeric.scan Ended EndsItem p Numeric.begin a → Follows EndsItem r
     → ((m : Meaning) → Then p a d k r (Got.value m)) → Mild (read p (at (base want) d k) (a ++ r))
 numeric-mild (N.Begins.begins {b = b} {a = t} y) p d k r w h c =
     mild-by (begun p d k want b (t ++ r) _ (lead-starts y p d k)) (item-mild Numeric.scan Machine.numeric Got.value (λ p s b. refl) w d k r h c)
@@ -184,11 +184,11 @@ BehindMild x a =
     → Mild (read p (at (base (got g)) d (f ∷ k)) (a ++ r))
 
 abbrev AfterMild : Inside → List ℕ → Type 0
-AfterMild x a = ((r : List ℕ) → Follows Ends (a ++ r)) × BehindMild x a
+AfterMild x a = ((r : List ℕ) → Follows EndsItem (a ++ r)) × BehindMild x a
 
 abbrev ItemMild : Inside → List ℕ → Inside → Type 0
 ItemMild x a z =
-    (y : Inside) → Alike x y → (p d : ℕ) (k : List Frame) (r : List ℕ) → Follows Ends r
+    (y : Inside) → Alike x y → (p d : ℕ) (k : List Frame) (r : List ℕ) → Follows EndsItem r
     → ((f : Frame) (g : Got) → Holds z f → IsValue g → Then p a d (f ∷ k) r g) → Mild (read p (at (base (wanted y)) d (inside y ∷ k)) (a ++ r))
 
 close-mild : (b : ℕ) (x : Inside) (w : List ℕ) → Ws w → Closes x b → RestMild x (w ++ (b ∷ []))
@@ -211,7 +211,7 @@ end-mild b x w l e = (
 
 comma-mild : (x : Inside) (w a : List ℕ) → Ws w → RestMild x a → AfterMild x (w ++ (ch "," ∷ a))
 comma-mild x w a l t = (
-  (λ r. rw append-assoc (after-layout l (ch "," ∷ (a ++ r)) (one-more (a ++ r) Ends.comma (λ e. omega arith)))),
+  (λ r. rw append-assoc (after-layout l (ch "," ∷ (a ++ r)) (one-more (a ++ r) EndsItem.comma (λ e. omega arith)))),
   λ f g h v p d k r c. (let s = comma-after g h v (adv p w) d k in simp append-assoc
       (mild-by (layout-run l (got g) p d (f ∷ k) (ch "," ∷ (a ++ r)) ∙ stepped _ _ _ _ _ (s .2) refl)
       (t (s .0) (s .1) (suc (adv p w)) d k r (λ m. simp adv-join at (c m))))),

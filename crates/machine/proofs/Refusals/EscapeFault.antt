@@ -21,7 +21,7 @@ use Rattle.machine.specs.Machine
 use Rattle.machine.specs.Machine.{Use, Frame}
 use Rattle.machine.specs.Strings as S
 use Rattle.machine.specs.Strings.{St, Ctx, Bad, badNow, scan, begin, done, spoilt, hexOf}
-use Rattle.machine.proofs.Runs.{Ends, PartEnds, Steps, value-goes, goes-end, end-out, steps-back}
+use Rattle.machine.proofs.Runs.{EndsItem, PartEnds, Steps, value-goes, goes-end, end-out, steps-back}
 use Rattle.machine.proofs.Strings.Quotes.{between-other}
 use Rattle.machine.proofs.Strings.Tests.{hex-of, hex-ascii, short-of}
 use Rattle.machine.proofs.Strings.Back.{four-small}
@@ -204,7 +204,7 @@ blamed-stops acc e h = rw e at h
 not-good : {a u : List ℕ} {p q : ℕ} {c : Ctx} → String-part true a u → Steps scan p begin a (done c) → badNow c ≡ spoilt q → ⊥
 unfolding scan
 not-good {p = p} {c = c} x r e =
-    blamed-stops (c .acc) e (end-out scan {Q = Stops} (PartEnds.ends Ends.end) (goes-end scan r (value-goes scan tt (part-goes x p))))
+    blamed-stops (c .acc) e (end-out scan {Q = Stops} (PartEnds.ends EndsItem.end) (goes-end scan r (value-goes scan tt (part-goes x p))))
 
 -- ---- the fault
 

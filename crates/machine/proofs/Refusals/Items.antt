@@ -20,7 +20,7 @@ use Rattle.machine.specs.Scan.{Out, takes, stops, breaks}
 use Rattle.machine.specs.Numeric as Nu
 use Rattle.machine.specs.Strings as S
 use Rattle.machine.specs.Strings.{Ctx, Bad, badNow, scan, two, done, fine, spoilt, begin}
-use Rattle.machine.proofs.Runs.{Ends, PartEnds, GoesTo, took-to, halts-to, value-goes, goes-weaker, steps-to}
+use Rattle.machine.proofs.Runs.{EndsItem, PartEnds, GoesTo, took-to, halts-to, value-goes, goes-weaker, steps-to}
 use Rattle.machine.proofs.Numeric.Complete.{number-goes-to}
 use Rattle.machine.proofs.Numeric.CompleteTime as Times
 use Rattle.machine.proofs.Strings.Tests.{either}
@@ -68,7 +68,7 @@ settle-out q g m up dn =
     (either P (ltb c coefficientLimit)
     (either P (leb dn u) (either P (leb (u - dn) powerLimit) (_, refl) refl) (either P (leb (dn - u) powerLimit) (_, refl) refl)) refl)
 
-pub number-out : {a : List ℕ} {n : N.Number} → Number false a n → (p : ℕ) → GoesTo Nu.scan (NumberOut p) Ends p Nu.begin a
+pub number-out : {a : List ℕ} {n : N.Number} → Number false a n → (p : ℕ) → GoesTo Nu.scan (NumberOut p) EndsItem p Nu.begin a
 number-out {n = n} x p =
     number-goes-to p x
     (record {
@@ -77,7 +77,7 @@ number-out {n = n} x p =
       hexs = λ {g = g} {v = v} l h. either (NumberOut p) (ltb v coefficientLimit) (settle-out p g v 0 0) refl;
     })
 
-pub number-ends : {a : List ℕ} {n : N.Number} → Number false a n → (p : ℕ) → GoesTo Nu.scan Ended Ends p Nu.begin a
+pub number-ends : {a : List ℕ} {n : N.Number} → Number false a n → (p : ℕ) → GoesTo Nu.scan Ended EndsItem p Nu.begin a
 number-ends x p = goes-weaker Nu.scan (weaker (λ v h. tt) (λ r e. rw e (omega arith))) (number-out x p)
 
 -- ---- time values: a time, or 5 at its first byte
@@ -88,10 +88,10 @@ IsTime m = (t : T.Time) × (m ≡ Meaning.time t)
 abbrev pub TimeOut : ℕ → Nu.Res → Type 0
 TimeOut p = Outcome IsTime (λ r. r ≡ BadTime p)
 
-pub time-out : {a : List ℕ} {t : T.Time} → Time-value false a t → (p : ℕ) → GoesTo Nu.scan (TimeOut p) Ends p Nu.begin a
+pub time-out : {a : List ℕ} {t : T.Time} → Time-value false a t → (p : ℕ) → GoesTo Nu.scan (TimeOut p) EndsItem p Nu.begin a
 time-out {t = t} x p = Times.time-goes-to p x (λ ok e. either (TimeOut p) ok (t, refl) refl)
 
-pub time-ends : {a : List ℕ} {t : T.Time} → Time-value false a t → (p : ℕ) → GoesTo Nu.scan Ended Ends p Nu.begin a
+pub time-ends : {a : List ℕ} {t : T.Time} → Time-value false a t → (p : ℕ) → GoesTo Nu.scan Ended EndsItem p Nu.begin a
 time-ends x p = goes-weaker Nu.scan (weaker (λ v h. tt) (λ r e. rw e (omega arith))) (time-out x p)
 
 -- ---- string parts

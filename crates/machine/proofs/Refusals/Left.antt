@@ -15,7 +15,7 @@ use Rattle.grammar.specs.Values.{Inside, elements, members, Item}
 use Rattle.machine.specs.Machine.{Use, as-value, as-key, Got, Base, want, wantKey, wantString, got, base, Frame, inside, pair, Conf, at, fail, step, read}
 use Rattle.machine.specs.Machine.{reading, No}
 use Rattle.grammar.specs.Refused.{Spot, value, part, among, Left, Opening}
-use Rattle.machine.proofs.Runs.{Ends, PartEnds, adv}
+use Rattle.machine.proofs.Runs.{EndsItem, PartEnds, adv}
 use Rattle.machine.proofs.Layouts.{adv-join, stepped, layout-run}
 use Rattle.machine.proofs.Complete.{StartsString, string-part-run, gotOf, value-run, Adds, comma-after, key-run, after-layout, part-after-layout}
 use Rattle.machine.proofs.Complete.{one-more}
@@ -77,7 +77,7 @@ comma-then (Item.element {d = d} {x = x} {a = a} {m = m} t) l v w (k, h) i j = (
   k,
   item-then l a v w (ch ",") (at (base want) d (inside (elements x) ∷ k)) (gotOf m) want d (inside (elements x) ∷ k)
       (inside (elements (Meanings.more x m)) ∷ k) h
-      (λ p r. value-run t p (inside (elements x) ∷ k) (v ++ (ch "," ∷ r)) (after-layout i (ch "," ∷ r) (one-more r Ends.comma (λ e. omega arith)))) i j
+      (λ p r. value-run t p (inside (elements x) ∷ k) (v ++ (ch "," ∷ r)) (after-layout i (ch "," ∷ r) (one-more r EndsItem.comma (λ e. omega arith)))) i j
       (λ p. comma-after Adds.element p d k),
 )
 comma-then (Item.member {d = d} {x = x} {c = c} {u = u} {v = y} {w = z} {a = a} {m = m} q e f t) l v w (k, h) i j = (
@@ -87,7 +87,7 @@ comma-then (Item.member {d = d} {x = x} {c = c} {u = u} {v = y} {w = z} {a = a} 
       (λ p r. simp (append-assoc, adv-join) (key-run q e x p d k (z ++ (a ++ (v ++ (ch "," ∷ r))))
       ∙ layout-run f want (suc (adv (adv p c) y)) d (pair x u ∷ k) (a ++ (v ++ (ch "," ∷ r)))
       ∙ value-run t (adv (suc (adv (adv p c) y)) z) (pair x u ∷ k) (v ++ (ch "," ∷ r))
-      (after-layout i (ch "," ∷ r) (one-more r Ends.comma (λ e. omega arith))))) i j (λ p. comma-after Adds.member p d k),
+      (after-layout i (ch "," ∷ r) (one-more r EndsItem.comma (λ e. omega arith))))) i j (λ p. comma-after Adds.member p d k),
 )
 
 pub left-stood : {d : ℕ} {s : Spot} {l : List ℕ} → Left d s l → Stood d s l

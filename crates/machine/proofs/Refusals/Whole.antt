@@ -11,7 +11,7 @@ use borrow.Author.Tests.{le-leb, lt-leb, leb-true, leb-false}
 use Rattle.rules.specs.Rfc3629.{Octets, Judged, ill}
 use Rattle.rules.specs.declared.Utf8Answer.{Utf8Answer}
 use Rattle.rules.specs.declared.Utf8Answer.the-variants.{Done, IllFormed}
-use Rattle.rules.specs.Decided.{judged}
+use Rattle.rules.specs.Between.Decided.{judged}
 use Rattle.rules.proofs.Decided.{judged-is, judged-done, done-judged}
 use Rattle.rules.proofs.Outcomes.{one-outcome-utf8, utf8-fault}
 use Rattle.meaning.specs.Limits.{textLimit}

@@ -12,7 +12,7 @@ use Rattle.grammar.specs.Comments.{Blank}
 use Rattle.grammar.specs.Strings.{Short}
 use Rattle.machine.specs.Scan.{over}
 use Rattle.machine.specs.Strings.{hexOf, shortOf}
-use Rattle.machine.proofs.Runs.{Ends, PartEnds}
+use Rattle.machine.proofs.Runs.{EndsItem, PartEnds}
 
 module _ {A : Type 0} (P : A → Type 0) where
   pub by-bool : (t : Bool) (x y : A) → (t ≡ true → P x) → (t ≡ false → P y) → P (cond t x y)
@@ -111,15 +111,15 @@ short-is b =
 
 -- what each of these bytes has, every byte has that may come after a part
 pub ends-all : (P : ℕ → Type 0) → P (ch " ") × P (ch "\t") × P (ch "\n") × P (ch "\r") × P (ch "#") × P (ch "/") × P (ch ",") × P (ch "]") × P (ch "}") × P over × P (ch "+") × P (ch ":") → {b : ℕ} → PartEnds b → P b
-ends-all P f (PartEnds.ends (Ends.blank Blank.space)) = f .0
-ends-all P f (PartEnds.ends (Ends.blank Blank.tab)) = f .1
-ends-all P f (PartEnds.ends (Ends.blank Blank.line-feed)) = f .2
-ends-all P f (PartEnds.ends (Ends.blank Blank.carriage-return)) = f .3
-ends-all P f (PartEnds.ends Ends.hash) = f .4
-ends-all P f (PartEnds.ends Ends.slash) = f .5
-ends-all P f (PartEnds.ends Ends.comma) = f .6
-ends-all P f (PartEnds.ends Ends.bracket) = f .7
-ends-all P f (PartEnds.ends Ends.brace) = f .8
-ends-all P f (PartEnds.ends Ends.end) = f .9
+ends-all P f (PartEnds.ends (EndsItem.blank Blank.space)) = f .0
+ends-all P f (PartEnds.ends (EndsItem.blank Blank.tab)) = f .1
+ends-all P f (PartEnds.ends (EndsItem.blank Blank.line-feed)) = f .2
+ends-all P f (PartEnds.ends (EndsItem.blank Blank.carriage-return)) = f .3
+ends-all P f (PartEnds.ends EndsItem.hash) = f .4
+ends-all P f (PartEnds.ends EndsItem.slash) = f .5
+ends-all P f (PartEnds.ends EndsItem.comma) = f .6
+ends-all P f (PartEnds.ends EndsItem.bracket) = f .7
+ends-all P f (PartEnds.ends EndsItem.brace) = f .8
+ends-all P f (PartEnds.ends EndsItem.end) = f .9
 ends-all P f PartEnds.plus = f .10
 ends-all P f PartEnds.colon = f .11

@@ -2,7 +2,7 @@ use mathlib.Core.Path.{subst}
 use native.Mathlib.Omega.{arith}
 use Rattle.rules.specs.declared.Utf8Answer.{Utf8Answer}
 use Rattle.rules.specs.Rfc3629.{Judged}
-use Rattle.reader.proofs.Walks.{measure-long, measure-ill, measure-walked}
+use Rattle.reader.proofs.AnswersLaws.{measure-long, measure-ill, measure-walked}
 use borrow.Author.Needs.{needs}
 use Rattle.reader.proofs.measure.Statement.{statement}
 use Rattle.reader.proofs.measure.Tie as tie
@@ -11,39 +11,30 @@ use Rattle.reader.proofs.measure.Lts as lts
 use Rattle.reader.proofs.walk.Reads as walk-reads
 use Rattle.rules.proofs.utf8.Reads as utf8-reads
 
--- src/lib.rt:71:9
 returns : tie.Need-returns
 returns c = measure-long (c .before .before .args .text .now) (omega (arith, c .if1 .taken))
 
--- src/lib.rt:73:11
 utf8-requires : tie.Need-utf8-requires
 utf8-requires c κs = search needs
 
--- src/lib.rt:74:31
 enum-known-p : tie.Need-enum-known-p
 enum-known-p c = search needs
 
--- src/lib.rt:76:17
 enum-told : tie.Need-enum-told
 enum-told c = search needs
 
--- src/lib.rt:78:24
 slice-aggregate-walk : tie.Need-slice-aggregate-walk
 slice-aggregate-walk c = search needs
 
--- src/lib.rt:78:35
 slice-aggregate-walk-2 : tie.Need-slice-aggregate-walk-2
 slice-aggregate-walk-2 c = search needs
 
--- src/lib.rt:78:13
 walk-requires : tie.Need-walk-requires
 walk-requires c κs = search needs
 
--- src/lib.rt:67:1
 returns-2 : tie.Need-returns-2
 returns-2 c = measure-ill (c .before .before .before .before .before .before .args .text .now) (omega (arith, c .before .before .before .before .if1 .left)) (c .before .p .given .0 .0) (subst (λ (r : Utf8Answer). Judged (c .before .before .before .before .before .before .args .text .now) r) (c .before .p .given .1) (c .before .before .before .utf8 .ensures))
 
--- src/lib.rt:67:1
 returns-3 : tie.Need-returns-3
 returns-3 c = measure-walked (c .before .before .before .before .before .before .before .before .before .before .args .text .now) (omega (arith, c .before .before .before .before .before .before .before .before .if1 .left)) _ (c .before .before .walk .last .1 .0) _ (c .before .before .walk .last .1 .1 .0) (c .before .before .walk .result) (subst (λ (r : Utf8Answer). Judged (c .before .before .before .before .before .before .before .before .before .before .args .text .now) r) (c .before .before .before .before .before .enum-told .given .1) (c .before .before .before .before .before .before .before .utf8 .ensures)) (c .before .before .walk .ensures)
 

@@ -10,23 +10,18 @@ use Rattle.rules.proofs.date.Reads as reads
 use Rattle.rules.proofs.date.Lts as lts
 use Rattle.rules.proofs.calendar.days.Reads as days-reads
 
--- src/lib.rt:44:9
 returns : tie.Need-returns
 returns c = none (λ d. omega arith) refl
 
--- src/lib.rt:47:9
 returns-2 : tie.Need-returns-2
 returns-2 c = none (λ d. omega arith) refl
 
--- src/lib.rt:49:14
 days-requires : tie.Need-days-requires
 days-requires c κs = search needs
 
--- src/lib.rt:50:9
 returns-3 : tie.Need-returns-3
 returns-3 c = too-late _ _ _ _ (c .before .days .ensures) (c .if3 .taken)
 
--- src/lib.rt:40:1
 returns-4 : tie.Need-returns-4
 returns-4 c =
     a-date _ _ _ _ (omega arith) (omega arith) (c .before .days .ensures) (c .if3 .left)

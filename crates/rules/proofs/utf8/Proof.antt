@@ -3,7 +3,7 @@ use Prim.Native.Nat.{ℕ, _+_, _-_, _≤_, _<_}
 use borrow.Author.Needs.{needs}
 use native.Mathlib.Omega.{arith}
 use lib.ListN.{length}
-use Rattle.rules.specs.Posts.{Passed}
+use Rattle.rules.specs.Between.Posts.{Passed}
 use Rattle.rules.proofs.Runs.{passed-run, passed-char, char-room, fault-at, all-passed}
 use Rattle.rules.proofs.utf8.Statement.{statement}
 use Rattle.rules.proofs.utf8.Tie as tie

@@ -4,8 +4,8 @@ use Prim.Native.Nat.{_+_, _-_, _*_}
 use native.Mathlib.Omega.{arith}
 use Rattle.meaning.specs.Limits.{depthLimit}
 use Rattle.meaning.proofs.Sizes.{depth-limit-small}
-use Rattle.tape.proofs.Stepping.{passed, opened}
-use Rattle.tape.proofs.Link.{State, state-start, state-key, state-none, state-pop, state-well, state-left, state-open, state-pass, open-room, state-opened, answer-ill, answer-well, answer-no, answer-not-whole, answer-many, answer-long}
+use Rattle.tape.proofs.TurnsLaws.{passed, opened}
+use Rattle.tape.proofs.JudgingStateLaws.{State, state-start, state-key, state-none, state-pop, state-well, state-left, state-open, state-pass, open-room, state-opened, answer-ill, answer-well, answer-no, answer-not-whole, answer-many, answer-long}
 use borrow.Author.Needs.{needs}
 use Rattle.tape.proofs.judge.Statement.{statement}
 use Rattle.tape.proofs.judge.Tie as tie

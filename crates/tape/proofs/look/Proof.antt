@@ -2,7 +2,7 @@
 use mathlib.Core.Path.{refl}
 use native.Mathlib.Omega.{arith}
 use Rattle.tape.specs.Looking.{past-end}
-use Rattle.tape.proofs.Looks.{look-found, look-junk, look-fault}
+use Rattle.tape.proofs.LookingLaws.{look-found, look-junk, look-fault}
 use borrow.Author.Needs.{needs}
 use Rattle.tape.proofs.look.Statement.{statement}
 use Rattle.tape.proofs.look.Tie as tie

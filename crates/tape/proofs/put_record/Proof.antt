@@ -1,7 +1,7 @@
 -- `put_record`: the part that was lent to its four numbers, come back. Assumes nothing.
 use mathlib.Core.Path.{refl, sym}
 use native.Mathlib.Omega.{arith}
-use Rattle.tape.proofs.Puts.{put-by-words, record-no-room}
+use Rattle.tape.proofs.PuttingLaws.{put-by-words, record-no-room}
 use borrow.Author.Needs.{needs}
 use Rattle.tape.proofs.put_record.Statement.{statement}
 use Rattle.tape.proofs.put_record.Tie as tie

@@ -1,6 +1,6 @@
 -- `record_at`: the only record that may stand there. Assumes nothing.
 use mathlib.Core.Path.{_∙_}
-use Rattle.tape.proofs.Looks.{record-only}
+use Rattle.tape.proofs.LookingLaws.{record-only}
 use borrow.Author.Needs.{needs}
 use Rattle.tape.proofs.record_at.Statement.{statement}
 use Rattle.tape.proofs.record_at.Tie as tie

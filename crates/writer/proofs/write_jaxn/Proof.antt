@@ -1,5 +1,5 @@
 -- `write_jaxn`: by what the judge says. Assumes nothing.
-use Rattle.writer.proofs.Answers.{is-well, jaxn-ill, jaxn-text}
+use Rattle.writer.proofs.WrittenLaws.{is-well, jaxn-ill, jaxn-text}
 use borrow.Author.Needs.{needs}
 use Rattle.writer.proofs.write_jaxn.Statement.{statement}
 use Rattle.writer.proofs.write_jaxn.Tie as tie

@@ -1,5 +1,5 @@
 -- `write_json`: by what the judge and the search say. Assumes nothing.
-use Rattle.writer.proofs.Answers.{is-well, json-ill, json-formless, json-text}
+use Rattle.writer.proofs.WrittenLaws.{is-well, json-ill, json-formless, json-text}
 use borrow.Author.Needs.{needs}
 use Rattle.writer.proofs.write_json.Statement.{statement}
 use Rattle.writer.proofs.write_json.Tie as tie

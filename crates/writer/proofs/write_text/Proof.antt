@@ -1,5 +1,5 @@
 -- `write_text`: 13, then 12, then the text. Assumes nothing.
-use Rattle.writer.proofs.Answers.{text-too-long, text-too-short, text-fits, text-written}
+use Rattle.writer.proofs.WrittenLaws.{text-too-long, text-too-short, text-fits, text-written}
 use borrow.Author.Needs.{needs}
 use Rattle.writer.proofs.write_text.Statement.{statement}
 use Rattle.writer.proofs.write_text.Tie as tie

@@ -5,7 +5,7 @@ use native.Mathlib.Omega.{arith}
 use mir.Syntax.{w32}
 use mir.ValLaws.{toZ-ofZ}
 use Rattle.lanternrung.specs.Told.{plainFields, numberFields}
-use Rattle.lanternrung.proofs.Passing.{flag-small}
+use Rattle.lanternrung.proofs.ToldLaws.{flag-small}
 use borrow.Author.Needs.{needs}
 use Rattle.lanternrung.proofs.exports.number_fields.Statement.{statement}
 use Rattle.lanternrung.proofs.exports.number_fields.Tie as tie

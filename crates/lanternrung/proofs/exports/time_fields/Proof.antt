@@ -3,7 +3,7 @@ use mathlib.Core.Path.{sym, ap, _∙_, subst}
 use mir.Syntax.{w32}
 use mir.Val.{SFits}
 use Rattle.lanternrung.specs.Told.{datedFields, timeFields}
-use Rattle.lanternrung.proofs.Passing.{same16, wider, passed}
+use Rattle.lanternrung.proofs.ToldLaws.{same16, wider, passed}
 use borrow.Author.Needs.{needs}
 use Rattle.lanternrung.proofs.exports.time_fields.Statement.{statement}
 use Rattle.lanternrung.proofs.exports.time_fields.Tie as tie

@@ -1,10 +1,10 @@
-use Rattle.reader.proofs.Heads.{binary-whole, binary-refused}
+use Rattle.reader.proofs.CursorHeadLaws.{binary-whole, binary-refused}
 use borrow.Author.Needs.{needs}
 use Rattle.reader.proofs.cursor.binary.Statement.{statement}
 use Rattle.reader.proofs.cursor.binary.Tie as tie
 use Rattle.reader.proofs.cursor.binary.Reads as reads
 use Rattle.reader.proofs.cursor.binary.Lts as lts
-use Rattle.reader.proofs.joins.binary.Reads as binary-reads
+use Rattle.reader.proofs.joined.binary.Reads as binary-reads
 
 binary-requires : tie.Need-binary-requires
 binary-requires c κs = search needs

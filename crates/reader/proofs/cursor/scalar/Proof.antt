@@ -3,9 +3,9 @@ use mathlib.Core.Path.{refl}
 use mathlib.Core.Bool.{true, false}
 use Rattle.meaning.specs.Letters.{letters, ch}
 use Rattle.meaning.specs.Meaning.{Meaning}
-use Rattle.items.specs.Numerics.{Means}
+use Rattle.items.specs.Between.NumberOrTime.{Means}
 use Rattle.items.specs.declared.Item.{Item}
-use Rattle.reader.proofs.Heads.{of-word, at-word, of-numeric}
+use Rattle.reader.proofs.CursorHeadLaws.{of-word, at-word, of-numeric}
 use borrow.Author.Needs.{needs}
 use Rattle.reader.proofs.cursor.scalar.Statement.{statement}
 use Rattle.reader.proofs.cursor.scalar.Tie as tie
@@ -14,7 +14,7 @@ use Rattle.reader.proofs.cursor.scalar.Lts as lts
 use Rattle.reader.proofs.cursor.binary.Reads as binary-reads
 use Rattle.reader.proofs.cursor.spelt.Reads as spelt-reads
 use Rattle.reader.proofs.cursor.string.Reads as string-reads
-use Rattle.items.proofs.numerics.numeric.Reads as numeric-reads
+use Rattle.items.proofs.number_or_time.numeric.Reads as numeric-reads
 
 shared-slice-read-b : tie.Need-shared-slice-read-b
 shared-slice-read-b c = search needs

@@ -4,7 +4,7 @@ use Rattle.reader.proofs.cursor.spelt.Statement.{statement}
 use Rattle.reader.proofs.cursor.spelt.Tie as tie
 use Rattle.reader.proofs.cursor.spelt.Reads as reads
 use Rattle.reader.proofs.cursor.spelt.Lts as lts
-use Rattle.items.proofs.words.spell.Reads as spell-reads
+use Rattle.items.proofs.word.spell.Reads as spell-reads
 
 spell-requires : tie.Need-spell-requires
 spell-requires c κs = search needs

@@ -1,10 +1,10 @@
-use Rattle.reader.proofs.Heads.{string-whole, string-refused}
+use Rattle.reader.proofs.CursorHeadLaws.{string-whole, string-refused}
 use borrow.Author.Needs.{needs}
 use Rattle.reader.proofs.cursor.string.Statement.{statement}
 use Rattle.reader.proofs.cursor.string.Tie as tie
 use Rattle.reader.proofs.cursor.string.Reads as reads
 use Rattle.reader.proofs.cursor.string.Lts as lts
-use Rattle.reader.proofs.joins.string.Reads as string-reads
+use Rattle.reader.proofs.joined.string.Reads as string-reads
 
 string-requires : tie.Need-string-requires
 string-requires c κs = search needs

@@ -2,7 +2,7 @@
 use Prim.Native.Nat.{ℕ, _+_, _-_, _≤_, _<_}
 use native.Mathlib.Omega.{arith}
 use lib.ListN.{length}
-use Rattle.rules.specs.Posts.{Passed}
+use Rattle.rules.specs.Between.Posts.{Passed}
 use Rattle.rules.proofs.Runs.{passed-none, passed-char, char-room}
 use Rattle.rules.proofs.Opens.{Settled, settled-none, settled-char, begun-here}
 use Rattle.rules.proofs.blocks.begun.Statement.{statement}

@@ -1,6 +1,6 @@
 -- A block of ASCII after a character that has ended has no fault; another is tested byte by byte. Assumes nothing.
 use native.Mathlib.Omega.{arith}
-use Rattle.rules.specs.Beside.{plain, wide, faulty}
+use Rattle.rules.specs.Between.Beside.{plain, wide, faulty}
 use Rattle.rules.proofs.Opens.{topped, ascii-32, clean-ascii}
 use borrow.Author.Needs.{needs}
 use Rattle.rules.proofs.blocks.block_at.Statement.{statement}

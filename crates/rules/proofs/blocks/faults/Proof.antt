@@ -2,7 +2,7 @@
 use mathlib.Core.Path.{_≡_}
 use Prim.Native.Nat.{ℕ, _+_, _-_, _≤_, _<_}
 use native.Mathlib.Omega.{arith}
-use Rattle.rules.specs.Beside.{Clean}
+use Rattle.rules.specs.Between.Beside.{Clean}
 use Rattle.rules.proofs.Opens.{clean-none, clean-next, clean-all}
 use Rattle.rules.proofs.blocks.faults.Statement.{statement}
 use Rattle.rules.proofs.blocks.faults.Tie as tie

@@ -3,7 +3,7 @@ use borrow.Author.Needs.{needs}
 use Prim.Native.Nat.{ℕ, _+_, _-_, _≤_, _<_}
 use native.Mathlib.Omega.{arith}
 use lib.ListN.{length}
-use Rattle.rules.specs.Beside.{Open}
+use Rattle.rules.specs.Between.Beside.{Open}
 use Rattle.rules.proofs.Opens.{open-room, ahead, plain-on, wide-on}
 use Rattle.rules.proofs.blocks.wide_run.Statement.{statement}
 use Rattle.rules.proofs.blocks.wide_run.Tie as tie

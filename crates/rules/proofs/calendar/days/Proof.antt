@@ -7,31 +7,24 @@ use Rattle.rules.proofs.calendar.days.Reads as reads
 use Rattle.rules.proofs.calendar.days.Lts as lts
 use Rattle.rules.proofs.calendar.is_leap.Reads as is-leap-reads
 
--- src/calendar.rt:18:9
 returns : tie.Need-returns
 returns c = past-december _ _ (c .if1 .taken)
 
--- src/calendar.rt:21:12
 is-leap-requires : tie.Need-is-leap-requires
 is-leap-requires c κs = search needs
 
--- src/calendar.rt:22:13
 returns-2 : tie.Need-returns-2
 returns-2 c = february-is _ _ (c .before .before .if2 .taken) (c .if3 .taken) (c .before .is-leap .ensures)
 
--- src/calendar.rt:24:9
 returns-3 : tie.Need-returns-3
 returns-3 c = february-is _ _ (c .before .before .if2 .taken) (c .if3 .left) (c .before .is-leap .ensures)
 
--- src/calendar.rt:26:5
 mul-result : tie.Need-mul-result
 mul-result c = search needs
 
--- src/calendar.rt:26:5
 array-read-result : tie.Need-array-read-result
 array-read-result c = search needs
 
--- src/calendar.rt:14:1
 returns-4 : tie.Need-returns-4
 returns-4 c = row _ _ (c .before .if1 .left) (c .if2 .left)
 

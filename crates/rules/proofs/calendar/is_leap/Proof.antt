@@ -5,15 +5,12 @@ use Rattle.rules.proofs.calendar.is_leap.Tie as tie
 use Rattle.rules.proofs.calendar.is_leap.Reads as reads
 use Rattle.rules.proofs.calendar.is_leap.Lts as lts
 
--- src/calendar.rt:7:1
 returns : tie.Need-returns
 returns c = leap-fourth _ (c .before .if1 .taken) (c .if2 .taken)
 
--- src/calendar.rt:7:1
 returns-2 : tie.Need-returns-2
 returns-2 c = leap-hundred _ (c .before .if1 .taken) (c .if2 .left)
 
--- src/calendar.rt:7:1
 returns-3 : tie.Need-returns-3
 returns-3 c = leap-none _ (c .if1 .left)
 

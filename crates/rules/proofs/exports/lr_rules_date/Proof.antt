@@ -8,23 +8,18 @@ use Rattle.rules.proofs.exports.lr_rules_date.Reads as reads
 use Rattle.rules.proofs.exports.lr_rules_date.Lts as lts
 use Rattle.rules.proofs.date.Reads as date-reads
 
--- src/exports.rt:34:11
 date-requires : tie.Need-date-requires
 date-requires c κs = search needs
 
--- src/exports.rt:35:29
 enum-told : tie.Need-enum-told
 enum-told c = search needs
 
--- src/exports.rt:39:31
 enum-told-2 : tie.Need-enum-told-2
 enum-told-2 c = search needs
 
--- src/exports.rt:30:1
 returns : tie.Need-returns
 returns c = date-told _ _ _ _ Done (c .before .before .date .ensures) (c .enum-told .given .1)
 
--- src/exports.rt:30:1
 returns-2 : tie.Need-returns-2
 returns-2 c = date-told _ _ _ _ NoDate (c .before .before .date .ensures) (c .enum-told2 .given .1)
 

@@ -8,23 +8,18 @@ use Rattle.rules.proofs.exports.lr_rules_utf8.Reads as reads
 use Rattle.rules.proofs.exports.lr_rules_utf8.Lts as lts
 use Rattle.rules.proofs.utf8.Reads as utf8-reads
 
--- src/exports.rt:18:11
 utf8-requires : tie.Need-utf8-requires
 utf8-requires c κs = search needs
 
--- src/exports.rt:19:29
 enum-told : tie.Need-enum-told
 enum-told c = search needs
 
--- src/exports.rt:23:31
 enum-known-at : tie.Need-enum-known-at
 enum-known-at c = search needs
 
--- src/exports.rt:14:1
 returns : tie.Need-returns
 returns c = utf8-told _ _ Done (c .before .before .utf8 .ensures) (c .enum-told .given .1)
 
--- src/exports.rt:14:1
 returns-2 : tie.Need-returns-2
 returns-2 c =
     utf8-told _ _ (IllFormed (c .before .at .given .0 .0)) (c .before .before .before .utf8 .ensures) (c .before .at .given .1)

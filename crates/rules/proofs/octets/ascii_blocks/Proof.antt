@@ -2,7 +2,7 @@
 use Prim.Native.Nat.{ℕ, _+_, _-_, _≤_, _<_}
 use native.Mathlib.Omega.{arith}
 use lib.ListN.{length}
-use Rattle.rules.specs.Posts.{Ascii}
+use Rattle.rules.specs.Between.Posts.{Ascii}
 use Rattle.rules.proofs.Runs.{ascii-none, ascii-join, ascii-block}
 use Rattle.rules.proofs.octets.ascii_blocks.Statement.{statement}
 use Rattle.rules.proofs.octets.ascii_blocks.Tie as tie

@@ -2,7 +2,7 @@
 use Prim.Native.Nat.{ℕ, _+_, _-_, _≤_, _<_}
 use native.Mathlib.Omega.{arith}
 use lib.ListN.{length, getD}
-use Rattle.rules.specs.Posts.{Ascii}
+use Rattle.rules.specs.Between.Posts.{Ascii}
 use Rattle.rules.proofs.Runs.{ascii-none, ascii-more}
 use Rattle.rules.proofs.octets.ascii_bytes.Statement.{statement}
 use Rattle.rules.proofs.octets.ascii_bytes.Tie as tie
@@ -15,31 +15,24 @@ Inv-loop s from i₀ i = Ascii s from i
 abbrev μ-loop : tie.MeasureT-loop
 μ-loop s from i₀ i = length s - i
 
--- src/octets.rt:30:5
 loop-holds : tie.Need-loop-holds Inv-loop μ-loop
 loop-holds c = ascii-none _ _ (c .pre)
 
--- src/octets.rt:31:12
 shared-slice-read-if1 : tie.Need-shared-slice-read-if1 Inv-loop μ-loop
 shared-slice-read-if1 c = omega arith
 
--- src/octets.rt:32:13
 returns : tie.Need-returns Inv-loop μ-loop
 returns c = c .before .before .before .loop .inv
 
--- src/octets.rt:34:9
 add-i : tie.Need-add-i Inv-loop μ-loop
 add-i c = omega arith
 
--- src/octets.rt:30:5
 loop-less : tie.Need-loop-less Inv-loop μ-loop
 loop-less c = omega arith
 
--- src/octets.rt:30:5
 loop-again : tie.Need-loop-again Inv-loop μ-loop
 loop-again c = ascii-more _ _ _ (c .before .before .before .loop .inv) (omega arith) (c .if1 .left)
 
--- src/octets.rt:25:1
 returns-2 : tie.Need-returns-2 Inv-loop μ-loop
 returns-2 c = c .before .loop .inv
 

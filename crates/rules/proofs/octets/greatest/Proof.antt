@@ -3,7 +3,7 @@ use Prim.Native.Nat.{ℕ, _+_, _-_, _≤_, _<_}
 use native.Mathlib.Omega.{arith}
 use mathlib.Core.Logic.{⊎-elim}
 use lib.ListN.{length, getD}
-use Rattle.rules.specs.Posts.{AtMost}
+use Rattle.rules.specs.Between.Posts.{AtMost}
 use Rattle.rules.proofs.Runs.{at-most-none, at-most-more, at-most-all}
 use Rattle.rules.proofs.octets.greatest.Statement.{statement}
 use Rattle.rules.proofs.octets.greatest.Tie as tie
@@ -16,27 +16,21 @@ Inv-loop s at most₀ k₀ most k = (k ≤ 32) × AtMost s at k most
 abbrev μ-loop : tie.MeasureT-loop
 μ-loop s at most₀ k₀ most k = 32 - k
 
--- src/octets.rt:14:5
 loop-holds : tie.Need-loop-holds Inv-loop μ-loop
 loop-holds c = (omega arith, at-most-none _ _ _)
 
--- src/octets.rt:15:19
 add-b : tie.Need-add-b Inv-loop μ-loop
 add-b c = omega arith
 
--- src/octets.rt:15:17
 shared-slice-read-b : tie.Need-shared-slice-read-b Inv-loop μ-loop
 shared-slice-read-b c = omega arith
 
--- src/octets.rt:19:9
 add-k : tie.Need-add-k Inv-loop μ-loop
 add-k c = omega arith
 
--- src/octets.rt:14:5
 loop-less : tie.Need-loop-less Inv-loop μ-loop
 loop-less c = omega arith
 
--- src/octets.rt:14:5
 loop-again : tie.Need-loop-again Inv-loop μ-loop
 loop-again c = (
   omega arith,
@@ -44,7 +38,6 @@ loop-again c = (
       (λ w. at-most-more _ _ _ _ _ (c .before .before .before .loop .inv .1) (omega arith) (omega arith)) (c .if1 .came),
 )
 
--- src/octets.rt:8:1
 returns : tie.Need-returns Inv-loop μ-loop
 returns c = at-most-all _ _ _ _ (c .before .loop .inv .0) (c .loop-test .left) (c .before .loop .inv .1)
 

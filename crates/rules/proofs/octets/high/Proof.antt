@@ -1,5 +1,5 @@
 use mathlib.Core.Path.{sym, ap, _∙_}
-use Rattle.rules.specs.Posts.{highOf}
+use Rattle.rules.specs.Between.Posts.{highOf}
 use Rattle.rules.proofs.Places.{high-ed, high-f4, high-else}
 use Rattle.rules.proofs.octets.high.Statement.{statement}
 use Rattle.rules.proofs.octets.high.Tie as tie

@@ -1,5 +1,5 @@
 use mathlib.Core.Path.{sym, ap, _∙_}
-use Rattle.rules.specs.Posts.{lowOf}
+use Rattle.rules.specs.Between.Posts.{lowOf}
 use Rattle.rules.proofs.Places.{low-e0, low-f0, low-else}
 use Rattle.rules.proofs.octets.low.Statement.{statement}
 use Rattle.rules.proofs.octets.low.Tie as tie

@@ -1,5 +1,5 @@
 -- `magnitude` is safe: the laws of `writer`'s signed numbers. Assumes nothing.
-use Rattle.writer.proofs.Signs.{less-fits, less-cast, less-small, plain-cast}
+use Rattle.writer.proofs.NumberSignLaws.{less-fits, less-cast, less-small, plain-cast}
 use Rattle.samples.proofs.showing.magnitude.Statement.{statement}
 use Rattle.samples.proofs.showing.magnitude.Tie as tie
 

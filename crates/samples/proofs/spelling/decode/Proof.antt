@@ -1,4 +1,4 @@
--- `decode` stays within the output, and each turn goes on in what is spelled. Assumes nothing.
+-- `decode` stays within the output, and each round goes on in what is spelled. Assumes nothing.
 use Prim.Native.Nat.{_-_, _≤_}
 use mathlib.Core.Path.{_≡_}
 use native.Mathlib.Omega.{arith}

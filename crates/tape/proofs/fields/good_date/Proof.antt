@@ -1,5 +1,5 @@
 -- `fields::good_date`: what the calendar says. Assumes nothing.
-use Rattle.tape.proofs.Ranges.{is-date, is-no-date}
+use Rattle.tape.proofs.FieldsRangeLaws.{is-date, is-no-date}
 use borrow.Author.Needs.{needs}
 use Rattle.tape.proofs.fields.good_date.Statement.{statement}
 use Rattle.tape.proofs.fields.good_date.Tie as tie

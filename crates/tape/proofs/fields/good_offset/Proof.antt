@@ -1,7 +1,7 @@
 -- `fields::good_offset`: both bounds. Assumes nothing.
 use mir.Syntax.{w16}
-use Rattle.tape.specs.Fields.{fails}
-use Rattle.tape.proofs.Ranges.{too-low-bits, in-range-bits}
+use Rattle.tape.specs.Between.Fields.{fails}
+use Rattle.tape.proofs.FieldsRangeLaws.{too-low-bits, in-range-bits}
 use Rattle.tape.proofs.fields.good_offset.Statement.{statement}
 use Rattle.tape.proofs.fields.good_offset.Tie as tie
 

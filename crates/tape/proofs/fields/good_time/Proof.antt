@@ -1,8 +1,8 @@
 -- `fields::good_time`: by cases. Assumes nothing.
 use mir.Syntax.{w16}
 use mir.ValLaws.{toZ-ofZ}
-use Rattle.tape.specs.Fields.{fails}
-use Rattle.tape.proofs.Deciding.{held, failed, decides-as}
+use Rattle.tape.specs.Between.Fields.{fails}
+use Rattle.tape.proofs.FieldsLaws.{held, failed, decides-as}
 use borrow.Author.Needs.{needs}
 use Rattle.tape.proofs.fields.good_time.Statement.{statement}
 use Rattle.tape.proofs.fields.good_time.Tie as tie

@@ -3,7 +3,7 @@ use Prim.Native.Nat.{_-_, _/_}
 use mathlib.Core.Path.{sym, _∙_}
 use native.Mathlib.Omega.{arith}
 use lib.ListN.{length}
-use Rattle.writer.proofs.Walking.{Searching, search-begin, search-on, search-stop, search-end}
+use Rattle.writer.proofs.WalkLaws.{Searching, search-begin, search-on, search-stop, search-end}
 use borrow.Author.Needs.{needs}
 use Rattle.writer.proofs.walk.first_formless.Statement.{statement}
 use Rattle.writer.proofs.walk.first_formless.Tie as tie

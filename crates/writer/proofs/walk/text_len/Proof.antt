@@ -2,7 +2,7 @@
 use Prim.Native.Nat.{_-_, _/_}
 use native.Mathlib.Omega.{arith}
 use lib.ListN.{length}
-use Rattle.writer.proofs.Walking.{Summing, sum-begin, sum-more, sum-small, sum-some, sum-is, read-bytes, store-small, few-records}
+use Rattle.writer.proofs.WalkLaws.{Summing, sum-begin, sum-more, sum-small, sum-some, sum-is, read-bytes, store-small, few-records}
 use borrow.Author.Needs.{needs}
 use Rattle.writer.proofs.walk.text_len.Statement.{statement}
 use Rattle.writer.proofs.walk.text_len.Tie as tie

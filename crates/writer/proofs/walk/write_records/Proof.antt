@@ -3,7 +3,7 @@ use Prim.Native.Nat.{_+_, _-_, _*_, _/_}
 use mathlib.Core.Path.{refl}
 use native.Mathlib.Omega.{arith}
 use lib.ListN.{length}
-use Rattle.writer.proofs.Walking.{Walking, walk-begin, walk-length, walk-done, walk-byte, walk-close, walk-inside, walk-comma, walk-bytes, walk-piece, walk-pass, walk-shallow, walk-open, few-records}
+use Rattle.writer.proofs.WalkLaws.{Walking, walk-begin, walk-length, walk-done, walk-byte, walk-close, walk-inside, walk-comma, walk-bytes, walk-piece, walk-pass, walk-shallow, walk-open, few-records}
 use borrow.Author.Needs.{needs}
 use Rattle.writer.proofs.walk.write_records.Statement.{statement}
 use Rattle.writer.proofs.walk.write_records.Tie as tie
@@ -78,8 +78,8 @@ record-at-requires c κs = walk-inside (c .before .before .before .before .befor
 printed-at-requires : tie.Need-printed-at-requires Inv-loop μ-loop
 printed-at-requires c κs = (walk-bytes (c .before .before .before .before .before .before .before .before .before .before .before .args .tape .now) (c .before .before .before .before .before .before .before .before .before .before .before .args .store .now) (c .before .before .before .before .before .before .before .before .before .before .before .args .out .now) (c .before .before .before .before .before .before .before .loop .inv) (c .before .before .before .before .before .before .if1 .left) _ (c .before .record-at .ensures), walk-piece (c .before .before .before .before .before .before .before .before .before .before .before .args .tape .now) (c .before .before .before .before .before .before .before .before .before .before .before .args .store .now) (c .before .before .before .before .before .before .before .before .before .before .before .args .out .now) (c .before .before .before .before .before .before .before .loop .inv) (c .before .before .before .before .before .before .if1 .left) (c .before .before .before .before .comma-at .ensures) _ (c .before .record-at .ensures))
 
-turn-requires : tie.Need-turn-requires Inv-loop μ-loop
-turn-requires c κs = search needs
+effect-of-requires : tie.Need-effect-of-requires Inv-loop μ-loop
+effect-of-requires c κs = search needs
 
 enum-known-due : tie.Need-enum-known-due Inv-loop μ-loop
 enum-known-due c = search needs
@@ -99,22 +99,22 @@ loop-less-2 c =
     omega (arith, (walk-inside (args .tape .now) (args .store .now) (args .out .now) (loop .inv) (if1 .left)))
 
 loop-again-2 : tie.Need-loop-again-2 Inv-loop μ-loop
-loop-again-2 c = walk-pass (c .before .before .before .before .before .before .before .before .before .before .before .before .before .before .before .before .before .before .args .tape .now) (c .before .before .before .before .before .before .before .before .before .before .before .before .before .before .before .before .before .before .args .store .now) (c .before .before .before .before .before .before .before .before .before .before .before .before .before .before .before .before .before .before .args .out .now) (c .before .before .before .before .before .before .before .before .before .before .before .before .before .before .loop .inv) (c .before .before .before .before .before .before .before .before .before .before .before .before .before .if1 .left) (c .before .before .before .before .before .before .before .before .before .before .before .comma-at .ensures) _ (c .before .before .before .before .before .before .before .before .record-at .ensures) (c .before .before .before .before .before .before .printed-at .ensures) _ (c .before .before .before .turn .ensures) _ (c .before .due .given .1)
+loop-again-2 c = walk-pass (c .before .before .before .before .before .before .before .before .before .before .before .before .before .before .before .before .before .before .args .tape .now) (c .before .before .before .before .before .before .before .before .before .before .before .before .before .before .before .before .before .before .args .store .now) (c .before .before .before .before .before .before .before .before .before .before .before .before .before .before .before .before .before .before .args .out .now) (c .before .before .before .before .before .before .before .before .before .before .before .before .before .before .loop .inv) (c .before .before .before .before .before .before .before .before .before .before .before .before .before .if1 .left) (c .before .before .before .before .before .before .before .before .before .before .before .comma-at .ensures) _ (c .before .before .before .before .before .before .before .before .record-at .ensures) (c .before .before .before .before .before .before .printed-at .ensures) _ (c .before .before .before .effect-of .ensures) _ (c .before .due .given .1)
 
 enum-known-last : tie.Need-enum-known-last Inv-loop μ-loop
 enum-known-last c = search needs
 
 mul-ends : tie.Need-mul-ends Inv-loop μ-loop
-mul-ends c = omega (arith, walk-shallow (c .before .before .before .before .before .before .before .before .before .before .before .before .before .before .before .before .before .before .args .tape .now) (c .before .before .before .before .before .before .before .before .before .before .before .before .before .before .before .before .before .before .args .store .now) (c .before .before .before .before .before .before .before .before .before .before .before .before .before .before .before .before .before .before .args .out .now) (c .before .before .before .before .before .before .before .before .before .before .before .before .before .before .loop .inv) (c .before .before .before .before .before .before .before .before .before .before .before .before .before .if1 .left) (c .before .before .before .before .before .before .before .before .before .before .before .comma-at .ensures) _ (c .before .before .before .before .before .before .before .before .record-at .ensures) (c .before .before .before .before .before .before .printed-at .ensures) _ (c .before .before .before .turn .ensures) _ _ (c .before .last .given .1))
+mul-ends c = omega (arith, walk-shallow (c .before .before .before .before .before .before .before .before .before .before .before .before .before .before .before .before .before .before .args .tape .now) (c .before .before .before .before .before .before .before .before .before .before .before .before .before .before .before .before .before .before .args .store .now) (c .before .before .before .before .before .before .before .before .before .before .before .before .before .before .before .before .before .before .args .out .now) (c .before .before .before .before .before .before .before .before .before .before .before .before .before .before .loop .inv) (c .before .before .before .before .before .before .before .before .before .before .before .before .before .if1 .left) (c .before .before .before .before .before .before .before .before .before .before .before .comma-at .ensures) _ (c .before .before .before .before .before .before .before .before .record-at .ensures) (c .before .before .before .before .before .before .printed-at .ensures) _ (c .before .before .before .effect-of .ensures) _ _ (c .before .last .given .1))
 
 array-write-ends : tie.Need-array-write-ends Inv-loop μ-loop
-array-write-ends c = omega (arith, walk-shallow (c .before .before .before .before .before .before .before .before .before .before .before .before .before .before .before .before .before .before .args .tape .now) (c .before .before .before .before .before .before .before .before .before .before .before .before .before .before .before .before .before .before .args .store .now) (c .before .before .before .before .before .before .before .before .before .before .before .before .before .before .before .before .before .before .args .out .now) (c .before .before .before .before .before .before .before .before .before .before .before .before .before .before .loop .inv) (c .before .before .before .before .before .before .before .before .before .before .before .before .before .if1 .left) (c .before .before .before .before .before .before .before .before .before .before .before .comma-at .ensures) _ (c .before .before .before .before .before .before .before .before .record-at .ensures) (c .before .before .before .before .before .before .printed-at .ensures) _ (c .before .before .before .turn .ensures) _ _ (c .before .last .given .1))
+array-write-ends c = omega (arith, walk-shallow (c .before .before .before .before .before .before .before .before .before .before .before .before .before .before .before .before .before .before .args .tape .now) (c .before .before .before .before .before .before .before .before .before .before .before .before .before .before .before .before .before .before .args .store .now) (c .before .before .before .before .before .before .before .before .before .before .before .before .before .before .before .before .before .before .args .out .now) (c .before .before .before .before .before .before .before .before .before .before .before .before .before .before .loop .inv) (c .before .before .before .before .before .before .before .before .before .before .before .before .before .if1 .left) (c .before .before .before .before .before .before .before .before .before .before .before .comma-at .ensures) _ (c .before .before .before .before .before .before .before .before .record-at .ensures) (c .before .before .before .before .before .before .printed-at .ensures) _ (c .before .before .before .effect-of .ensures) _ _ (c .before .last .given .1))
 
 array-write-closers : tie.Need-array-write-closers Inv-loop μ-loop
-array-write-closers c = omega (arith, walk-shallow (c .before .before .before .before .before .before .before .before .before .before .before .before .before .before .before .before .before .before .args .tape .now) (c .before .before .before .before .before .before .before .before .before .before .before .before .before .before .before .before .before .before .args .store .now) (c .before .before .before .before .before .before .before .before .before .before .before .before .before .before .before .before .before .before .args .out .now) (c .before .before .before .before .before .before .before .before .before .before .before .before .before .before .loop .inv) (c .before .before .before .before .before .before .before .before .before .before .before .before .before .if1 .left) (c .before .before .before .before .before .before .before .before .before .before .before .comma-at .ensures) _ (c .before .before .before .before .before .before .before .before .record-at .ensures) (c .before .before .before .before .before .before .printed-at .ensures) _ (c .before .before .before .turn .ensures) _ _ (c .before .last .given .1))
+array-write-closers c = omega (arith, walk-shallow (c .before .before .before .before .before .before .before .before .before .before .before .before .before .before .before .before .before .before .args .tape .now) (c .before .before .before .before .before .before .before .before .before .before .before .before .before .before .before .before .before .before .args .store .now) (c .before .before .before .before .before .before .before .before .before .before .before .before .before .before .before .before .before .before .args .out .now) (c .before .before .before .before .before .before .before .before .before .before .before .before .before .before .loop .inv) (c .before .before .before .before .before .before .before .before .before .before .before .before .before .if1 .left) (c .before .before .before .before .before .before .before .before .before .before .before .comma-at .ensures) _ (c .before .before .before .before .before .before .before .before .record-at .ensures) (c .before .before .before .before .before .before .printed-at .ensures) _ (c .before .before .before .effect-of .ensures) _ _ (c .before .last .given .1))
 
 add-depth : tie.Need-add-depth Inv-loop μ-loop
-add-depth c = omega (arith, walk-shallow (c .before .before .before .before .before .before .before .before .before .before .before .before .before .before .before .before .before .before .args .tape .now) (c .before .before .before .before .before .before .before .before .before .before .before .before .before .before .before .before .before .before .args .store .now) (c .before .before .before .before .before .before .before .before .before .before .before .before .before .before .before .before .before .before .args .out .now) (c .before .before .before .before .before .before .before .before .before .before .before .before .before .before .loop .inv) (c .before .before .before .before .before .before .before .before .before .before .before .before .before .if1 .left) (c .before .before .before .before .before .before .before .before .before .before .before .comma-at .ensures) _ (c .before .before .before .before .before .before .before .before .record-at .ensures) (c .before .before .before .before .before .before .printed-at .ensures) _ (c .before .before .before .turn .ensures) _ _ (c .before .last .given .1))
+add-depth c = omega (arith, walk-shallow (c .before .before .before .before .before .before .before .before .before .before .before .before .before .before .before .before .before .before .args .tape .now) (c .before .before .before .before .before .before .before .before .before .before .before .before .before .before .before .before .before .before .args .store .now) (c .before .before .before .before .before .before .before .before .before .before .before .before .before .before .before .before .before .before .args .out .now) (c .before .before .before .before .before .before .before .before .before .before .before .before .before .before .loop .inv) (c .before .before .before .before .before .before .before .before .before .before .before .before .before .if1 .left) (c .before .before .before .before .before .before .before .before .before .before .before .comma-at .ensures) _ (c .before .before .before .before .before .before .before .before .record-at .ensures) (c .before .before .before .before .before .before .printed-at .ensures) _ (c .before .before .before .effect-of .ensures) _ _ (c .before .last .given .1))
 
 add-i-2 : tie.Need-add-i-2 Inv-loop μ-loop
 add-i-2 c =
@@ -131,7 +131,7 @@ loop-less-3 c =
     omega (arith, (walk-inside (args .tape .now) (args .store .now) (args .out .now) (loop .inv) (if1 .left)))
 
 loop-again-3 : tie.Need-loop-again-3 Inv-loop μ-loop
-loop-again-3 c = walk-open (c .before .before .before .before .before .before .before .before .before .before .before .before .before .before .before .before .before .before .args .tape .now) (c .before .before .before .before .before .before .before .before .before .before .before .before .before .before .before .before .before .before .args .store .now) (c .before .before .before .before .before .before .before .before .before .before .before .before .before .before .before .before .before .before .args .out .now) (c .before .before .before .before .before .before .before .before .before .before .before .before .before .before .loop .inv) (c .before .before .before .before .before .before .before .before .before .before .before .before .before .if1 .left) (c .before .before .before .before .before .before .before .before .before .before .before .comma-at .ensures) _ (c .before .before .before .before .before .before .before .before .record-at .ensures) (c .before .before .before .before .before .before .printed-at .ensures) _ (c .before .before .before .turn .ensures) _ _ (c .before .last .given .1)
+loop-again-3 c = walk-open (c .before .before .before .before .before .before .before .before .before .before .before .before .before .before .before .before .before .before .args .tape .now) (c .before .before .before .before .before .before .before .before .before .before .before .before .before .before .before .before .before .before .args .store .now) (c .before .before .before .before .before .before .before .before .before .before .before .before .before .before .before .before .before .before .args .out .now) (c .before .before .before .before .before .before .before .before .before .before .before .before .before .before .loop .inv) (c .before .before .before .before .before .before .before .before .before .before .before .before .before .if1 .left) (c .before .before .before .before .before .before .before .before .before .before .before .comma-at .ensures) _ (c .before .before .before .before .before .before .before .before .record-at .ensures) (c .before .before .before .before .before .before .printed-at .ensures) _ (c .before .before .before .effect-of .ensures) _ _ (c .before .last .given .1)
 
 pub write-records-spec : {M : Type 1} → statement M
 write-records-spec =
@@ -152,7 +152,7 @@ write-records-spec =
     comma-at-requires
     record-at-requires
     printed-at-requires
-    turn-requires
+    effect-of-requires
     enum-known-due
     add-i
     loop-less-2

@@ -8,12 +8,12 @@ use Rattle.meaning.specs.Letters.{ch}
 use Rattle.machine.specs.Machine.{square, curly}
 use Rattle.reader.specs.declared.cursor.Step.{Step}
 use Rattle.reader.specs.declared.cursor.Head.{Head}
-use Rattle.reader.specs.declared.cursor.Open.{Open}
+use Rattle.reader.specs.declared.cursor.Ahead.{Ahead}
 use Rattle.reader.specs.declared.cursor.After.{After}
 use Rattle.reader.specs.declared.cursor.Member.{Member}
-use Rattle.reader.specs.Scanning.{Shut}
-use Rattle.reader.specs.Cursors.{Begins, Named, Took, Moved, wants, Says, OpenSays, AfterSays, HeadSays, MemberSays}
-use Rattle.reader.proofs.Rounds.{Turn, Added, cursor, turn-first, turn-refused, turn-close, begins-at, content-ready, element-added, element-refused, added-refused, added-close, added-comma, member-at, member-added, member-refused, key-refused, named-at, took-item, opened-inner, opened-deep, says-inside}
+use Rattle.reader.specs.Between.Scanning.{Shut}
+use Rattle.reader.specs.Between.Cursor.{Begins, Named, Took, Moved, wants, Says, AheadSays, AfterSays, HeadSays, MemberSays}
+use Rattle.reader.proofs.CursorLoopLaws.{Round, Added, cursor, round-first, round-refused, round-close, begins-at, content-ready, element-added, element-refused, added-refused, added-close, added-comma, member-at, member-added, member-refused, key-refused, named-at, took-item, opened-inner, opened-deep, says-inside}
 use borrow.Fn.Kinds.{In}
 use borrow.Fn.PlainCycle.{Measures, is, falls, and}
 use Rattle.reader.proofs.cursor.Cursor.array.Reads as array
@@ -28,7 +28,7 @@ use Rattle.reader.proofs.cursor.Cursor.+array+object+value.Lts-value as
 use Rattle.reader.proofs.cursor.Cursor.after.Reads as after-reads
 use Rattle.reader.proofs.cursor.Cursor.head.Reads as head-reads
 use Rattle.reader.proofs.cursor.Cursor.member.Reads as member-reads
-use Rattle.reader.proofs.cursor.Cursor.open.Reads as open-reads
+use Rattle.reader.proofs.cursor.Cursor.ahead.Reads as ahead-reads
 use Rattle.reader.proofs.cursor.record_of.Reads as record-of-reads
 use Rattle.tape.proofs.put_record.Reads as put-record-reads
 use Rattle.reader.proofs.cursor.Cursor.+array+object+value.{statement}
@@ -62,411 +62,314 @@ abbrev value-below : ℕ → In 3 value-kinds.ps
 value-below t = and 3 value-kinds.ps (falls 3 value-kinds.ps _<_ μ-value t) value.Pre
 
 abbrev array-calls : ℕ → array-lts.Claims
-array-calls t = (open-reads.Asked, open-reads.Learnt, put-record-reads.Asked, put-record-reads.Learnt, value-below t, value.Post, after-reads.Asked, after-reads.Learnt)
+array-calls t = (ahead-reads.Asked, ahead-reads.Learnt, put-record-reads.Asked, put-record-reads.Learnt, value-below t, value.Post, after-reads.Asked, after-reads.Learnt)
 
 abbrev object-calls : ℕ → object-lts.Claims
-object-calls t = (open-reads.Asked, open-reads.Learnt, put-record-reads.Asked, put-record-reads.Learnt, member-reads.Asked, member-reads.Learnt, value-below t, value.Post, after-reads.Asked, after-reads.Learnt)
+object-calls t = (ahead-reads.Asked, ahead-reads.Learnt, put-record-reads.Asked, put-record-reads.Learnt, member-reads.Asked, member-reads.Learnt, value-below t, value.Post, after-reads.Asked, after-reads.Learnt)
 
 abbrev value-calls : ℕ → value-lts.Claims
 value-calls t = (head-reads.Asked, head-reads.Learnt, record-of-reads.Asked, record-of-reads.Learnt, put-record-reads.Asked, put-record-reads.Learnt, array-below t, array.Post, object-below t, object.Post)
 
 abbrev array-Inv-loop : array-lts.InvT-loop
-array-Inv-loop text depth tape₀ store₀ own at₀ records₀ stored₀ tape store at records stored = Turn text tape₀ tape store₀ store square at₀ own stored₀ depth at records stored × (length tape ≡ length tape₀) × (length store ≡ length store₀)
+array-Inv-loop text depth tape₀ store₀ own at₀ records₀ stored₀ tape store at records stored = Round text tape₀ tape store₀ store square at₀ own stored₀ depth at records stored × (length tape ≡ length tape₀) × (length store ≡ length store₀)
 
 abbrev array-μ-loop : array-lts.MeasureT-loop
 array-μ-loop text depth tape₀ store₀ own at₀ records₀ stored₀ tape store at records stored = length text - at
 
--- src/cursor.rt:129:27
 array-add-records : (t : ℕ) → array-lts.Need-add-records (array-calls t) (array-at t) array.Post array-Inv-loop array-μ-loop
 array-add-records t c = omega (arith, c .before .before .before .pre .1 .records, c .before .before .before .pre .1 .within)
 
--- src/cursor.rt:131:9
 array-loop-holds : (t : ℕ) → array-lts.Need-loop-holds (array-calls t) (array-at t) array.Post array-Inv-loop array-μ-loop
-array-loop-holds t c = (turn-first (c .before .before .before .args .text .now) (c .before .before .before .args .tape .now) (c .before .before .before .args .store .now) square (c .before .before .before .args .depth) (c .before .before .before .args .self) (c .before .before .before .pre .1), refl, refl)
+array-loop-holds t c = (round-first (c .before .before .before .args .text .now) (c .before .before .before .args .tape .now) (c .before .before .before .args .store .now) square (c .before .before .before .args .depth) (c .before .before .before .args .self) (c .before .before .before .pre .1), refl, refl)
 
--- src/cursor.rt:132:19
-array-open-requires : (t : ℕ) → array-lts.Need-open-requires (array-calls t) (array-at t) array.Post array-Inv-loop array-μ-loop
-array-open-requires t c κs = content-ready (c .loop .inv .0 .content)
+array-ahead-requires : (t : ℕ) → array-lts.Need-ahead-requires (array-calls t) (array-at t) array.Post array-Inv-loop array-μ-loop
+array-ahead-requires t c κs = content-ready (c .loop .inv .0 .content)
 
--- src/cursor.rt:133:31
 array-enum-known-why : (t : ℕ) → array-lts.Need-enum-known-why (array-calls t) (array-at t) array.Post array-Inv-loop array-μ-loop
 array-enum-known-why t c = search needs
 
--- src/cursor.rt:134:21
 array-same-length : (t : ℕ) → array-lts.Need-same-length (array-calls t) (array-at t) array.Post array-Inv-loop array-μ-loop
 array-same-length t c = c .before .before .before .before .loop .inv .1
 
--- src/cursor.rt:134:21
 array-same-length-2 : (t : ℕ) → array-lts.Need-same-length-2 (array-calls t) (array-at t) array.Post array-Inv-loop array-μ-loop
 array-same-length-2 t c = c .before .before .before .before .loop .inv .2
 
--- src/cursor.rt:134:21
 array-returns : (t : ℕ) → array-lts.Need-returns (array-calls t) (array-at t) array.Post array-Inv-loop array-μ-loop
-array-returns t c = turn-refused (c .before .before .before .before .loop .inv .0) (subst (λ (r : Open). OpenSays (c .before .before .before .before .before .before .before .before .args .text .now) (cursor (c .before .before .before .before .loop .at) (c .before .before .before .before .loop .records) (c .before .before .before .before .loop .stored)) (ch "]") r) (c .before .why .given .1) (c .before .before .before .«open» .ensures))
+array-returns t c = round-refused (c .before .before .before .before .loop .inv .0) (subst (λ (r : Ahead). AheadSays (c .before .before .before .before .before .before .before .before .args .text .now) (cursor (c .before .before .before .before .loop .at) (c .before .before .before .before .loop .records) (c .before .before .before .before .loop .stored)) (ch "]") r) (c .before .why .given .1) (c .before .before .before .ahead .ensures))
 
--- src/cursor.rt:136:29
 array-enum-known-next : (t : ℕ) → array-lts.Need-enum-known-next (array-calls t) (array-at t) array.Post array-Inv-loop array-μ-loop
 array-enum-known-next t c = search needs
 
--- src/cursor.rt:137:21
 array-put-record-requires : (t : ℕ) → array-lts.Need-put-record-requires (array-calls t) (array-at t) array.Post array-Inv-loop array-μ-loop
 array-put-record-requires t c κs = tt
 
--- src/cursor.rt:138:21
 array-same-length-3 : (t : ℕ) → array-lts.Need-same-length-3 (array-calls t) (array-at t) array.Post array-Inv-loop array-μ-loop
 array-same-length-3 t c = c .before .before .put-record .kept .0 ∙ c .before .before .before .before .before .before .before .before .loop .inv .1
 
--- src/cursor.rt:138:21
 array-same-length-4 : (t : ℕ) → array-lts.Need-same-length-4 (array-calls t) (array-at t) array.Post array-Inv-loop array-μ-loop
 array-same-length-4 t c = c .before .before .before .before .before .before .before .before .loop .inv .2
 
--- src/cursor.rt:138:21
 array-returns-2 : (t : ℕ) → array-lts.Need-returns-2 (array-calls t) (array-at t) array.Post array-Inv-loop array-μ-loop
-array-returns-2 t c = rw (c .before .before .put-record .ensures) (turn-close (c .before .before .before .before .before .before .before .before .loop .inv .0) (c .before .before .before .before .before .before .before .before .before .before .before .before .args .self) (c .before .before .before .before .before .next .given .0 .0) refl refl refl (subst (λ (r : Open). OpenSays (c .before .before .before .before .before .before .before .before .before .before .before .before .args .text .now) (cursor (c .before .before .before .before .before .before .before .before .loop .at) (c .before .before .before .before .before .before .before .before .loop .records) (c .before .before .before .before .before .before .before .before .loop .stored)) (ch "]") r) (c .before .before .before .before .before .next .given .1) (c .before .before .before .before .before .before .before .«open» .ensures)))
+array-returns-2 t c = rw (c .before .before .put-record .ensures) (round-close (c .before .before .before .before .before .before .before .before .loop .inv .0) (c .before .before .before .before .before .before .before .before .before .before .before .before .args .self) (c .before .before .before .before .before .next .given .0 .0) refl refl refl (subst (λ (r : Ahead). AheadSays (c .before .before .before .before .before .before .before .before .before .before .before .before .args .text .now) (cursor (c .before .before .before .before .before .before .before .before .loop .at) (c .before .before .before .before .before .before .before .before .loop .records) (c .before .before .before .before .before .before .before .before .loop .stored)) (ch "]") r) (c .before .before .before .before .before .next .given .1) (c .before .before .before .before .before .before .before .ahead .ensures)))
 
--- src/cursor.rt:140:28
 array-enum-known-first : (t : ℕ) → array-lts.Need-enum-known-first (array-calls t) (array-at t) array.Post array-Inv-loop array-μ-loop
 array-enum-known-first t c = search needs
 
--- src/cursor.rt:140:44
 array-value-requires : (t : ℕ) → array-lts.Need-value-requires (array-calls t) (array-at t) array.Post array-Inv-loop array-μ-loop
-array-value-requires t c κs = (omega (arith, c .before .before .before .before .before .before .before .before .before .before .pre .0), begins-at (c .before .before .before .before .before .before .loop .inv .0) (c .before .before .before .first .given .0 .0) (subst (λ (r : Open). OpenSays (c .before .before .before .before .before .before .before .before .before .before .args .text .now) (cursor (c .before .before .before .before .before .before .loop .at) (c .before .before .before .before .before .before .loop .records) (c .before .before .before .before .before .before .loop .stored)) (ch "]") r) (c .before .before .before .first .given .1) (c .before .before .before .before .before .«open» .ensures)))
+array-value-requires t c κs = (omega (arith, c .before .before .before .before .before .before .before .before .before .before .pre .0), begins-at (c .before .before .before .before .before .before .loop .inv .0) (c .before .before .before .first .given .0 .0) (subst (λ (r : Ahead). AheadSays (c .before .before .before .before .before .before .before .before .before .before .args .text .now) (cursor (c .before .before .before .before .before .before .loop .at) (c .before .before .before .before .before .before .loop .records) (c .before .before .before .before .before .before .loop .stored)) (ch "]") r) (c .before .before .before .first .given .1) (c .before .before .before .before .before .ahead .ensures)))
 
--- src/cursor.rt:141:35
 array-enum-known-why-2 : (t : ℕ) → array-lts.Need-enum-known-why-2 (array-calls t) (array-at t) array.Post array-Inv-loop array-μ-loop
 array-enum-known-why-2 t c = search needs
 
--- src/cursor.rt:142:25
 array-same-length-5 : (t : ℕ) → array-lts.Need-same-length-5 (array-calls t) (array-at t) array.Post array-Inv-loop array-μ-loop
 array-same-length-5 t c = c .before .before .before .before .before .before .before .value .kept .1 .1 .1 .0 ∙ c .before .before .before .before .before .before .before .before .before .before .before .before .before .before .loop .inv .1
 
--- src/cursor.rt:142:25
 array-same-length-6 : (t : ℕ) → array-lts.Need-same-length-6 (array-calls t) (array-at t) array.Post array-Inv-loop array-μ-loop
 array-same-length-6 t c = c .before .before .before .before .before .before .before .value .kept .1 .1 .1 .1 .0 ∙ c .before .before .before .before .before .before .before .before .before .before .before .before .before .before .loop .inv .2
 
--- src/cursor.rt:142:25
 array-returns-3 : (t : ℕ) → array-lts.Need-returns-3 (array-calls t) (array-at t) array.Post array-Inv-loop array-μ-loop
-array-returns-3 t c = element-refused (c .before .before .before .before .before .before .before .before .before .before .before .before .before .before .loop .inv .0) (c .before .before .before .before .before .before .before .before .before .before .before .first .given .0 .0) (subst (λ (r : Open). OpenSays (c .before .before .before .before .before .before .before .before .before .before .before .before .before .before .before .before .before .before .args .text .now) (cursor (c .before .before .before .before .before .before .before .before .before .before .before .before .before .before .loop .at) (c .before .before .before .before .before .before .before .before .before .before .before .before .before .before .loop .records) (c .before .before .before .before .before .before .before .before .before .before .before .before .before .before .loop .stored)) (ch "]") r) (c .before .before .before .before .before .before .before .before .before .before .before .first .given .1) (c .before .before .before .before .before .before .before .before .before .before .before .before .before .«open» .ensures)) (subst (λ (r : Step). Says (c .before .before .before .before .before .before .before .before .before .before .before .before .before .before .before .before .before .before .args .text .now) (wants (c .before .before .before .before .before .before .before .before .before .before .before .before .before .before .before .before .before .before .args .depth)) (λ k. Shut (c .before .before .before .before .before .before .before .before .before .before .before .before .before .before .before .before .before .before .args .text .now) ((c .before .before .before .before .before .before .before .before .before .before .before .first .given .0 .0) .at) (c .before .before .before .before .before .before .before .before .before .before .before .before .before .before .before .before .before .before .args .depth) k) (c .before .before .before .before .before .before .before .before .before .before .before .before .before .before .before .before .before .before .args .depth) (c .before .before .before .before .before .before .before .before .before .before .before .first .given .0 .0) (c .before .before .before .before .before .before .before .before .before .before .before .before .before .before .loop .tape) (c .before .before .before .before .before .before .before .value .last .1 .1 .1 .0) (c .before .before .before .before .before .before .before .before .before .before .before .before .before .before .loop .store) (c .before .before .before .before .before .before .before .value .last .1 .1 .1 .1 .0) r) (c .before .why2 .given .1) (c .before .before .before .before .before .before .before .value .ensures))
+array-returns-3 t c = element-refused (c .before .before .before .before .before .before .before .before .before .before .before .before .before .before .loop .inv .0) (c .before .before .before .before .before .before .before .before .before .before .before .first .given .0 .0) (subst (λ (r : Ahead). AheadSays (c .before .before .before .before .before .before .before .before .before .before .before .before .before .before .before .before .before .before .args .text .now) (cursor (c .before .before .before .before .before .before .before .before .before .before .before .before .before .before .loop .at) (c .before .before .before .before .before .before .before .before .before .before .before .before .before .before .loop .records) (c .before .before .before .before .before .before .before .before .before .before .before .before .before .before .loop .stored)) (ch "]") r) (c .before .before .before .before .before .before .before .before .before .before .before .first .given .1) (c .before .before .before .before .before .before .before .before .before .before .before .before .before .ahead .ensures)) (subst (λ (r : Step). Says (c .before .before .before .before .before .before .before .before .before .before .before .before .before .before .before .before .before .before .args .text .now) (wants (c .before .before .before .before .before .before .before .before .before .before .before .before .before .before .before .before .before .before .args .depth)) (λ k. Shut (c .before .before .before .before .before .before .before .before .before .before .before .before .before .before .before .before .before .before .args .text .now) ((c .before .before .before .before .before .before .before .before .before .before .before .first .given .0 .0) .at) (c .before .before .before .before .before .before .before .before .before .before .before .before .before .before .before .before .before .before .args .depth) k) (c .before .before .before .before .before .before .before .before .before .before .before .before .before .before .before .before .before .before .args .depth) (c .before .before .before .before .before .before .before .before .before .before .before .first .given .0 .0) (c .before .before .before .before .before .before .before .before .before .before .before .before .before .before .loop .tape) (c .before .before .before .before .before .before .before .value .last .1 .1 .1 .0) (c .before .before .before .before .before .before .before .before .before .before .before .before .before .before .loop .store) (c .before .before .before .before .before .before .before .value .last .1 .1 .1 .1 .0) r) (c .before .why2 .given .1) (c .before .before .before .before .before .before .before .value .ensures))
 
--- src/cursor.rt:144:33
 array-enum-known-last : (t : ℕ) → array-lts.Need-enum-known-last (array-calls t) (array-at t) array.Post array-Inv-loop array-μ-loop
 array-enum-known-last t c = search needs
 
--- src/cursor.rt:144:48
 array-after-requires : (t : ℕ) → array-lts.Need-after-requires (array-calls t) (array-at t) array.Post array-Inv-loop array-μ-loop
-array-after-requires t c κs = content-ready ((element-added (c .before .before .before .before .before .before .before .before .before .before .before .before .before .before .loop .inv .0) (c .before .before .before .before .before .before .before .before .before .before .before .first .given .0 .0) (c .before .last .given .0 .0) _ _ (subst (λ (r : Open). OpenSays (c .before .before .before .before .before .before .before .before .before .before .before .before .before .before .before .before .before .before .args .text .now) (cursor (c .before .before .before .before .before .before .before .before .before .before .before .before .before .before .loop .at) (c .before .before .before .before .before .before .before .before .before .before .before .before .before .before .loop .records) (c .before .before .before .before .before .before .before .before .before .before .before .before .before .before .loop .stored)) (ch "]") r) (c .before .before .before .before .before .before .before .before .before .before .before .first .given .1) (c .before .before .before .before .before .before .before .before .before .before .before .before .before .«open» .ensures)) (subst (λ (r : Step). Says (c .before .before .before .before .before .before .before .before .before .before .before .before .before .before .before .before .before .before .args .text .now) (wants (c .before .before .before .before .before .before .before .before .before .before .before .before .before .before .before .before .before .before .args .depth)) (λ k. Shut (c .before .before .before .before .before .before .before .before .before .before .before .before .before .before .before .before .before .before .args .text .now) ((c .before .before .before .before .before .before .before .before .before .before .before .first .given .0 .0) .at) (c .before .before .before .before .before .before .before .before .before .before .before .before .before .before .before .before .before .before .args .depth) k) (c .before .before .before .before .before .before .before .before .before .before .before .before .before .before .before .before .before .before .args .depth) (c .before .before .before .before .before .before .before .before .before .before .before .first .given .0 .0) (c .before .before .before .before .before .before .before .before .before .before .before .before .before .before .loop .tape) (c .before .before .before .before .before .before .before .value .last .1 .1 .1 .0) (c .before .before .before .before .before .before .before .before .before .before .before .before .before .before .loop .store) (c .before .before .before .before .before .before .before .value .last .1 .1 .1 .1 .0) r) (c .before .last .given .1) (c .before .before .before .before .before .before .before .value .ensures)) (c .before .before .before .before .before .before .before .value .kept .1 .1 .1 .0)) .content)
+array-after-requires t c κs = content-ready ((element-added (c .before .before .before .before .before .before .before .before .before .before .before .before .before .before .loop .inv .0) (c .before .before .before .before .before .before .before .before .before .before .before .first .given .0 .0) (c .before .last .given .0 .0) _ _ (subst (λ (r : Ahead). AheadSays (c .before .before .before .before .before .before .before .before .before .before .before .before .before .before .before .before .before .before .args .text .now) (cursor (c .before .before .before .before .before .before .before .before .before .before .before .before .before .before .loop .at) (c .before .before .before .before .before .before .before .before .before .before .before .before .before .before .loop .records) (c .before .before .before .before .before .before .before .before .before .before .before .before .before .before .loop .stored)) (ch "]") r) (c .before .before .before .before .before .before .before .before .before .before .before .first .given .1) (c .before .before .before .before .before .before .before .before .before .before .before .before .before .ahead .ensures)) (subst (λ (r : Step). Says (c .before .before .before .before .before .before .before .before .before .before .before .before .before .before .before .before .before .before .args .text .now) (wants (c .before .before .before .before .before .before .before .before .before .before .before .before .before .before .before .before .before .before .args .depth)) (λ k. Shut (c .before .before .before .before .before .before .before .before .before .before .before .before .before .before .before .before .before .before .args .text .now) ((c .before .before .before .before .before .before .before .before .before .before .before .first .given .0 .0) .at) (c .before .before .before .before .before .before .before .before .before .before .before .before .before .before .before .before .before .before .args .depth) k) (c .before .before .before .before .before .before .before .before .before .before .before .before .before .before .before .before .before .before .args .depth) (c .before .before .before .before .before .before .before .before .before .before .before .first .given .0 .0) (c .before .before .before .before .before .before .before .before .before .before .before .before .before .before .loop .tape) (c .before .before .before .before .before .before .before .value .last .1 .1 .1 .0) (c .before .before .before .before .before .before .before .before .before .before .before .before .before .before .loop .store) (c .before .before .before .before .before .before .before .value .last .1 .1 .1 .1 .0) r) (c .before .last .given .1) (c .before .before .before .before .before .before .before .value .ensures)) (c .before .before .before .before .before .before .before .value .kept .1 .1 .1 .0)) .content)
 
--- src/cursor.rt:145:40
 array-enum-known-why-3 : (t : ℕ) → array-lts.Need-enum-known-why-3 (array-calls t) (array-at t) array.Post array-Inv-loop array-μ-loop
 array-enum-known-why-3 t c = search needs
 
--- src/cursor.rt:146:29
 array-same-length-7 : (t : ℕ) → array-lts.Need-same-length-7 (array-calls t) (array-at t) array.Post array-Inv-loop array-μ-loop
 array-same-length-7 t c = c .before .before .before .before .before .before .before .before .before .before .before .value .kept .1 .1 .1 .0 ∙ c .before .before .before .before .before .before .before .before .before .before .before .before .before .before .before .before .before .before .loop .inv .1
 
--- src/cursor.rt:146:29
 array-same-length-8 : (t : ℕ) → array-lts.Need-same-length-8 (array-calls t) (array-at t) array.Post array-Inv-loop array-μ-loop
 array-same-length-8 t c = c .before .before .before .before .before .before .before .before .before .before .before .value .kept .1 .1 .1 .1 .0 ∙ c .before .before .before .before .before .before .before .before .before .before .before .before .before .before .before .before .before .before .loop .inv .2
 
--- src/cursor.rt:146:29
 array-returns-4 : (t : ℕ) → array-lts.Need-returns-4 (array-calls t) (array-at t) array.Post array-Inv-loop array-μ-loop
-array-returns-4 t c = added-refused (element-added (c .before .before .before .before .before .before .before .before .before .before .before .before .before .before .before .before .before .before .loop .inv .0) (c .before .before .before .before .before .before .before .before .before .before .before .before .before .before .before .first .given .0 .0) (c .before .before .before .before .before .last .given .0 .0) _ _ (subst (λ (r : Open). OpenSays (c .before .before .before .before .before .before .before .before .before .before .before .before .before .before .before .before .before .before .before .before .before .before .args .text .now) (cursor (c .before .before .before .before .before .before .before .before .before .before .before .before .before .before .before .before .before .before .loop .at) (c .before .before .before .before .before .before .before .before .before .before .before .before .before .before .before .before .before .before .loop .records) (c .before .before .before .before .before .before .before .before .before .before .before .before .before .before .before .before .before .before .loop .stored)) (ch "]") r) (c .before .before .before .before .before .before .before .before .before .before .before .before .before .before .before .first .given .1) (c .before .before .before .before .before .before .before .before .before .before .before .before .before .before .before .before .before .«open» .ensures)) (subst (λ (r : Step). Says (c .before .before .before .before .before .before .before .before .before .before .before .before .before .before .before .before .before .before .before .before .before .before .args .text .now) (wants (c .before .before .before .before .before .before .before .before .before .before .before .before .before .before .before .before .before .before .before .before .before .before .args .depth)) (λ k. Shut (c .before .before .before .before .before .before .before .before .before .before .before .before .before .before .before .before .before .before .before .before .before .before .args .text .now) ((c .before .before .before .before .before .before .before .before .before .before .before .before .before .before .before .first .given .0 .0) .at) (c .before .before .before .before .before .before .before .before .before .before .before .before .before .before .before .before .before .before .before .before .before .before .args .depth) k) (c .before .before .before .before .before .before .before .before .before .before .before .before .before .before .before .before .before .before .before .before .before .before .args .depth) (c .before .before .before .before .before .before .before .before .before .before .before .before .before .before .before .first .given .0 .0) (c .before .before .before .before .before .before .before .before .before .before .before .before .before .before .before .before .before .before .loop .tape) (c .before .before .before .before .before .before .before .before .before .before .before .value .last .1 .1 .1 .0) (c .before .before .before .before .before .before .before .before .before .before .before .before .before .before .before .before .before .before .loop .store) (c .before .before .before .before .before .before .before .before .before .before .before .value .last .1 .1 .1 .1 .0) r) (c .before .before .before .before .before .last .given .1) (c .before .before .before .before .before .before .before .before .before .before .before .value .ensures)) (c .before .before .before .before .before .before .before .before .before .before .before .value .kept .1 .1 .1 .0)) (subst (λ (r : After). AfterSays (c .before .before .before .before .before .before .before .before .before .before .before .before .before .before .before .before .before .before .before .before .before .before .args .text .now) (c .before .before .before .before .before .last .given .0 .0) (ch "]") r) (c .before .why3 .given .1) (c .before .before .before .after .ensures))
+array-returns-4 t c = added-refused (element-added (c .before .before .before .before .before .before .before .before .before .before .before .before .before .before .before .before .before .before .loop .inv .0) (c .before .before .before .before .before .before .before .before .before .before .before .before .before .before .before .first .given .0 .0) (c .before .before .before .before .before .last .given .0 .0) _ _ (subst (λ (r : Ahead). AheadSays (c .before .before .before .before .before .before .before .before .before .before .before .before .before .before .before .before .before .before .before .before .before .before .args .text .now) (cursor (c .before .before .before .before .before .before .before .before .before .before .before .before .before .before .before .before .before .before .loop .at) (c .before .before .before .before .before .before .before .before .before .before .before .before .before .before .before .before .before .before .loop .records) (c .before .before .before .before .before .before .before .before .before .before .before .before .before .before .before .before .before .before .loop .stored)) (ch "]") r) (c .before .before .before .before .before .before .before .before .before .before .before .before .before .before .before .first .given .1) (c .before .before .before .before .before .before .before .before .before .before .before .before .before .before .before .before .before .ahead .ensures)) (subst (λ (r : Step). Says (c .before .before .before .before .before .before .before .before .before .before .before .before .before .before .before .before .before .before .before .before .before .before .args .text .now) (wants (c .before .before .before .before .before .before .before .before .before .before .before .before .before .before .before .before .before .before .before .before .before .before .args .depth)) (λ k. Shut (c .before .before .before .before .before .before .before .before .before .before .before .before .before .before .before .before .before .before .before .before .before .before .args .text .now) ((c .before .before .before .before .before .before .before .before .before .before .before .before .before .before .before .first .given .0 .0) .at) (c .before .before .before .before .before .before .before .before .before .before .before .before .before .before .before .before .before .before .before .before .before .before .args .depth) k) (c .before .before .before .before .before .before .before .before .before .before .before .before .before .before .before .before .before .before .before .before .before .before .args .depth) (c .before .before .before .before .before .before .before .before .before .before .before .before .before .before .before .first .given .0 .0) (c .before .before .before .before .before .before .before .before .before .before .before .before .before .before .before .before .before .before .loop .tape) (c .before .before .before .before .before .before .before .before .before .before .before .value .last .1 .1 .1 .0) (c .before .before .before .before .before .before .before .before .before .before .before .before .before .before .before .before .before .before .loop .store) (c .before .before .before .before .before .before .before .before .before .before .before .value .last .1 .1 .1 .1 .0) r) (c .before .before .before .before .before .last .given .1) (c .before .before .before .before .before .before .before .before .before .before .before .value .ensures)) (c .before .before .before .before .before .before .before .before .before .before .before .value .kept .1 .1 .1 .0)) (subst (λ (r : After). AfterSays (c .before .before .before .before .before .before .before .before .before .before .before .before .before .before .before .before .before .before .before .before .before .before .args .text .now) (c .before .before .before .before .before .last .given .0 .0) (ch "]") r) (c .before .why3 .given .1) (c .before .before .before .after .ensures))
 
--- src/cursor.rt:148:38
 array-enum-known-next-2 : (t : ℕ) → array-lts.Need-enum-known-next-2 (array-calls t) (array-at t) array.Post array-Inv-loop array-μ-loop
 array-enum-known-next-2 t c = search needs
 
--- src/cursor.rt:149:29
 array-put-record-requires-2 : (t : ℕ) → array-lts.Need-put-record-requires-2 (array-calls t) (array-at t) array.Post array-Inv-loop array-μ-loop
 array-put-record-requires-2 t c κs = tt
 
--- src/cursor.rt:150:29
 array-same-length-9 : (t : ℕ) → array-lts.Need-same-length-9 (array-calls t) (array-at t) array.Post array-Inv-loop array-μ-loop
 array-same-length-9 t c = c .before .before .put-record2 .kept .0 ∙ c .before .before .before .before .before .before .before .before .before .before .before .before .before .before .before .value .kept .1 .1 .1 .0 ∙ c .before .before .before .before .before .before .before .before .before .before .before .before .before .before .before .before .before .before .before .before .before .before .loop .inv .1
 
--- src/cursor.rt:150:29
 array-same-length-10 : (t : ℕ) → array-lts.Need-same-length-10 (array-calls t) (array-at t) array.Post array-Inv-loop array-μ-loop
 array-same-length-10 t c = c .before .before .before .before .before .before .before .before .before .before .before .before .before .before .before .value .kept .1 .1 .1 .1 .0 ∙ c .before .before .before .before .before .before .before .before .before .before .before .before .before .before .before .before .before .before .before .before .before .before .loop .inv .2
 
--- src/cursor.rt:150:29
 array-returns-5 : (t : ℕ) → array-lts.Need-returns-5 (array-calls t) (array-at t) array.Post array-Inv-loop array-μ-loop
-array-returns-5 t c = rw (c .before .before .put-record2 .ensures) (added-close (element-added (c .before .before .before .before .before .before .before .before .before .before .before .before .before .before .before .before .before .before .before .before .before .before .loop .inv .0) (c .before .before .before .before .before .before .before .before .before .before .before .before .before .before .before .before .before .before .before .first .given .0 .0) (c .before .before .before .before .before .before .before .before .before .last .given .0 .0) _ _ (subst (λ (r : Open). OpenSays (c .before .before .before .before .before .before .before .before .before .before .before .before .before .before .before .before .before .before .before .before .before .before .before .before .before .before .args .text .now) (cursor (c .before .before .before .before .before .before .before .before .before .before .before .before .before .before .before .before .before .before .before .before .before .before .loop .at) (c .before .before .before .before .before .before .before .before .before .before .before .before .before .before .before .before .before .before .before .before .before .before .loop .records) (c .before .before .before .before .before .before .before .before .before .before .before .before .before .before .before .before .before .before .before .before .before .before .loop .stored)) (ch "]") r) (c .before .before .before .before .before .before .before .before .before .before .before .before .before .before .before .before .before .before .before .first .given .1) (c .before .before .before .before .before .before .before .before .before .before .before .before .before .before .before .before .before .before .before .before .before .«open» .ensures)) (subst (λ (r : Step). Says (c .before .before .before .before .before .before .before .before .before .before .before .before .before .before .before .before .before .before .before .before .before .before .before .before .before .before .args .text .now) (wants (c .before .before .before .before .before .before .before .before .before .before .before .before .before .before .before .before .before .before .before .before .before .before .before .before .before .before .args .depth)) (λ k. Shut (c .before .before .before .before .before .before .before .before .before .before .before .before .before .before .before .before .before .before .before .before .before .before .before .before .before .before .args .text .now) ((c .before .before .before .before .before .before .before .before .before .before .before .before .before .before .before .before .before .before .before .first .given .0 .0) .at) (c .before .before .before .before .before .before .before .before .before .before .before .before .before .before .before .before .before .before .before .before .before .before .before .before .before .before .args .depth) k) (c .before .before .before .before .before .before .before .before .before .before .before .before .before .before .before .before .before .before .before .before .before .before .before .before .before .before .args .depth) (c .before .before .before .before .before .before .before .before .before .before .before .before .before .before .before .before .before .before .before .first .given .0 .0) (c .before .before .before .before .before .before .before .before .before .before .before .before .before .before .before .before .before .before .before .before .before .before .loop .tape) (c .before .before .before .before .before .before .before .before .before .before .before .before .before .before .before .value .last .1 .1 .1 .0) (c .before .before .before .before .before .before .before .before .before .before .before .before .before .before .before .before .before .before .before .before .before .before .loop .store) (c .before .before .before .before .before .before .before .before .before .before .before .before .before .before .before .value .last .1 .1 .1 .1 .0) r) (c .before .before .before .before .before .before .before .before .before .last .given .1) (c .before .before .before .before .before .before .before .before .before .before .before .before .before .before .before .value .ensures)) (c .before .before .before .before .before .before .before .before .before .before .before .before .before .before .before .value .kept .1 .1 .1 .0)) (c .before .before .before .before .before .before .before .before .before .before .before .before .before .before .before .before .before .before .before .before .before .before .before .before .before .before .args .self) (c .before .before .before .before .before .next2 .given .0 .0) refl refl refl (subst (λ (r : After). AfterSays (c .before .before .before .before .before .before .before .before .before .before .before .before .before .before .before .before .before .before .before .before .before .before .before .before .before .before .args .text .now) (c .before .before .before .before .before .before .before .before .before .last .given .0 .0) (ch "]") r) (c .before .before .before .before .before .next2 .given .1) (c .before .before .before .before .before .before .before .after .ensures)))
+array-returns-5 t c = rw (c .before .before .put-record2 .ensures) (added-close (element-added (c .before .before .before .before .before .before .before .before .before .before .before .before .before .before .before .before .before .before .before .before .before .before .loop .inv .0) (c .before .before .before .before .before .before .before .before .before .before .before .before .before .before .before .before .before .before .before .first .given .0 .0) (c .before .before .before .before .before .before .before .before .before .last .given .0 .0) _ _ (subst (λ (r : Ahead). AheadSays (c .before .before .before .before .before .before .before .before .before .before .before .before .before .before .before .before .before .before .before .before .before .before .before .before .before .before .args .text .now) (cursor (c .before .before .before .before .before .before .before .before .before .before .before .before .before .before .before .before .before .before .before .before .before .before .loop .at) (c .before .before .before .before .before .before .before .before .before .before .before .before .before .before .before .before .before .before .before .before .before .before .loop .records) (c .before .before .before .before .before .before .before .before .before .before .before .before .before .before .before .before .before .before .before .before .before .before .loop .stored)) (ch "]") r) (c .before .before .before .before .before .before .before .before .before .before .before .before .before .before .before .before .before .before .before .first .given .1) (c .before .before .before .before .before .before .before .before .before .before .before .before .before .before .before .before .before .before .before .before .before .ahead .ensures)) (subst (λ (r : Step). Says (c .before .before .before .before .before .before .before .before .before .before .before .before .before .before .before .before .before .before .before .before .before .before .before .before .before .before .args .text .now) (wants (c .before .before .before .before .before .before .before .before .before .before .before .before .before .before .before .before .before .before .before .before .before .before .before .before .before .before .args .depth)) (λ k. Shut (c .before .before .before .before .before .before .before .before .before .before .before .before .before .before .before .before .before .before .before .before .before .before .before .before .before .before .args .text .now) ((c .before .before .before .before .before .before .before .before .before .before .before .before .before .before .before .before .before .before .before .first .given .0 .0) .at) (c .before .before .before .before .before .before .before .before .before .before .before .before .before .before .before .before .before .before .before .before .before .before .before .before .before .before .args .depth) k) (c .before .before .before .before .before .before .before .before .before .before .before .before .before .before .before .before .before .before .before .before .before .before .before .before .before .before .args .depth) (c .before .before .before .before .before .before .before .before .before .before .before .before .before .before .before .before .before .before .before .first .given .0 .0) (c .before .before .before .before .before .before .before .before .before .before .before .before .before .before .before .before .before .before .before .before .before .before .loop .tape) (c .before .before .before .before .before .before .before .before .before .before .before .before .before .before .before .value .last .1 .1 .1 .0) (c .before .before .before .before .before .before .before .before .before .before .before .before .before .before .before .before .before .before .before .before .before .before .loop .store) (c .before .before .before .before .before .before .before .before .before .before .before .before .before .before .before .value .last .1 .1 .1 .1 .0) r) (c .before .before .before .before .before .before .before .before .before .last .given .1) (c .before .before .before .before .before .before .before .before .before .before .before .before .before .before .before .value .ensures)) (c .before .before .before .before .before .before .before .before .before .before .before .before .before .before .before .value .kept .1 .1 .1 .0)) (c .before .before .before .before .before .before .before .before .before .before .before .before .before .before .before .before .before .before .before .before .before .before .before .before .before .before .args .self) (c .before .before .before .before .before .next2 .given .0 .0) refl refl refl (subst (λ (r : After). AfterSays (c .before .before .before .before .before .before .before .before .before .before .before .before .before .before .before .before .before .before .before .before .before .before .before .before .before .before .args .text .now) (c .before .before .before .before .before .before .before .before .before .last .given .0 .0) (ch "]") r) (c .before .before .before .before .before .next2 .given .1) (c .before .before .before .before .before .before .before .after .ensures)))
 
--- src/cursor.rt:152:38
 array-enum-known-next-3 : (t : ℕ) → array-lts.Need-enum-known-next-3 (array-calls t) (array-at t) array.Post array-Inv-loop array-μ-loop
 array-enum-known-next-3 t c = search needs
 
--- src/cursor.rt:131:9
 array-loop-less : (t : ℕ) → array-lts.Need-loop-less (array-calls t) (array-at t) array.Post array-Inv-loop array-μ-loop
-array-loop-less t c = let h : Begins (c .before .before .before .before .before .before .before .before .before .before .before .before .before .before .before .before .before .before .before .before .before .before .args .text .now) (cursor (c .before .before .before .before .before .before .before .before .before .before .before .before .before .before .before .before .before .before .loop .at) (c .before .before .before .before .before .before .before .before .before .before .before .before .before .before .before .before .before .before .loop .records) (c .before .before .before .before .before .before .before .before .before .before .before .before .before .before .before .before .before .before .loop .stored)) (ch "]") (c .before .before .before .before .before .before .before .before .before .before .before .before .before .before .before .first .given .0 .0) = (subst (λ (r : Open). OpenSays (c .before .before .before .before .before .before .before .before .before .before .before .before .before .before .before .before .before .before .before .before .before .before .args .text .now) (cursor (c .before .before .before .before .before .before .before .before .before .before .before .before .before .before .before .before .before .before .loop .at) (c .before .before .before .before .before .before .before .before .before .before .before .before .before .before .before .before .before .before .loop .records) (c .before .before .before .before .before .before .before .before .before .before .before .before .before .before .before .before .before .before .loop .stored)) (ch "]") r) (c .before .before .before .before .before .before .before .before .before .before .before .before .before .before .before .first .given .1) (c .before .before .before .before .before .before .before .before .before .before .before .before .before .before .before .before .before .«open» .ensures)) in let w : Took (c .before .before .before .before .before .before .before .before .before .before .before .before .before .before .before .before .before .before .before .before .before .before .args .text .now) (wants (c .before .before .before .before .before .before .before .before .before .before .before .before .before .before .before .before .before .before .before .before .before .before .args .depth)) (c .before .before .before .before .before .before .before .before .before .before .before .before .before .before .before .before .before .before .before .before .before .before .args .depth) (c .before .before .before .before .before .before .before .before .before .before .before .before .before .before .before .first .given .0 .0) (c .before .before .before .before .before .before .before .before .before .before .before .before .before .before .before .before .before .before .loop .tape) (c .before .before .before .before .before .before .before .before .before .before .before .value .last .1 .1 .1 .0) (c .before .before .before .before .before .before .before .before .before .before .before .before .before .before .before .before .before .before .loop .store) (c .before .before .before .before .before .before .before .before .before .before .before .value .last .1 .1 .1 .1 .0) (c .before .before .before .before .before .last .given .0 .0) = (subst (λ (r : Step). Says (c .before .before .before .before .before .before .before .before .before .before .before .before .before .before .before .before .before .before .before .before .before .before .args .text .now) (wants (c .before .before .before .before .before .before .before .before .before .before .before .before .before .before .before .before .before .before .before .before .before .before .args .depth)) (λ k. Shut (c .before .before .before .before .before .before .before .before .before .before .before .before .before .before .before .before .before .before .before .before .before .before .args .text .now) ((c .before .before .before .before .before .before .before .before .before .before .before .before .before .before .before .first .given .0 .0) .at) (c .before .before .before .before .before .before .before .before .before .before .before .before .before .before .before .before .before .before .before .before .before .before .args .depth) k) (c .before .before .before .before .before .before .before .before .before .before .before .before .before .before .before .before .before .before .before .before .before .before .args .depth) (c .before .before .before .before .before .before .before .before .before .before .before .before .before .before .before .first .given .0 .0) (c .before .before .before .before .before .before .before .before .before .before .before .before .before .before .before .before .before .before .loop .tape) (c .before .before .before .before .before .before .before .before .before .before .before .value .last .1 .1 .1 .0) (c .before .before .before .before .before .before .before .before .before .before .before .before .before .before .before .before .before .before .loop .store) (c .before .before .before .before .before .before .before .before .before .before .before .value .last .1 .1 .1 .1 .0) r) (c .before .before .before .before .before .last .given .1) (c .before .before .before .before .before .before .before .before .before .before .before .value .ensures)) in let m : Moved (c .before .before .before .before .before .before .before .before .before .before .before .before .before .before .before .before .before .before .before .before .before .before .args .text .now) (c .before .before .before .before .before .last .given .0 .0) (c .before .next3 .given .0 .0) = (subst (λ (r : After). AfterSays (c .before .before .before .before .before .before .before .before .before .before .before .before .before .before .before .before .before .before .before .before .before .before .args .text .now) (c .before .before .before .before .before .last .given .0 .0) (ch "]") r) (c .before .next3 .given .1) (c .before .before .before .after .ensures)) .1 in omega (arith, h .behind, w .past, m .past, m .within)
+array-loop-less t c = let h : Begins (c .before .before .before .before .before .before .before .before .before .before .before .before .before .before .before .before .before .before .before .before .before .before .args .text .now) (cursor (c .before .before .before .before .before .before .before .before .before .before .before .before .before .before .before .before .before .before .loop .at) (c .before .before .before .before .before .before .before .before .before .before .before .before .before .before .before .before .before .before .loop .records) (c .before .before .before .before .before .before .before .before .before .before .before .before .before .before .before .before .before .before .loop .stored)) (ch "]") (c .before .before .before .before .before .before .before .before .before .before .before .before .before .before .before .first .given .0 .0) = (subst (λ (r : Ahead). AheadSays (c .before .before .before .before .before .before .before .before .before .before .before .before .before .before .before .before .before .before .before .before .before .before .args .text .now) (cursor (c .before .before .before .before .before .before .before .before .before .before .before .before .before .before .before .before .before .before .loop .at) (c .before .before .before .before .before .before .before .before .before .before .before .before .before .before .before .before .before .before .loop .records) (c .before .before .before .before .before .before .before .before .before .before .before .before .before .before .before .before .before .before .loop .stored)) (ch "]") r) (c .before .before .before .before .before .before .before .before .before .before .before .before .before .before .before .first .given .1) (c .before .before .before .before .before .before .before .before .before .before .before .before .before .before .before .before .before .ahead .ensures)) in let w : Took (c .before .before .before .before .before .before .before .before .before .before .before .before .before .before .before .before .before .before .before .before .before .before .args .text .now) (wants (c .before .before .before .before .before .before .before .before .before .before .before .before .before .before .before .before .before .before .before .before .before .before .args .depth)) (c .before .before .before .before .before .before .before .before .before .before .before .before .before .before .before .before .before .before .before .before .before .before .args .depth) (c .before .before .before .before .before .before .before .before .before .before .before .before .before .before .before .first .given .0 .0) (c .before .before .before .before .before .before .before .before .before .before .before .before .before .before .before .before .before .before .loop .tape) (c .before .before .before .before .before .before .before .before .before .before .before .value .last .1 .1 .1 .0) (c .before .before .before .before .before .before .before .before .before .before .before .before .before .before .before .before .before .before .loop .store) (c .before .before .before .before .before .before .before .before .before .before .before .value .last .1 .1 .1 .1 .0) (c .before .before .before .before .before .last .given .0 .0) = (subst (λ (r : Step). Says (c .before .before .before .before .before .before .before .before .before .before .before .before .before .before .before .before .before .before .before .before .before .before .args .text .now) (wants (c .before .before .before .before .before .before .before .before .before .before .before .before .before .before .before .before .before .before .before .before .before .before .args .depth)) (λ k. Shut (c .before .before .before .before .before .before .before .before .before .before .before .before .before .before .before .before .before .before .before .before .before .before .args .text .now) ((c .before .before .before .before .before .before .before .before .before .before .before .before .before .before .before .first .given .0 .0) .at) (c .before .before .before .before .before .before .before .before .before .before .before .before .before .before .before .before .before .before .before .before .before .before .args .depth) k) (c .before .before .before .before .before .before .before .before .before .before .before .before .before .before .before .before .before .before .before .before .before .before .args .depth) (c .before .before .before .before .before .before .before .before .before .before .before .before .before .before .before .first .given .0 .0) (c .before .before .before .before .before .before .before .before .before .before .before .before .before .before .before .before .before .before .loop .tape) (c .before .before .before .before .before .before .before .before .before .before .before .value .last .1 .1 .1 .0) (c .before .before .before .before .before .before .before .before .before .before .before .before .before .before .before .before .before .before .loop .store) (c .before .before .before .before .before .before .before .before .before .before .before .value .last .1 .1 .1 .1 .0) r) (c .before .before .before .before .before .last .given .1) (c .before .before .before .before .before .before .before .before .before .before .before .value .ensures)) in let m : Moved (c .before .before .before .before .before .before .before .before .before .before .before .before .before .before .before .before .before .before .before .before .before .before .args .text .now) (c .before .before .before .before .before .last .given .0 .0) (c .before .next3 .given .0 .0) = (subst (λ (r : After). AfterSays (c .before .before .before .before .before .before .before .before .before .before .before .before .before .before .before .before .before .before .before .before .before .before .args .text .now) (c .before .before .before .before .before .last .given .0 .0) (ch "]") r) (c .before .next3 .given .1) (c .before .before .before .after .ensures)) .1 in omega (arith, h .behind, w .past, m .past, m .within)
 
--- src/cursor.rt:131:9
 array-loop-again : (t : ℕ) → array-lts.Need-loop-again (array-calls t) (array-at t) array.Post array-Inv-loop array-μ-loop
-array-loop-again t c = (added-comma (element-added (c .before .before .before .before .before .before .before .before .before .before .before .before .before .before .before .before .before .before .loop .inv .0) (c .before .before .before .before .before .before .before .before .before .before .before .before .before .before .before .first .given .0 .0) (c .before .before .before .before .before .last .given .0 .0) _ _ (subst (λ (r : Open). OpenSays (c .before .before .before .before .before .before .before .before .before .before .before .before .before .before .before .before .before .before .before .before .before .before .args .text .now) (cursor (c .before .before .before .before .before .before .before .before .before .before .before .before .before .before .before .before .before .before .loop .at) (c .before .before .before .before .before .before .before .before .before .before .before .before .before .before .before .before .before .before .loop .records) (c .before .before .before .before .before .before .before .before .before .before .before .before .before .before .before .before .before .before .loop .stored)) (ch "]") r) (c .before .before .before .before .before .before .before .before .before .before .before .before .before .before .before .first .given .1) (c .before .before .before .before .before .before .before .before .before .before .before .before .before .before .before .before .before .«open» .ensures)) (subst (λ (r : Step). Says (c .before .before .before .before .before .before .before .before .before .before .before .before .before .before .before .before .before .before .before .before .before .before .args .text .now) (wants (c .before .before .before .before .before .before .before .before .before .before .before .before .before .before .before .before .before .before .before .before .before .before .args .depth)) (λ k. Shut (c .before .before .before .before .before .before .before .before .before .before .before .before .before .before .before .before .before .before .before .before .before .before .args .text .now) ((c .before .before .before .before .before .before .before .before .before .before .before .before .before .before .before .first .given .0 .0) .at) (c .before .before .before .before .before .before .before .before .before .before .before .before .before .before .before .before .before .before .before .before .before .before .args .depth) k) (c .before .before .before .before .before .before .before .before .before .before .before .before .before .before .before .before .before .before .before .before .before .before .args .depth) (c .before .before .before .before .before .before .before .before .before .before .before .before .before .before .before .first .given .0 .0) (c .before .before .before .before .before .before .before .before .before .before .before .before .before .before .before .before .before .before .loop .tape) (c .before .before .before .before .before .before .before .before .before .before .before .value .last .1 .1 .1 .0) (c .before .before .before .before .before .before .before .before .before .before .before .before .before .before .before .before .before .before .loop .store) (c .before .before .before .before .before .before .before .before .before .before .before .value .last .1 .1 .1 .1 .0) r) (c .before .before .before .before .before .last .given .1) (c .before .before .before .before .before .before .before .before .before .before .before .value .ensures)) (c .before .before .before .before .before .before .before .before .before .before .before .value .kept .1 .1 .1 .0)) (c .before .next3 .given .0 .0) (subst (λ (r : After). AfterSays (c .before .before .before .before .before .before .before .before .before .before .before .before .before .before .before .before .before .before .before .before .before .before .args .text .now) (c .before .before .before .before .before .last .given .0 .0) (ch "]") r) (c .before .next3 .given .1) (c .before .before .before .after .ensures)), c .before .before .before .before .before .before .before .before .before .before .before .value .kept .1 .1 .1 .0 ∙ c .before .before .before .before .before .before .before .before .before .before .before .before .before .before .before .before .before .before .loop .inv .1, c .before .before .before .before .before .before .before .before .before .before .before .value .kept .1 .1 .1 .1 .0 ∙ c .before .before .before .before .before .before .before .before .before .before .before .before .before .before .before .before .before .before .loop .inv .2)
+array-loop-again t c = (added-comma (element-added (c .before .before .before .before .before .before .before .before .before .before .before .before .before .before .before .before .before .before .loop .inv .0) (c .before .before .before .before .before .before .before .before .before .before .before .before .before .before .before .first .given .0 .0) (c .before .before .before .before .before .last .given .0 .0) _ _ (subst (λ (r : Ahead). AheadSays (c .before .before .before .before .before .before .before .before .before .before .before .before .before .before .before .before .before .before .before .before .before .before .args .text .now) (cursor (c .before .before .before .before .before .before .before .before .before .before .before .before .before .before .before .before .before .before .loop .at) (c .before .before .before .before .before .before .before .before .before .before .before .before .before .before .before .before .before .before .loop .records) (c .before .before .before .before .before .before .before .before .before .before .before .before .before .before .before .before .before .before .loop .stored)) (ch "]") r) (c .before .before .before .before .before .before .before .before .before .before .before .before .before .before .before .first .given .1) (c .before .before .before .before .before .before .before .before .before .before .before .before .before .before .before .before .before .ahead .ensures)) (subst (λ (r : Step). Says (c .before .before .before .before .before .before .before .before .before .before .before .before .before .before .before .before .before .before .before .before .before .before .args .text .now) (wants (c .before .before .before .before .before .before .before .before .before .before .before .before .before .before .before .before .before .before .before .before .before .before .args .depth)) (λ k. Shut (c .before .before .before .before .before .before .before .before .before .before .before .before .before .before .before .before .before .before .before .before .before .before .args .text .now) ((c .before .before .before .before .before .before .before .before .before .before .before .before .before .before .before .first .given .0 .0) .at) (c .before .before .before .before .before .before .before .before .before .before .before .before .before .before .before .before .before .before .before .before .before .before .args .depth) k) (c .before .before .before .before .before .before .before .before .before .before .before .before .before .before .before .before .before .before .before .before .before .before .args .depth) (c .before .before .before .before .before .before .before .before .before .before .before .before .before .before .before .first .given .0 .0) (c .before .before .before .before .before .before .before .before .before .before .before .before .before .before .before .before .before .before .loop .tape) (c .before .before .before .before .before .before .before .before .before .before .before .value .last .1 .1 .1 .0) (c .before .before .before .before .before .before .before .before .before .before .before .before .before .before .before .before .before .before .loop .store) (c .before .before .before .before .before .before .before .before .before .before .before .value .last .1 .1 .1 .1 .0) r) (c .before .before .before .before .before .last .given .1) (c .before .before .before .before .before .before .before .before .before .before .before .value .ensures)) (c .before .before .before .before .before .before .before .before .before .before .before .value .kept .1 .1 .1 .0)) (c .before .next3 .given .0 .0) (subst (λ (r : After). AfterSays (c .before .before .before .before .before .before .before .before .before .before .before .before .before .before .before .before .before .before .before .before .before .before .args .text .now) (c .before .before .before .before .before .last .given .0 .0) (ch "]") r) (c .before .next3 .given .1) (c .before .before .before .after .ensures)), c .before .before .before .before .before .before .before .before .before .before .before .value .kept .1 .1 .1 .0 ∙ c .before .before .before .before .before .before .before .before .before .before .before .before .before .before .before .before .before .before .loop .inv .1, c .before .before .before .before .before .before .before .before .before .before .before .value .kept .1 .1 .1 .1 .0 ∙ c .before .before .before .before .before .before .before .before .before .before .before .before .before .before .before .before .before .before .loop .inv .2)
 
 abbrev object-Inv-loop : object-lts.InvT-loop
-object-Inv-loop text depth tape₀ store₀ own at₀ records₀ stored₀ tape store at records stored = Turn text tape₀ tape store₀ store curly at₀ own stored₀ depth at records stored × (length tape ≡ length tape₀) × (length store ≡ length store₀)
+object-Inv-loop text depth tape₀ store₀ own at₀ records₀ stored₀ tape store at records stored = Round text tape₀ tape store₀ store curly at₀ own stored₀ depth at records stored × (length tape ≡ length tape₀) × (length store ≡ length store₀)
 
 abbrev object-μ-loop : object-lts.MeasureT-loop
 object-μ-loop text depth tape₀ store₀ own at₀ records₀ stored₀ tape store at records stored = length text - at
 
--- src/cursor.rt:170:27
 object-add-records : (t : ℕ) → object-lts.Need-add-records (object-calls t) (object-at t) object.Post object-Inv-loop object-μ-loop
 object-add-records t c = omega (arith, c .before .before .before .pre .1 .records, c .before .before .before .pre .1 .within)
 
--- src/cursor.rt:172:9
 object-loop-holds : (t : ℕ) → object-lts.Need-loop-holds (object-calls t) (object-at t) object.Post object-Inv-loop object-μ-loop
-object-loop-holds t c = (turn-first (c .before .before .before .args .text .now) (c .before .before .before .args .tape .now) (c .before .before .before .args .store .now) curly (c .before .before .before .args .depth) (c .before .before .before .args .self) (c .before .before .before .pre .1), refl, refl)
+object-loop-holds t c = (round-first (c .before .before .before .args .text .now) (c .before .before .before .args .tape .now) (c .before .before .before .args .store .now) curly (c .before .before .before .args .depth) (c .before .before .before .args .self) (c .before .before .before .pre .1), refl, refl)
 
--- src/cursor.rt:173:19
-object-open-requires : (t : ℕ) → object-lts.Need-open-requires (object-calls t) (object-at t) object.Post object-Inv-loop object-μ-loop
-object-open-requires t c κs = content-ready (c .loop .inv .0 .content)
+object-ahead-requires : (t : ℕ) → object-lts.Need-ahead-requires (object-calls t) (object-at t) object.Post object-Inv-loop object-μ-loop
+object-ahead-requires t c κs = content-ready (c .loop .inv .0 .content)
 
--- src/cursor.rt:174:31
 object-enum-known-why : (t : ℕ) → object-lts.Need-enum-known-why (object-calls t) (object-at t) object.Post object-Inv-loop object-μ-loop
 object-enum-known-why t c = search needs
 
--- src/cursor.rt:175:21
 object-same-length : (t : ℕ) → object-lts.Need-same-length (object-calls t) (object-at t) object.Post object-Inv-loop object-μ-loop
 object-same-length t c = c .before .before .before .before .loop .inv .1
 
--- src/cursor.rt:175:21
 object-same-length-2 : (t : ℕ) → object-lts.Need-same-length-2 (object-calls t) (object-at t) object.Post object-Inv-loop object-μ-loop
 object-same-length-2 t c = c .before .before .before .before .loop .inv .2
 
--- src/cursor.rt:175:21
 object-returns : (t : ℕ) → object-lts.Need-returns (object-calls t) (object-at t) object.Post object-Inv-loop object-μ-loop
-object-returns t c = turn-refused (c .before .before .before .before .loop .inv .0) (subst (λ (r : Open). OpenSays (c .before .before .before .before .before .before .before .before .args .text .now) (cursor (c .before .before .before .before .loop .at) (c .before .before .before .before .loop .records) (c .before .before .before .before .loop .stored)) (ch "}") r) (c .before .why .given .1) (c .before .before .before .«open» .ensures))
+object-returns t c = round-refused (c .before .before .before .before .loop .inv .0) (subst (λ (r : Ahead). AheadSays (c .before .before .before .before .before .before .before .before .args .text .now) (cursor (c .before .before .before .before .loop .at) (c .before .before .before .before .loop .records) (c .before .before .before .before .loop .stored)) (ch "}") r) (c .before .why .given .1) (c .before .before .before .ahead .ensures))
 
--- src/cursor.rt:177:29
 object-enum-known-next : (t : ℕ) → object-lts.Need-enum-known-next (object-calls t) (object-at t) object.Post object-Inv-loop object-μ-loop
 object-enum-known-next t c = search needs
 
--- src/cursor.rt:178:21
 object-put-record-requires : (t : ℕ) → object-lts.Need-put-record-requires (object-calls t) (object-at t) object.Post object-Inv-loop object-μ-loop
 object-put-record-requires t c κs = tt
 
--- src/cursor.rt:179:21
 object-same-length-3 : (t : ℕ) → object-lts.Need-same-length-3 (object-calls t) (object-at t) object.Post object-Inv-loop object-μ-loop
 object-same-length-3 t c = c .before .before .put-record .kept .0 ∙ c .before .before .before .before .before .before .before .before .loop .inv .1
 
--- src/cursor.rt:179:21
 object-same-length-4 : (t : ℕ) → object-lts.Need-same-length-4 (object-calls t) (object-at t) object.Post object-Inv-loop object-μ-loop
 object-same-length-4 t c = c .before .before .before .before .before .before .before .before .loop .inv .2
 
--- src/cursor.rt:179:21
 object-returns-2 : (t : ℕ) → object-lts.Need-returns-2 (object-calls t) (object-at t) object.Post object-Inv-loop object-μ-loop
-object-returns-2 t c = rw (c .before .before .put-record .ensures) (turn-close (c .before .before .before .before .before .before .before .before .loop .inv .0) (c .before .before .before .before .before .before .before .before .before .before .before .before .args .self) (c .before .before .before .before .before .next .given .0 .0) refl refl refl (subst (λ (r : Open). OpenSays (c .before .before .before .before .before .before .before .before .before .before .before .before .args .text .now) (cursor (c .before .before .before .before .before .before .before .before .loop .at) (c .before .before .before .before .before .before .before .before .loop .records) (c .before .before .before .before .before .before .before .before .loop .stored)) (ch "}") r) (c .before .before .before .before .before .next .given .1) (c .before .before .before .before .before .before .before .«open» .ensures)))
+object-returns-2 t c = rw (c .before .before .put-record .ensures) (round-close (c .before .before .before .before .before .before .before .before .loop .inv .0) (c .before .before .before .before .before .before .before .before .before .before .before .before .args .self) (c .before .before .before .before .before .next .given .0 .0) refl refl refl (subst (λ (r : Ahead). AheadSays (c .before .before .before .before .before .before .before .before .before .before .before .before .args .text .now) (cursor (c .before .before .before .before .before .before .before .before .loop .at) (c .before .before .before .before .before .before .before .before .loop .records) (c .before .before .before .before .before .before .before .before .loop .stored)) (ch "}") r) (c .before .before .before .before .before .next .given .1) (c .before .before .before .before .before .before .before .ahead .ensures)))
 
--- src/cursor.rt:181:28
 object-enum-known-first : (t : ℕ) → object-lts.Need-enum-known-first (object-calls t) (object-at t) object.Post object-Inv-loop object-μ-loop
 object-enum-known-first t c = search needs
 
--- src/cursor.rt:181:44
 object-member-requires : (t : ℕ) → object-lts.Need-member-requires (object-calls t) (object-at t) object.Post object-Inv-loop object-μ-loop
-object-member-requires t c κs = member-at (c .before .before .before .before .before .loop .inv .0) (c .before .before .first .given .0 .0) (subst (λ (r : Open). OpenSays (c .before .before .before .before .before .before .before .before .before .args .text .now) (cursor (c .before .before .before .before .before .loop .at) (c .before .before .before .before .before .loop .records) (c .before .before .before .before .before .loop .stored)) (ch "}") r) (c .before .before .first .given .1) (c .before .before .before .before .«open» .ensures))
+object-member-requires t c κs = member-at (c .before .before .before .before .before .loop .inv .0) (c .before .before .first .given .0 .0) (subst (λ (r : Ahead). AheadSays (c .before .before .before .before .before .before .before .before .before .args .text .now) (cursor (c .before .before .before .before .before .loop .at) (c .before .before .before .before .before .loop .records) (c .before .before .before .before .before .loop .stored)) (ch "}") r) (c .before .before .first .given .1) (c .before .before .before .before .ahead .ensures))
 
--- src/cursor.rt:182:37
 object-enum-known-why-2 : (t : ℕ) → object-lts.Need-enum-known-why-2 (object-calls t) (object-at t) object.Post object-Inv-loop object-μ-loop
 object-enum-known-why-2 t c = search needs
 
--- src/cursor.rt:183:25
 object-same-length-5 : (t : ℕ) → object-lts.Need-same-length-5 (object-calls t) (object-at t) object.Post object-Inv-loop object-μ-loop
 object-same-length-5 t c = c .before .before .before .before .before .before .before .before .before .before .before .loop .inv .1
 
--- src/cursor.rt:183:25
 object-same-length-6 : (t : ℕ) → object-lts.Need-same-length-6 (object-calls t) (object-at t) object.Post object-Inv-loop object-μ-loop
 object-same-length-6 t c = c .before .before .before .before .before .member .kept .1 .1 .0 ∙ c .before .before .before .before .before .before .before .before .before .before .before .loop .inv .2
 
--- src/cursor.rt:183:25
 object-returns-3 : (t : ℕ) → object-lts.Need-returns-3 (object-calls t) (object-at t) object.Post object-Inv-loop object-μ-loop
-object-returns-3 t c = key-refused (c .before .before .before .before .before .before .before .before .before .before .before .loop .inv .0) (c .before .before .before .before .before .before .before .before .first .given .0 .0) (subst (λ (r : Open). OpenSays (c .before .before .before .before .before .before .before .before .before .before .before .before .before .before .before .args .text .now) (cursor (c .before .before .before .before .before .before .before .before .before .before .before .loop .at) (c .before .before .before .before .before .before .before .before .before .before .before .loop .records) (c .before .before .before .before .before .before .before .before .before .before .before .loop .stored)) (ch "}") r) (c .before .before .before .before .before .before .before .before .first .given .1) (c .before .before .before .before .before .before .before .before .before .before .«open» .ensures)) (subst (λ (r : Member). MemberSays (c .before .before .before .before .before .before .before .before .before .before .before .before .before .before .before .args .text .now) (c .before .before .before .before .before .before .before .before .first .given .0 .0) (c .before .before .before .before .before .before .before .before .before .before .before .loop .store) (c .before .before .before .before .before .member .last .1 .1 .0) r) (c .before .why2 .given .1) (c .before .before .before .before .before .member .ensures))
+object-returns-3 t c = key-refused (c .before .before .before .before .before .before .before .before .before .before .before .loop .inv .0) (c .before .before .before .before .before .before .before .before .first .given .0 .0) (subst (λ (r : Ahead). AheadSays (c .before .before .before .before .before .before .before .before .before .before .before .before .before .before .before .args .text .now) (cursor (c .before .before .before .before .before .before .before .before .before .before .before .loop .at) (c .before .before .before .before .before .before .before .before .before .before .before .loop .records) (c .before .before .before .before .before .before .before .before .before .before .before .loop .stored)) (ch "}") r) (c .before .before .before .before .before .before .before .before .first .given .1) (c .before .before .before .before .before .before .before .before .before .before .ahead .ensures)) (subst (λ (r : Member). MemberSays (c .before .before .before .before .before .before .before .before .before .before .before .before .before .before .before .args .text .now) (c .before .before .before .before .before .before .before .before .first .given .0 .0) (c .before .before .before .before .before .before .before .before .before .before .before .loop .store) (c .before .before .before .before .before .member .last .1 .1 .0) r) (c .before .why2 .given .1) (c .before .before .before .before .before .member .ensures))
 
--- src/cursor.rt:185:33
 object-enum-known-n : (t : ℕ) → object-lts.Need-enum-known-n (object-calls t) (object-at t) object.Post object-Inv-loop object-μ-loop
 object-enum-known-n t c = search needs
 
--- src/cursor.rt:186:25
 object-put-record-requires-2 : (t : ℕ) → object-lts.Need-put-record-requires-2 (object-calls t) (object-at t) object.Post object-Inv-loop object-μ-loop
 object-put-record-requires-2 t c κs = tt
 
--- src/cursor.rt:187:31
 object-value-requires : (t : ℕ) → object-lts.Need-value-requires (object-calls t) (object-at t) object.Post object-Inv-loop object-μ-loop
-object-value-requires t c κs = (omega (arith, c .before .before .before .before .before .before .before .before .before .before .before .before .before .before .before .before .before .before .before .before .before .pre .0), named-at (c .before .before .before .before .before .before .before .before .before .before .before .before .before .before .before .before .before .loop .store) (c .before .before .before .before .before .before .before .before .before .before .before .member .last .1 .1 .0) (c .before .before .before .before .before .before .before .n .given .0 .0) (c .before .before .before .before .before .before .before .n .given .0 .1 .0) (begins-at (c .before .before .before .before .before .before .before .before .before .before .before .before .before .before .before .before .before .loop .inv .0) (c .before .before .before .before .before .before .before .before .before .before .before .before .before .before .first .given .0 .0) (subst (λ (r : Open). OpenSays (c .before .before .before .before .before .before .before .before .before .before .before .before .before .before .before .before .before .before .before .before .before .args .text .now) (cursor (c .before .before .before .before .before .before .before .before .before .before .before .before .before .before .before .before .before .loop .at) (c .before .before .before .before .before .before .before .before .before .before .before .before .before .before .before .before .before .loop .records) (c .before .before .before .before .before .before .before .before .before .before .before .before .before .before .before .before .before .loop .stored)) (ch "}") r) (c .before .before .before .before .before .before .before .before .before .before .before .before .before .before .first .given .1) (c .before .before .before .before .before .before .before .before .before .before .before .before .before .before .before .before .«open» .ensures)) .ready) (subst (λ (r : Member). MemberSays (c .before .before .before .before .before .before .before .before .before .before .before .before .before .before .before .before .before .before .before .before .before .args .text .now) (c .before .before .before .before .before .before .before .before .before .before .before .before .before .before .first .given .0 .0) (c .before .before .before .before .before .before .before .before .before .before .before .before .before .before .before .before .before .loop .store) (c .before .before .before .before .before .before .before .before .before .before .before .member .last .1 .1 .0) r) (c .before .before .before .before .before .before .before .n .given .1) (c .before .before .before .before .before .before .before .before .before .before .before .member .ensures)))
+object-value-requires t c κs = (omega (arith, c .before .before .before .before .before .before .before .before .before .before .before .before .before .before .before .before .before .before .before .before .before .pre .0), named-at (c .before .before .before .before .before .before .before .before .before .before .before .before .before .before .before .before .before .loop .store) (c .before .before .before .before .before .before .before .before .before .before .before .member .last .1 .1 .0) (c .before .before .before .before .before .before .before .n .given .0 .0) (c .before .before .before .before .before .before .before .n .given .0 .1 .0) (begins-at (c .before .before .before .before .before .before .before .before .before .before .before .before .before .before .before .before .before .loop .inv .0) (c .before .before .before .before .before .before .before .before .before .before .before .before .before .before .first .given .0 .0) (subst (λ (r : Ahead). AheadSays (c .before .before .before .before .before .before .before .before .before .before .before .before .before .before .before .before .before .before .before .before .before .args .text .now) (cursor (c .before .before .before .before .before .before .before .before .before .before .before .before .before .before .before .before .before .loop .at) (c .before .before .before .before .before .before .before .before .before .before .before .before .before .before .before .before .before .loop .records) (c .before .before .before .before .before .before .before .before .before .before .before .before .before .before .before .before .before .loop .stored)) (ch "}") r) (c .before .before .before .before .before .before .before .before .before .before .before .before .before .before .first .given .1) (c .before .before .before .before .before .before .before .before .before .before .before .before .before .before .before .before .ahead .ensures)) .ready) (subst (λ (r : Member). MemberSays (c .before .before .before .before .before .before .before .before .before .before .before .before .before .before .before .before .before .before .before .before .before .args .text .now) (c .before .before .before .before .before .before .before .before .before .before .before .before .before .before .first .given .0 .0) (c .before .before .before .before .before .before .before .before .before .before .before .before .before .before .before .before .before .loop .store) (c .before .before .before .before .before .before .before .before .before .before .before .member .last .1 .1 .0) r) (c .before .before .before .before .before .before .before .n .given .1) (c .before .before .before .before .before .before .before .before .before .before .before .member .ensures)))
 
--- src/cursor.rt:188:43
 object-enum-known-why-3 : (t : ℕ) → object-lts.Need-enum-known-why-3 (object-calls t) (object-at t) object.Post object-Inv-loop object-μ-loop
 object-enum-known-why-3 t c = search needs
 
--- src/cursor.rt:189:33
 object-same-length-7 : (t : ℕ) → object-lts.Need-same-length-7 (object-calls t) (object-at t) object.Post object-Inv-loop object-μ-loop
 object-same-length-7 t c = c .before .before .before .before .before .before .before .value .kept .1 .1 .1 .0 ∙ c .before .before .before .before .before .before .before .before .before .before .before .before .put-record2 .kept .0 ∙ c .before .before .before .before .before .before .before .before .before .before .before .before .before .before .before .before .before .before .before .before .before .before .before .before .before .loop .inv .1
 
--- src/cursor.rt:189:33
 object-same-length-8 : (t : ℕ) → object-lts.Need-same-length-8 (object-calls t) (object-at t) object.Post object-Inv-loop object-μ-loop
 object-same-length-8 t c = c .before .before .before .before .before .before .before .value .kept .1 .1 .1 .1 .0 ∙ c .before .before .before .before .before .before .before .before .before .before .before .before .before .before .before .before .before .before .before .member .kept .1 .1 .0 ∙ c .before .before .before .before .before .before .before .before .before .before .before .before .before .before .before .before .before .before .before .before .before .before .before .before .before .loop .inv .2
 
--- src/cursor.rt:189:33
 object-returns-4 : (t : ℕ) → object-lts.Need-returns-4 (object-calls t) (object-at t) object.Post object-Inv-loop object-μ-loop
-object-returns-4 t c = member-refused (c .before .before .before .before .before .before .before .before .before .before .before .before .before .before .before .before .before .before .before .before .before .before .before .before .before .loop .inv .0) (c .before .before .before .before .before .before .before .before .before .before .before .before .before .before .before .before .before .before .before .before .before .before .first .given .0 .0) (c .before .before .before .before .before .before .before .before .before .before .before .before .before .before .before .n .given .0 .1 .0) (c .before .before .before .before .before .before .before .before .before .before .before .before .before .before .before .n .given .0 .0) (c .before .before .before .before .before .before .before .before .before .before .before .before .before .before .before .before .before .before .before .member .last .1 .1 .0) (subst (λ (r : Open). OpenSays (c .before .before .before .before .before .before .before .before .before .before .before .before .before .before .before .before .before .before .before .before .before .before .before .before .before .before .before .before .before .args .text .now) (cursor (c .before .before .before .before .before .before .before .before .before .before .before .before .before .before .before .before .before .before .before .before .before .before .before .before .before .loop .at) (c .before .before .before .before .before .before .before .before .before .before .before .before .before .before .before .before .before .before .before .before .before .before .before .before .before .loop .records) (c .before .before .before .before .before .before .before .before .before .before .before .before .before .before .before .before .before .before .before .before .before .before .before .before .before .loop .stored)) (ch "}") r) (c .before .before .before .before .before .before .before .before .before .before .before .before .before .before .before .before .before .before .before .before .before .before .first .given .1) (c .before .before .before .before .before .before .before .before .before .before .before .before .before .before .before .before .before .before .before .before .before .before .before .before .«open» .ensures)) (subst (λ (r : Member). MemberSays (c .before .before .before .before .before .before .before .before .before .before .before .before .before .before .before .before .before .before .before .before .before .before .before .before .before .before .before .before .before .args .text .now) (c .before .before .before .before .before .before .before .before .before .before .before .before .before .before .before .before .before .before .before .before .before .before .first .given .0 .0) (c .before .before .before .before .before .before .before .before .before .before .before .before .before .before .before .before .before .before .before .before .before .before .before .before .before .loop .store) (c .before .before .before .before .before .before .before .before .before .before .before .before .before .before .before .before .before .before .before .member .last .1 .1 .0) r) (c .before .before .before .before .before .before .before .before .before .before .before .before .before .before .before .n .given .1) (c .before .before .before .before .before .before .before .before .before .before .before .before .before .before .before .before .before .before .before .member .ensures)) (subst (λ (r : Step). Says (c .before .before .before .before .before .before .before .before .before .before .before .before .before .before .before .before .before .before .before .before .before .before .before .before .before .before .before .before .before .args .text .now) (wants (c .before .before .before .before .before .before .before .before .before .before .before .before .before .before .before .before .before .before .before .before .before .before .before .before .before .before .before .before .before .args .depth)) (λ k. Shut (c .before .before .before .before .before .before .before .before .before .before .before .before .before .before .before .before .before .before .before .before .before .before .before .before .before .before .before .before .before .args .text .now) ((c .before .before .before .before .before .before .before .before .before .before .before .before .before .before .before .n .given .0 .1 .0) .at) (c .before .before .before .before .before .before .before .before .before .before .before .before .before .before .before .before .before .before .before .before .before .before .before .before .before .before .before .before .before .args .depth) k) (c .before .before .before .before .before .before .before .before .before .before .before .before .before .before .before .before .before .before .before .before .before .before .before .before .before .before .before .before .before .args .depth) (c .before .before .before .before .before .before .before .before .before .before .before .before .before .before .before .n .given .0 .1 .0) (c .before .before .before .before .before .before .before .before .before .before .before .before .put-record2 .last .0) (c .before .before .before .before .before .before .before .value .last .1 .1 .1 .0) (c .before .before .before .before .before .before .before .before .before .before .before .before .before .before .before .before .before .before .before .member .last .1 .1 .0) (c .before .before .before .before .before .before .before .value .last .1 .1 .1 .1 .0) r) (c .before .why3 .given .1) (c .before .before .before .before .before .before .before .value .ensures))
+object-returns-4 t c = member-refused (c .before .before .before .before .before .before .before .before .before .before .before .before .before .before .before .before .before .before .before .before .before .before .before .before .before .loop .inv .0) (c .before .before .before .before .before .before .before .before .before .before .before .before .before .before .before .before .before .before .before .before .before .before .first .given .0 .0) (c .before .before .before .before .before .before .before .before .before .before .before .before .before .before .before .n .given .0 .1 .0) (c .before .before .before .before .before .before .before .before .before .before .before .before .before .before .before .n .given .0 .0) (c .before .before .before .before .before .before .before .before .before .before .before .before .before .before .before .before .before .before .before .member .last .1 .1 .0) (subst (λ (r : Ahead). AheadSays (c .before .before .before .before .before .before .before .before .before .before .before .before .before .before .before .before .before .before .before .before .before .before .before .before .before .before .before .before .before .args .text .now) (cursor (c .before .before .before .before .before .before .before .before .before .before .before .before .before .before .before .before .before .before .before .before .before .before .before .before .before .loop .at) (c .before .before .before .before .before .before .before .before .before .before .before .before .before .before .before .before .before .before .before .before .before .before .before .before .before .loop .records) (c .before .before .before .before .before .before .before .before .before .before .before .before .before .before .before .before .before .before .before .before .before .before .before .before .before .loop .stored)) (ch "}") r) (c .before .before .before .before .before .before .before .before .before .before .before .before .before .before .before .before .before .before .before .before .before .before .first .given .1) (c .before .before .before .before .before .before .before .before .before .before .before .before .before .before .before .before .before .before .before .before .before .before .before .before .ahead .ensures)) (subst (λ (r : Member). MemberSays (c .before .before .before .before .before .before .before .before .before .before .before .before .before .before .before .before .before .before .before .before .before .before .before .before .before .before .before .before .before .args .text .now) (c .before .before .before .before .before .before .before .before .before .before .before .before .before .before .before .before .before .before .before .before .before .before .first .given .0 .0) (c .before .before .before .before .before .before .before .before .before .before .before .before .before .before .before .before .before .before .before .before .before .before .before .before .before .loop .store) (c .before .before .before .before .before .before .before .before .before .before .before .before .before .before .before .before .before .before .before .member .last .1 .1 .0) r) (c .before .before .before .before .before .before .before .before .before .before .before .before .before .before .before .n .given .1) (c .before .before .before .before .before .before .before .before .before .before .before .before .before .before .before .before .before .before .before .member .ensures)) (subst (λ (r : Step). Says (c .before .before .before .before .before .before .before .before .before .before .before .before .before .before .before .before .before .before .before .before .before .before .before .before .before .before .before .before .before .args .text .now) (wants (c .before .before .before .before .before .before .before .before .before .before .before .before .before .before .before .before .before .before .before .before .before .before .before .before .before .before .before .before .before .args .depth)) (λ k. Shut (c .before .before .before .before .before .before .before .before .before .before .before .before .before .before .before .before .before .before .before .before .before .before .before .before .before .before .before .before .before .args .text .now) ((c .before .before .before .before .before .before .before .before .before .before .before .before .before .before .before .n .given .0 .1 .0) .at) (c .before .before .before .before .before .before .before .before .before .before .before .before .before .before .before .before .before .before .before .before .before .before .before .before .before .before .before .before .before .args .depth) k) (c .before .before .before .before .before .before .before .before .before .before .before .before .before .before .before .before .before .before .before .before .before .before .before .before .before .before .before .before .before .args .depth) (c .before .before .before .before .before .before .before .before .before .before .before .before .before .before .before .n .given .0 .1 .0) (c .before .before .before .before .before .before .before .before .before .before .before .before .put-record2 .last .0) (c .before .before .before .before .before .before .before .value .last .1 .1 .1 .0) (c .before .before .before .before .before .before .before .before .before .before .before .before .before .before .before .before .before .before .before .member .last .1 .1 .0) (c .before .before .before .before .before .before .before .value .last .1 .1 .1 .1 .0) r) (c .before .why3 .given .1) (c .before .before .before .before .before .before .before .value .ensures))
 
--- src/cursor.rt:191:41
 object-enum-known-last : (t : ℕ) → object-lts.Need-enum-known-last (object-calls t) (object-at t) object.Post object-Inv-loop object-μ-loop
 object-enum-known-last t c = search needs
 
--- src/cursor.rt:191:56
 object-after-requires : (t : ℕ) → object-lts.Need-after-requires (object-calls t) (object-at t) object.Post object-Inv-loop object-μ-loop
-object-after-requires t c κs = content-ready ((member-added (c .before .before .before .before .before .before .before .before .before .before .before .before .before .before .before .before .before .before .before .before .before .before .before .before .before .loop .inv .0) (c .before .before .before .before .before .before .before .before .before .before .before .before .before .before .before .before .before .before .before .before .before .before .first .given .0 .0) (c .before .before .before .before .before .before .before .before .before .before .before .before .before .before .before .n .given .0 .1 .0) (c .before .last .given .0 .0) (c .before .before .before .before .before .before .before .before .before .before .before .before .before .before .before .n .given .0 .0) (c .before .before .before .before .before .before .before .before .before .before .before .before .before .before .before .before .before .before .before .member .last .1 .1 .0) (c .before .before .before .before .before .before .before .value .last .1 .1 .1 .0) (c .before .before .before .before .before .before .before .value .last .1 .1 .1 .1 .0) (subst (λ (r : Open). OpenSays (c .before .before .before .before .before .before .before .before .before .before .before .before .before .before .before .before .before .before .before .before .before .before .before .before .before .before .before .before .before .args .text .now) (cursor (c .before .before .before .before .before .before .before .before .before .before .before .before .before .before .before .before .before .before .before .before .before .before .before .before .before .loop .at) (c .before .before .before .before .before .before .before .before .before .before .before .before .before .before .before .before .before .before .before .before .before .before .before .before .before .loop .records) (c .before .before .before .before .before .before .before .before .before .before .before .before .before .before .before .before .before .before .before .before .before .before .before .before .before .loop .stored)) (ch "}") r) (c .before .before .before .before .before .before .before .before .before .before .before .before .before .before .before .before .before .before .before .before .before .before .first .given .1) (c .before .before .before .before .before .before .before .before .before .before .before .before .before .before .before .before .before .before .before .before .before .before .before .before .«open» .ensures)) (subst (λ (r : Member). MemberSays (c .before .before .before .before .before .before .before .before .before .before .before .before .before .before .before .before .before .before .before .before .before .before .before .before .before .before .before .before .before .args .text .now) (c .before .before .before .before .before .before .before .before .before .before .before .before .before .before .before .before .before .before .before .before .before .before .first .given .0 .0) (c .before .before .before .before .before .before .before .before .before .before .before .before .before .before .before .before .before .before .before .before .before .before .before .before .before .loop .store) (c .before .before .before .before .before .before .before .before .before .before .before .before .before .before .before .before .before .before .before .member .last .1 .1 .0) r) (c .before .before .before .before .before .before .before .before .before .before .before .before .before .before .before .n .given .1) (c .before .before .before .before .before .before .before .before .before .before .before .before .before .before .before .before .before .before .before .member .ensures)) (subst (λ (v : List ℕ). Took (c .before .before .before .before .before .before .before .before .before .before .before .before .before .before .before .before .before .before .before .before .before .before .before .before .before .before .before .before .before .args .text .now) (wants (c .before .before .before .before .before .before .before .before .before .before .before .before .before .before .before .before .before .before .before .before .before .before .before .before .before .before .before .before .before .args .depth)) (c .before .before .before .before .before .before .before .before .before .before .before .before .before .before .before .before .before .before .before .before .before .before .before .before .before .before .before .before .before .args .depth) (c .before .before .before .before .before .before .before .before .before .before .before .before .before .before .before .n .given .0 .1 .0) v (c .before .before .before .before .before .before .before .value .last .1 .1 .1 .0) (c .before .before .before .before .before .before .before .before .before .before .before .before .before .before .before .before .before .before .before .member .last .1 .1 .0) (c .before .before .before .before .before .before .before .value .last .1 .1 .1 .1 .0) (c .before .last .given .0 .0)) (c .before .before .before .before .before .before .before .before .before .before .before .before .put-record2 .ensures) (subst (λ (r : Step). Says (c .before .before .before .before .before .before .before .before .before .before .before .before .before .before .before .before .before .before .before .before .before .before .before .before .before .before .before .before .before .args .text .now) (wants (c .before .before .before .before .before .before .before .before .before .before .before .before .before .before .before .before .before .before .before .before .before .before .before .before .before .before .before .before .before .args .depth)) (λ k. Shut (c .before .before .before .before .before .before .before .before .before .before .before .before .before .before .before .before .before .before .before .before .before .before .before .before .before .before .before .before .before .args .text .now) ((c .before .before .before .before .before .before .before .before .before .before .before .before .before .before .before .n .given .0 .1 .0) .at) (c .before .before .before .before .before .before .before .before .before .before .before .before .before .before .before .before .before .before .before .before .before .before .before .before .before .before .before .before .before .args .depth) k) (c .before .before .before .before .before .before .before .before .before .before .before .before .before .before .before .before .before .before .before .before .before .before .before .before .before .before .before .before .before .args .depth) (c .before .before .before .before .before .before .before .before .before .before .before .before .before .before .before .n .given .0 .1 .0) (c .before .before .before .before .before .before .before .before .before .before .before .before .put-record2 .last .0) (c .before .before .before .before .before .before .before .value .last .1 .1 .1 .0) (c .before .before .before .before .before .before .before .before .before .before .before .before .before .before .before .before .before .before .before .member .last .1 .1 .0) (c .before .before .before .before .before .before .before .value .last .1 .1 .1 .1 .0) r) (c .before .last .given .1) (c .before .before .before .before .before .before .before .value .ensures))) (c .before .before .before .before .before .before .before .value .kept .1 .1 .1 .0 ∙ c .before .before .before .before .before .before .before .before .before .before .before .before .put-record2 .kept .0)) .content)
+object-after-requires t c κs = content-ready ((member-added (c .before .before .before .before .before .before .before .before .before .before .before .before .before .before .before .before .before .before .before .before .before .before .before .before .before .loop .inv .0) (c .before .before .before .before .before .before .before .before .before .before .before .before .before .before .before .before .before .before .before .before .before .before .first .given .0 .0) (c .before .before .before .before .before .before .before .before .before .before .before .before .before .before .before .n .given .0 .1 .0) (c .before .last .given .0 .0) (c .before .before .before .before .before .before .before .before .before .before .before .before .before .before .before .n .given .0 .0) (c .before .before .before .before .before .before .before .before .before .before .before .before .before .before .before .before .before .before .before .member .last .1 .1 .0) (c .before .before .before .before .before .before .before .value .last .1 .1 .1 .0) (c .before .before .before .before .before .before .before .value .last .1 .1 .1 .1 .0) (subst (λ (r : Ahead). AheadSays (c .before .before .before .before .before .before .before .before .before .before .before .before .before .before .before .before .before .before .before .before .before .before .before .before .before .before .before .before .before .args .text .now) (cursor (c .before .before .before .before .before .before .before .before .before .before .before .before .before .before .before .before .before .before .before .before .before .before .before .before .before .loop .at) (c .before .before .before .before .before .before .before .before .before .before .before .before .before .before .before .before .before .before .before .before .before .before .before .before .before .loop .records) (c .before .before .before .before .before .before .before .before .before .before .before .before .before .before .before .before .before .before .before .before .before .before .before .before .before .loop .stored)) (ch "}") r) (c .before .before .before .before .before .before .before .before .before .before .before .before .before .before .before .before .before .before .before .before .before .before .first .given .1) (c .before .before .before .before .before .before .before .before .before .before .before .before .before .before .before .before .before .before .before .before .before .before .before .before .ahead .ensures)) (subst (λ (r : Member). MemberSays (c .before .before .before .before .before .before .before .before .before .before .before .before .before .before .before .before .before .before .before .before .before .before .before .before .before .before .before .before .before .args .text .now) (c .before .before .before .before .before .before .before .before .before .before .before .before .before .before .before .before .before .before .before .before .before .before .first .given .0 .0) (c .before .before .before .before .before .before .before .before .before .before .before .before .before .before .before .before .before .before .before .before .before .before .before .before .before .loop .store) (c .before .before .before .before .before .before .before .before .before .before .before .before .before .before .before .before .before .before .before .member .last .1 .1 .0) r) (c .before .before .before .before .before .before .before .before .before .before .before .before .before .before .before .n .given .1) (c .before .before .before .before .before .before .before .before .before .before .before .before .before .before .before .before .before .before .before .member .ensures)) (subst (λ (v : List ℕ). Took (c .before .before .before .before .before .before .before .before .before .before .before .before .before .before .before .before .before .before .before .before .before .before .before .before .before .before .before .before .before .args .text .now) (wants (c .before .before .before .before .before .before .before .before .before .before .before .before .before .before .before .before .before .before .before .before .before .before .before .before .before .before .before .before .before .args .depth)) (c .before .before .before .before .before .before .before .before .before .before .before .before .before .before .before .before .before .before .before .before .before .before .before .before .before .before .before .before .before .args .depth) (c .before .before .before .before .before .before .before .before .before .before .before .before .before .before .before .n .given .0 .1 .0) v (c .before .before .before .before .before .before .before .value .last .1 .1 .1 .0) (c .before .before .before .before .before .before .before .before .before .before .before .before .before .before .before .before .before .before .before .member .last .1 .1 .0) (c .before .before .before .before .before .before .before .value .last .1 .1 .1 .1 .0) (c .before .last .given .0 .0)) (c .before .before .before .before .before .before .before .before .before .before .before .before .put-record2 .ensures) (subst (λ (r : Step). Says (c .before .before .before .before .before .before .before .before .before .before .before .before .before .before .before .before .before .before .before .before .before .before .before .before .before .before .before .before .before .args .text .now) (wants (c .before .before .before .before .before .before .before .before .before .before .before .before .before .before .before .before .before .before .before .before .before .before .before .before .before .before .before .before .before .args .depth)) (λ k. Shut (c .before .before .before .before .before .before .before .before .before .before .before .before .before .before .before .before .before .before .before .before .before .before .before .before .before .before .before .before .before .args .text .now) ((c .before .before .before .before .before .before .before .before .before .before .before .before .before .before .before .n .given .0 .1 .0) .at) (c .before .before .before .before .before .before .before .before .before .before .before .before .before .before .before .before .before .before .before .before .before .before .before .before .before .before .before .before .before .args .depth) k) (c .before .before .before .before .before .before .before .before .before .before .before .before .before .before .before .before .before .before .before .before .before .before .before .before .before .before .before .before .before .args .depth) (c .before .before .before .before .before .before .before .before .before .before .before .before .before .before .before .n .given .0 .1 .0) (c .before .before .before .before .before .before .before .before .before .before .before .before .put-record2 .last .0) (c .before .before .before .before .before .before .before .value .last .1 .1 .1 .0) (c .before .before .before .before .before .before .before .before .before .before .before .before .before .before .before .before .before .before .before .member .last .1 .1 .0) (c .before .before .before .before .before .before .before .value .last .1 .1 .1 .1 .0) r) (c .before .last .given .1) (c .before .before .before .before .before .before .before .value .ensures))) (c .before .before .before .before .before .before .before .value .kept .1 .1 .1 .0 ∙ c .before .before .before .before .before .before .before .before .before .before .before .before .put-record2 .kept .0)) .content)
 
--- src/cursor.rt:192:48
 object-enum-known-why-4 : (t : ℕ) → object-lts.Need-enum-known-why-4 (object-calls t) (object-at t) object.Post object-Inv-loop object-μ-loop
 object-enum-known-why-4 t c = search needs
 
--- src/cursor.rt:193:37
 object-same-length-9 : (t : ℕ) → object-lts.Need-same-length-9 (object-calls t) (object-at t) object.Post object-Inv-loop object-μ-loop
 object-same-length-9 t c = c .before .before .before .before .before .before .before .before .before .before .before .value .kept .1 .1 .1 .0 ∙ c .before .before .before .before .before .before .before .before .before .before .before .before .before .before .before .before .put-record2 .kept .0 ∙ c .before .before .before .before .before .before .before .before .before .before .before .before .before .before .before .before .before .before .before .before .before .before .before .before .before .before .before .before .before .loop .inv .1
 
--- src/cursor.rt:193:37
 object-same-length-10 : (t : ℕ) → object-lts.Need-same-length-10 (object-calls t) (object-at t) object.Post object-Inv-loop object-μ-loop
 object-same-length-10 t c = c .before .before .before .before .before .before .before .before .before .before .before .value .kept .1 .1 .1 .1 .0 ∙ c .before .before .before .before .before .before .before .before .before .before .before .before .before .before .before .before .before .before .before .before .before .before .before .member .kept .1 .1 .0 ∙ c .before .before .before .before .before .before .before .before .before .before .before .before .before .before .before .before .before .before .before .before .before .before .before .before .before .before .before .before .before .loop .inv .2
 
--- src/cursor.rt:193:37
 object-returns-5 : (t : ℕ) → object-lts.Need-returns-5 (object-calls t) (object-at t) object.Post object-Inv-loop object-μ-loop
-object-returns-5 t c = added-refused (member-added (c .before .before .before .before .before .before .before .before .before .before .before .before .before .before .before .before .before .before .before .before .before .before .before .before .before .before .before .before .before .loop .inv .0) (c .before .before .before .before .before .before .before .before .before .before .before .before .before .before .before .before .before .before .before .before .before .before .before .before .before .before .first .given .0 .0) (c .before .before .before .before .before .before .before .before .before .before .before .before .before .before .before .before .before .before .before .n .given .0 .1 .0) (c .before .before .before .before .before .last .given .0 .0) (c .before .before .before .before .before .before .before .before .before .before .before .before .before .before .before .before .before .before .before .n .given .0 .0) (c .before .before .before .before .before .before .before .before .before .before .before .before .before .before .before .before .before .before .before .before .before .before .before .member .last .1 .1 .0) (c .before .before .before .before .before .before .before .before .before .before .before .value .last .1 .1 .1 .0) (c .before .before .before .before .before .before .before .before .before .before .before .value .last .1 .1 .1 .1 .0) (subst (λ (r : Open). OpenSays (c .before .before .before .before .before .before .before .before .before .before .before .before .before .before .before .before .before .before .before .before .before .before .before .before .before .before .before .before .before .before .before .before .before .args .text .now) (cursor (c .before .before .before .before .before .before .before .before .before .before .before .before .before .before .before .before .before .before .before .before .before .before .before .before .before .before .before .before .before .loop .at) (c .before .before .before .before .before .before .before .before .before .before .before .before .before .before .before .before .before .before .before .before .before .before .before .before .before .before .before .before .before .loop .records) (c .before .before .before .before .before .before .before .before .before .before .before .before .before .before .before .before .before .before .before .before .before .before .before .before .before .before .before .before .before .loop .stored)) (ch "}") r) (c .before .before .before .before .before .before .before .before .before .before .before .before .before .before .before .before .before .before .before .before .before .before .before .before .before .before .first .given .1) (c .before .before .before .before .before .before .before .before .before .before .before .before .before .before .before .before .before .before .before .before .before .before .before .before .before .before .before .before .«open» .ensures)) (subst (λ (r : Member). MemberSays (c .before .before .before .before .before .before .before .before .before .before .before .before .before .before .before .before .before .before .before .before .before .before .before .before .before .before .before .before .before .before .before .before .before .args .text .now) (c .before .before .before .before .before .before .before .before .before .before .before .before .before .before .before .before .before .before .before .before .before .before .before .before .before .before .first .given .0 .0) (c .before .before .before .before .before .before .before .before .before .before .before .before .before .before .before .before .before .before .before .before .before .before .before .before .before .before .before .before .before .loop .store) (c .before .before .before .before .before .before .before .before .before .before .before .before .before .before .before .before .before .before .before .before .before .before .before .member .last .1 .1 .0) r) (c .before .before .before .before .before .before .before .before .before .before .before .before .before .before .before .before .before .before .before .n .given .1) (c .before .before .before .before .before .before .before .before .before .before .before .before .before .before .before .before .before .before .before .before .before .before .before .member .ensures)) (subst (λ (v : List ℕ). Took (c .before .before .before .before .before .before .before .before .before .before .before .before .before .before .before .before .before .before .before .before .before .before .before .before .before .before .before .before .before .before .before .before .before .args .text .now) (wants (c .before .before .before .before .before .before .before .before .before .before .before .before .before .before .before .before .before .before .before .before .before .before .before .before .before .before .before .before .before .before .before .before .before .args .depth)) (c .before .before .before .before .before .before .before .before .before .before .before .before .before .before .before .before .before .before .before .before .before .before .before .before .before .before .before .before .before .before .before .before .before .args .depth) (c .before .before .before .before .before .before .before .before .before .before .before .before .before .before .before .before .before .before .before .n .given .0 .1 .0) v (c .before .before .before .before .before .before .before .before .before .before .before .value .last .1 .1 .1 .0) (c .before .before .before .before .before .before .before .before .before .before .before .before .before .before .before .before .before .before .before .before .before .before .before .member .last .1 .1 .0) (c .before .before .before .before .before .before .before .before .before .before .before .value .last .1 .1 .1 .1 .0) (c .before .before .before .before .before .last .given .0 .0)) (c .before .before .before .before .before .before .before .before .before .before .before .before .before .before .before .before .put-record2 .ensures) (subst (λ (r : Step). Says (c .before .before .before .before .before .before .before .before .before .before .before .before .before .before .before .before .before .before .before .before .before .before .before .before .before .before .before .before .before .before .before .before .before .args .text .now) (wants (c .before .before .before .before .before .before .before .before .before .before .before .before .before .before .before .before .before .before .before .before .before .before .before .before .before .before .before .before .before .before .before .before .before .args .depth)) (λ k. Shut (c .before .before .before .before .before .before .before .before .before .before .before .before .before .before .before .before .before .before .before .before .before .before .before .before .before .before .before .before .before .before .before .before .before .args .text .now) ((c .before .before .before .before .before .before .before .before .before .before .before .before .before .before .before .before .before .before .before .n .given .0 .1 .0) .at) (c .before .before .before .before .before .before .before .before .before .before .before .before .before .before .before .before .before .before .before .before .before .before .before .before .before .before .before .before .before .before .before .before .before .args .depth) k) (c .before .before .before .before .before .before .before .before .before .before .before .before .before .before .before .before .before .before .before .before .before .before .before .before .before .before .before .before .before .before .before .before .before .args .depth) (c .before .before .before .before .before .before .before .before .before .before .before .before .before .before .before .before .before .before .before .n .given .0 .1 .0) (c .before .before .before .before .before .before .before .before .before .before .before .before .before .before .before .before .put-record2 .last .0) (c .before .before .before .before .before .before .before .before .before .before .before .value .last .1 .1 .1 .0) (c .before .before .before .before .before .before .before .before .before .before .before .before .before .before .before .before .before .before .before .before .before .before .before .member .last .1 .1 .0) (c .before .before .before .before .before .before .before .before .before .before .before .value .last .1 .1 .1 .1 .0) r) (c .before .before .before .before .before .last .given .1) (c .before .before .before .before .before .before .before .before .before .before .before .value .ensures))) (c .before .before .before .before .before .before .before .before .before .before .before .value .kept .1 .1 .1 .0 ∙ c .before .before .before .before .before .before .before .before .before .before .before .before .before .before .before .before .put-record2 .kept .0)) (subst (λ (r : After). AfterSays (c .before .before .before .before .before .before .before .before .before .before .before .before .before .before .before .before .before .before .before .before .before .before .before .before .before .before .before .before .before .before .before .before .before .args .text .now) (c .before .before .before .before .before .last .given .0 .0) (ch "}") r) (c .before .why4 .given .1) (c .before .before .before .after .ensures))
+object-returns-5 t c = added-refused (member-added (c .before .before .before .before .before .before .before .before .before .before .before .before .before .before .before .before .before .before .before .before .before .before .before .before .before .before .before .before .before .loop .inv .0) (c .before .before .before .before .before .before .before .before .before .before .before .before .before .before .before .before .before .before .before .before .before .before .before .before .before .before .first .given .0 .0) (c .before .before .before .before .before .before .before .before .before .before .before .before .before .before .before .before .before .before .before .n .given .0 .1 .0) (c .before .before .before .before .before .last .given .0 .0) (c .before .before .before .before .before .before .before .before .before .before .before .before .before .before .before .before .before .before .before .n .given .0 .0) (c .before .before .before .before .before .before .before .before .before .before .before .before .before .before .before .before .before .before .before .before .before .before .before .member .last .1 .1 .0) (c .before .before .before .before .before .before .before .before .before .before .before .value .last .1 .1 .1 .0) (c .before .before .before .before .before .before .before .before .before .before .before .value .last .1 .1 .1 .1 .0) (subst (λ (r : Ahead). AheadSays (c .before .before .before .before .before .before .before .before .before .before .before .before .before .before .before .before .before .before .before .before .before .before .before .before .before .before .before .before .before .before .before .before .before .args .text .now) (cursor (c .before .before .before .before .before .before .before .before .before .before .before .before .before .before .before .before .before .before .before .before .before .before .before .before .before .before .before .before .before .loop .at) (c .before .before .before .before .before .before .before .before .before .before .before .before .before .before .before .before .before .before .before .before .before .before .before .before .before .before .before .before .before .loop .records) (c .before .before .before .before .before .before .before .before .before .before .before .before .before .before .before .before .before .before .before .before .before .before .before .before .before .before .before .before .before .loop .stored)) (ch "}") r) (c .before .before .before .before .before .before .before .before .before .before .before .before .before .before .before .before .before .before .before .before .before .before .before .before .before .before .first .given .1) (c .before .before .before .before .before .before .before .before .before .before .before .before .before .before .before .before .before .before .before .before .before .before .before .before .before .before .before .before .ahead .ensures)) (subst (λ (r : Member). MemberSays (c .before .before .before .before .before .before .before .before .before .before .before .before .before .before .before .before .before .before .before .before .before .before .before .before .before .before .before .before .before .before .before .before .before .args .text .now) (c .before .before .before .before .before .before .before .before .before .before .before .before .before .before .before .before .before .before .before .before .before .before .before .before .before .before .first .given .0 .0) (c .before .before .before .before .before .before .before .before .before .before .before .before .before .before .before .before .before .before .before .before .before .before .before .before .before .before .before .before .before .loop .store) (c .before .before .before .before .before .before .before .before .before .before .before .before .before .before .before .before .before .before .before .before .before .before .before .member .last .1 .1 .0) r) (c .before .before .before .before .before .before .before .before .before .before .before .before .before .before .before .before .before .before .before .n .given .1) (c .before .before .before .before .before .before .before .before .before .before .before .before .before .before .before .before .before .before .before .before .before .before .before .member .ensures)) (subst (λ (v : List ℕ). Took (c .before .before .before .before .before .before .before .before .before .before .before .before .before .before .before .before .before .before .before .before .before .before .before .before .before .before .before .before .before .before .before .before .before .args .text .now) (wants (c .before .before .before .before .before .before .before .before .before .before .before .before .before .before .before .before .before .before .before .before .before .before .before .before .before .before .before .before .before .before .before .before .before .args .depth)) (c .before .before .before .before .before .before .before .before .before .before .before .before .before .before .before .before .before .before .before .before .before .before .before .before .before .before .before .before .before .before .before .before .before .args .depth) (c .before .before .before .before .before .before .before .before .before .before .before .before .before .before .before .before .before .before .before .n .given .0 .1 .0) v (c .before .before .before .before .before .before .before .before .before .before .before .value .last .1 .1 .1 .0) (c .before .before .before .before .before .before .before .before .before .before .before .before .before .before .before .before .before .before .before .before .before .before .before .member .last .1 .1 .0) (c .before .before .before .before .before .before .before .before .before .before .before .value .last .1 .1 .1 .1 .0) (c .before .before .before .before .before .last .given .0 .0)) (c .before .before .before .before .before .before .before .before .before .before .before .before .before .before .before .before .put-record2 .ensures) (subst (λ (r : Step). Says (c .before .before .before .before .before .before .before .before .before .before .before .before .before .before .before .before .before .before .before .before .before .before .before .before .before .before .before .before .before .before .before .before .before .args .text .now) (wants (c .before .before .before .before .before .before .before .before .before .before .before .before .before .before .before .before .before .before .before .before .before .before .before .before .before .before .before .before .before .before .before .before .before .args .depth)) (λ k. Shut (c .before .before .before .before .before .before .before .before .before .before .before .before .before .before .before .before .before .before .before .before .before .before .before .before .before .before .before .before .before .before .before .before .before .args .text .now) ((c .before .before .before .before .before .before .before .before .before .before .before .before .before .before .before .before .before .before .before .n .given .0 .1 .0) .at) (c .before .before .before .before .before .before .before .before .before .before .before .before .before .before .before .before .before .before .before .before .before .before .before .before .before .before .before .before .before .before .before .before .before .args .depth) k) (c .before .before .before .before .before .before .before .before .before .before .before .before .before .before .before .before .before .before .before .before .before .before .before .before .before .before .before .before .before .before .before .before .before .args .depth) (c .before .before .before .before .before .before .before .before .before .before .before .before .before .before .before .before .before .before .before .n .given .0 .1 .0) (c .before .before .before .before .before .before .before .before .before .before .before .before .before .before .before .before .put-record2 .last .0) (c .before .before .before .before .before .before .before .before .before .before .before .value .last .1 .1 .1 .0) (c .before .before .before .before .before .before .before .before .before .before .before .before .before .before .before .before .before .before .before .before .before .before .before .member .last .1 .1 .0) (c .before .before .before .before .before .before .before .before .before .before .before .value .last .1 .1 .1 .1 .0) r) (c .before .before .before .before .before .last .given .1) (c .before .before .before .before .before .before .before .before .before .before .before .value .ensures))) (c .before .before .before .before .before .before .before .before .before .before .before .value .kept .1 .1 .1 .0 ∙ c .before .before .before .before .before .before .before .before .before .before .before .before .before .before .before .before .put-record2 .kept .0)) (subst (λ (r : After). AfterSays (c .before .before .before .before .before .before .before .before .before .before .before .before .before .before .before .before .before .before .before .before .before .before .before .before .before .before .before .before .before .before .before .before .before .args .text .now) (c .before .before .before .before .before .last .given .0 .0) (ch "}") r) (c .before .why4 .given .1) (c .before .before .before .after .ensures))
 
--- src/cursor.rt:195:46
 object-enum-known-next-2 : (t : ℕ) → object-lts.Need-enum-known-next-2 (object-calls t) (object-at t) object.Post object-Inv-loop object-μ-loop
 object-enum-known-next-2 t c = search needs
 
--- src/cursor.rt:196:37
 object-put-record-requires-3 : (t : ℕ) → object-lts.Need-put-record-requires-3 (object-calls t) (object-at t) object.Post object-Inv-loop object-μ-loop
 object-put-record-requires-3 t c κs = tt
 
--- src/cursor.rt:197:37
 object-same-length-11 : (t : ℕ) → object-lts.Need-same-length-11 (object-calls t) (object-at t) object.Post object-Inv-loop object-μ-loop
 object-same-length-11 t c = c .before .before .put-record3 .kept .0 ∙ c .before .before .before .before .before .before .before .before .before .before .before .before .before .before .before .value .kept .1 .1 .1 .0 ∙ c .before .before .before .before .before .before .before .before .before .before .before .before .before .before .before .before .before .before .before .before .put-record2 .kept .0 ∙ c .before .before .before .before .before .before .before .before .before .before .before .before .before .before .before .before .before .before .before .before .before .before .before .before .before .before .before .before .before .before .before .before .before .loop .inv .1
 
--- src/cursor.rt:197:37
 object-same-length-12 : (t : ℕ) → object-lts.Need-same-length-12 (object-calls t) (object-at t) object.Post object-Inv-loop object-μ-loop
 object-same-length-12 t c = c .before .before .before .before .before .before .before .before .before .before .before .before .before .before .before .value .kept .1 .1 .1 .1 .0 ∙ c .before .before .before .before .before .before .before .before .before .before .before .before .before .before .before .before .before .before .before .before .before .before .before .before .before .before .before .member .kept .1 .1 .0 ∙ c .before .before .before .before .before .before .before .before .before .before .before .before .before .before .before .before .before .before .before .before .before .before .before .before .before .before .before .before .before .before .before .before .before .loop .inv .2
 
--- src/cursor.rt:197:37
 object-returns-6 : (t : ℕ) → object-lts.Need-returns-6 (object-calls t) (object-at t) object.Post object-Inv-loop object-μ-loop
-object-returns-6 t c = rw (c .before .before .put-record3 .ensures) (added-close (member-added (c .before .before .before .before .before .before .before .before .before .before .before .before .before .before .before .before .before .before .before .before .before .before .before .before .before .before .before .before .before .before .before .before .before .loop .inv .0) (c .before .before .before .before .before .before .before .before .before .before .before .before .before .before .before .before .before .before .before .before .before .before .before .before .before .before .before .before .before .before .first .given .0 .0) (c .before .before .before .before .before .before .before .before .before .before .before .before .before .before .before .before .before .before .before .before .before .before .before .n .given .0 .1 .0) (c .before .before .before .before .before .before .before .before .before .last .given .0 .0) (c .before .before .before .before .before .before .before .before .before .before .before .before .before .before .before .before .before .before .before .before .before .before .before .n .given .0 .0) (c .before .before .before .before .before .before .before .before .before .before .before .before .before .before .before .before .before .before .before .before .before .before .before .before .before .before .before .member .last .1 .1 .0) (c .before .before .before .before .before .before .before .before .before .before .before .before .before .before .before .value .last .1 .1 .1 .0) (c .before .before .before .before .before .before .before .before .before .before .before .before .before .before .before .value .last .1 .1 .1 .1 .0) (subst (λ (r : Open). OpenSays (c .before .before .before .before .before .before .before .before .before .before .before .before .before .before .before .before .before .before .before .before .before .before .before .before .before .before .before .before .before .before .before .before .before .before .before .before .before .args .text .now) (cursor (c .before .before .before .before .before .before .before .before .before .before .before .before .before .before .before .before .before .before .before .before .before .before .before .before .before .before .before .before .before .before .before .before .before .loop .at) (c .before .before .before .before .before .before .before .before .before .before .before .before .before .before .before .before .before .before .before .before .before .before .before .before .before .before .before .before .before .before .before .before .before .loop .records) (c .before .before .before .before .before .before .before .before .before .before .before .before .before .before .before .before .before .before .before .before .before .before .before .before .before .before .before .before .before .before .before .before .before .loop .stored)) (ch "}") r) (c .before .before .before .before .before .before .before .before .before .before .before .before .before .before .before .before .before .before .before .before .before .before .before .before .before .before .before .before .before .before .first .given .1) (c .before .before .before .before .before .before .before .before .before .before .before .before .before .before .before .before .before .before .before .before .before .before .before .before .before .before .before .before .before .before .before .before .«open» .ensures)) (subst (λ (r : Member). MemberSays (c .before .before .before .before .before .before .before .before .before .before .before .before .before .before .before .before .before .before .before .before .before .before .before .before .before .before .before .before .before .before .before .before .before .before .before .before .before .args .text .now) (c .before .before .before .before .before .before .before .before .before .before .before .before .before .before .before .before .before .before .before .before .before .before .before .before .before .before .before .before .before .before .first .given .0 .0) (c .before .before .before .before .before .before .before .before .before .before .before .before .before .before .before .before .before .before .before .before .before .before .before .before .before .before .before .before .before .before .before .before .before .loop .store) (c .before .before .before .before .before .before .before .before .before .before .before .before .before .before .before .before .before .before .before .before .before .before .before .before .before .before .before .member .last .1 .1 .0) r) (c .before .before .before .before .before .before .before .before .before .before .before .before .before .before .before .before .before .before .before .before .before .before .before .n .given .1) (c .before .before .before .before .before .before .before .before .before .before .before .before .before .before .before .before .before .before .before .before .before .before .before .before .before .before .before .member .ensures)) (subst (λ (v : List ℕ). Took (c .before .before .before .before .before .before .before .before .before .before .before .before .before .before .before .before .before .before .before .before .before .before .before .before .before .before .before .before .before .before .before .before .before .before .before .before .before .args .text .now) (wants (c .before .before .before .before .before .before .before .before .before .before .before .before .before .before .before .before .before .before .before .before .before .before .before .before .before .before .before .before .before .before .before .before .before .before .before .before .before .args .depth)) (c .before .before .before .before .before .before .before .before .before .before .before .before .before .before .before .before .before .before .before .before .before .before .before .before .before .before .before .before .before .before .before .before .before .before .before .before .before .args .depth) (c .before .before .before .before .before .before .before .before .before .before .before .before .before .before .before .before .before .before .before .before .before .before .before .n .given .0 .1 .0) v (c .before .before .before .before .before .before .before .before .before .before .before .before .before .before .before .value .last .1 .1 .1 .0) (c .before .before .before .before .before .before .before .before .before .before .before .before .before .before .before .before .before .before .before .before .before .before .before .before .before .before .before .member .last .1 .1 .0) (c .before .before .before .before .before .before .before .before .before .before .before .before .before .before .before .value .last .1 .1 .1 .1 .0) (c .before .before .before .before .before .before .before .before .before .last .given .0 .0)) (c .before .before .before .before .before .before .before .before .before .before .before .before .before .before .before .before .before .before .before .before .put-record2 .ensures) (subst (λ (r : Step). Says (c .before .before .before .before .before .before .before .before .before .before .before .before .before .before .before .before .before .before .before .before .before .before .before .before .before .before .before .before .before .before .before .before .before .before .before .before .before .args .text .now) (wants (c .before .before .before .before .before .before .before .before .before .before .before .before .before .before .before .before .before .before .before .before .before .before .before .before .before .before .before .before .before .before .before .before .before .before .before .before .before .args .depth)) (λ k. Shut (c .before .before .before .before .before .before .before .before .before .before .before .before .before .before .before .before .before .before .before .before .before .before .before .before .before .before .before .before .before .before .before .before .before .before .before .before .before .args .text .now) ((c .before .before .before .before .before .before .before .before .before .before .before .before .before .before .before .before .before .before .before .before .before .before .before .n .given .0 .1 .0) .at) (c .before .before .before .before .before .before .before .before .before .before .before .before .before .before .before .before .before .before .before .before .before .before .before .before .before .before .before .before .before .before .before .before .before .before .before .before .before .args .depth) k) (c .before .before .before .before .before .before .before .before .before .before .before .before .before .before .before .before .before .before .before .before .before .before .before .before .before .before .before .before .before .before .before .before .before .before .before .before .before .args .depth) (c .before .before .before .before .before .before .before .before .before .before .before .before .before .before .before .before .before .before .before .before .before .before .before .n .given .0 .1 .0) (c .before .before .before .before .before .before .before .before .before .before .before .before .before .before .before .before .before .before .before .before .put-record2 .last .0) (c .before .before .before .before .before .before .before .before .before .before .before .before .before .before .before .value .last .1 .1 .1 .0) (c .before .before .before .before .before .before .before .before .before .before .before .before .before .before .before .before .before .before .before .before .before .before .before .before .before .before .before .member .last .1 .1 .0) (c .before .before .before .before .before .before .before .before .before .before .before .before .before .before .before .value .last .1 .1 .1 .1 .0) r) (c .before .before .before .before .before .before .before .before .before .last .given .1) (c .before .before .before .before .before .before .before .before .before .before .before .before .before .before .before .value .ensures))) (c .before .before .before .before .before .before .before .before .before .before .before .before .before .before .before .value .kept .1 .1 .1 .0 ∙ c .before .before .before .before .before .before .before .before .before .before .before .before .before .before .before .before .before .before .before .before .put-record2 .kept .0)) (c .before .before .before .before .before .before .before .before .before .before .before .before .before .before .before .before .before .before .before .before .before .before .before .before .before .before .before .before .before .before .before .before .before .before .before .before .before .args .self) (c .before .before .before .before .before .next2 .given .0 .0) refl refl refl (subst (λ (r : After). AfterSays (c .before .before .before .before .before .before .before .before .before .before .before .before .before .before .before .before .before .before .before .before .before .before .before .before .before .before .before .before .before .before .before .before .before .before .before .before .before .args .text .now) (c .before .before .before .before .before .before .before .before .before .last .given .0 .0) (ch "}") r) (c .before .before .before .before .before .next2 .given .1) (c .before .before .before .before .before .before .before .after .ensures)))
+object-returns-6 t c = rw (c .before .before .put-record3 .ensures) (added-close (member-added (c .before .before .before .before .before .before .before .before .before .before .before .before .before .before .before .before .before .before .before .before .before .before .before .before .before .before .before .before .before .before .before .before .before .loop .inv .0) (c .before .before .before .before .before .before .before .before .before .before .before .before .before .before .before .before .before .before .before .before .before .before .before .before .before .before .before .before .before .before .first .given .0 .0) (c .before .before .before .before .before .before .before .before .before .before .before .before .before .before .before .before .before .before .before .before .before .before .before .n .given .0 .1 .0) (c .before .before .before .before .before .before .before .before .before .last .given .0 .0) (c .before .before .before .before .before .before .before .before .before .before .before .before .before .before .before .before .before .before .before .before .before .before .before .n .given .0 .0) (c .before .before .before .before .before .before .before .before .before .before .before .before .before .before .before .before .before .before .before .before .before .before .before .before .before .before .before .member .last .1 .1 .0) (c .before .before .before .before .before .before .before .before .before .before .before .before .before .before .before .value .last .1 .1 .1 .0) (c .before .before .before .before .before .before .before .before .before .before .before .before .before .before .before .value .last .1 .1 .1 .1 .0) (subst (λ (r : Ahead). AheadSays (c .before .before .before .before .before .before .before .before .before .before .before .before .before .before .before .before .before .before .before .before .before .before .before .before .before .before .before .before .before .before .before .before .before .before .before .before .before .args .text .now) (cursor (c .before .before .before .before .before .before .before .before .before .before .before .before .before .before .before .before .before .before .before .before .before .before .before .before .before .before .before .before .before .before .before .before .before .loop .at) (c .before .before .before .before .before .before .before .before .before .before .before .before .before .before .before .before .before .before .before .before .before .before .before .before .before .before .before .before .before .before .before .before .before .loop .records) (c .before .before .before .before .before .before .before .before .before .before .before .before .before .before .before .before .before .before .before .before .before .before .before .before .before .before .before .before .before .before .before .before .before .loop .stored)) (ch "}") r) (c .before .before .before .before .before .before .before .before .before .before .before .before .before .before .before .before .before .before .before .before .before .before .before .before .before .before .before .before .before .before .first .given .1) (c .before .before .before .before .before .before .before .before .before .before .before .before .before .before .before .before .before .before .before .before .before .before .before .before .before .before .before .before .before .before .before .before .ahead .ensures)) (subst (λ (r : Member). MemberSays (c .before .before .before .before .before .before .before .before .before .before .before .before .before .before .before .before .before .before .before .before .before .before .before .before .before .before .before .before .before .before .before .before .before .before .before .before .before .args .text .now) (c .before .before .before .before .before .before .before .before .before .before .before .before .before .before .before .before .before .before .before .before .before .before .before .before .before .before .before .before .before .before .first .given .0 .0) (c .before .before .before .before .before .before .before .before .before .before .before .before .before .before .before .before .before .before .before .before .before .before .before .before .before .before .before .before .before .before .before .before .before .loop .store) (c .before .before .before .before .before .before .before .before .before .before .before .before .before .before .before .before .before .before .before .before .before .before .before .before .before .before .before .member .last .1 .1 .0) r) (c .before .before .before .before .before .before .before .before .before .before .before .before .before .before .before .before .before .before .before .before .before .before .before .n .given .1) (c .before .before .before .before .before .before .before .before .before .before .before .before .before .before .before .before .before .before .before .before .before .before .before .before .before .before .before .member .ensures)) (subst (λ (v : List ℕ). Took (c .before .before .before .before .before .before .before .before .before .before .before .before .before .before .before .before .before .before .before .before .before .before .before .before .before .before .before .before .before .before .before .before .before .before .before .before .before .args .text .now) (wants (c .before .before .before .before .before .before .before .before .before .before .before .before .before .before .before .before .before .before .before .before .before .before .before .before .before .before .before .before .before .before .before .before .before .before .before .before .before .args .depth)) (c .before .before .before .before .before .before .before .before .before .before .before .before .before .before .before .before .before .before .before .before .before .before .before .before .before .before .before .before .before .before .before .before .before .before .before .before .before .args .depth) (c .before .before .before .before .before .before .before .before .before .before .before .before .before .before .before .before .before .before .before .before .before .before .before .n .given .0 .1 .0) v (c .before .before .before .before .before .before .before .before .before .before .before .before .before .before .before .value .last .1 .1 .1 .0) (c .before .before .before .before .before .before .before .before .before .before .before .before .before .before .before .before .before .before .before .before .before .before .before .before .before .before .before .member .last .1 .1 .0) (c .before .before .before .before .before .before .before .before .before .before .before .before .before .before .before .value .last .1 .1 .1 .1 .0) (c .before .before .before .before .before .before .before .before .before .last .given .0 .0)) (c .before .before .before .before .before .before .before .before .before .before .before .before .before .before .before .before .before .before .before .before .put-record2 .ensures) (subst (λ (r : Step). Says (c .before .before .before .before .before .before .before .before .before .before .before .before .before .before .before .before .before .before .before .before .before .before .before .before .before .before .before .before .before .before .before .before .before .before .before .before .before .args .text .now) (wants (c .before .before .before .before .before .before .before .before .before .before .before .before .before .before .before .before .before .before .before .before .before .before .before .before .before .before .before .before .before .before .before .before .before .before .before .before .before .args .depth)) (λ k. Shut (c .before .before .before .before .before .before .before .before .before .before .before .before .before .before .before .before .before .before .before .before .before .before .before .before .before .before .before .before .before .before .before .before .before .before .before .before .before .args .text .now) ((c .before .before .before .before .before .before .before .before .before .before .before .before .before .before .before .before .before .before .before .before .before .before .before .n .given .0 .1 .0) .at) (c .before .before .before .before .before .before .before .before .before .before .before .before .before .before .before .before .before .before .before .before .before .before .before .before .before .before .before .before .before .before .before .before .before .before .before .before .before .args .depth) k) (c .before .before .before .before .before .before .before .before .before .before .before .before .before .before .before .before .before .before .before .before .before .before .before .before .before .before .before .before .before .before .before .before .before .before .before .before .before .args .depth) (c .before .before .before .before .before .before .before .before .before .before .before .before .before .before .before .before .before .before .before .before .before .before .before .n .given .0 .1 .0) (c .before .before .before .before .before .before .before .before .before .before .before .before .before .before .before .before .before .before .before .before .put-record2 .last .0) (c .before .before .before .before .before .before .before .before .before .before .before .before .before .before .before .value .last .1 .1 .1 .0) (c .before .before .before .before .before .before .before .before .before .before .before .before .before .before .before .before .before .before .before .before .before .before .before .before .before .before .before .member .last .1 .1 .0) (c .before .before .before .before .before .before .before .before .before .before .before .before .before .before .before .value .last .1 .1 .1 .1 .0) r) (c .before .before .before .before .before .before .before .before .before .last .given .1) (c .before .before .before .before .before .before .before .before .before .before .before .before .before .before .before .value .ensures))) (c .before .before .before .before .before .before .before .before .before .before .before .before .before .before .before .value .kept .1 .1 .1 .0 ∙ c .before .before .before .before .before .before .before .before .before .before .before .before .before .before .before .before .before .before .before .before .put-record2 .kept .0)) (c .before .before .before .before .before .before .before .before .before .before .before .before .before .before .before .before .before .before .before .before .before .before .before .before .before .before .before .before .before .before .before .before .before .before .before .before .before .args .self) (c .before .before .before .before .before .next2 .given .0 .0) refl refl refl (subst (λ (r : After). AfterSays (c .before .before .before .before .before .before .before .before .before .before .before .before .before .before .before .before .before .before .before .before .before .before .before .before .before .before .before .before .before .before .before .before .before .before .before .before .before .args .text .now) (c .before .before .before .before .before .before .before .before .before .last .given .0 .0) (ch "}") r) (c .before .before .before .before .before .next2 .given .1) (c .before .before .before .before .before .before .before .after .ensures)))
 
--- src/cursor.rt:199:46
 object-enum-known-next-3 : (t : ℕ) → object-lts.Need-enum-known-next-3 (object-calls t) (object-at t) object.Post object-Inv-loop object-μ-loop
 object-enum-known-next-3 t c = search needs
 
--- src/cursor.rt:172:9
 object-loop-less : (t : ℕ) → object-lts.Need-loop-less (object-calls t) (object-at t) object.Post object-Inv-loop object-μ-loop
-object-loop-less t c = let h : Begins (c .before .before .before .before .before .before .before .before .before .before .before .before .before .before .before .before .before .before .before .before .before .before .before .before .before .before .before .before .before .before .before .before .before .args .text .now) (cursor (c .before .before .before .before .before .before .before .before .before .before .before .before .before .before .before .before .before .before .before .before .before .before .before .before .before .before .before .before .before .loop .at) (c .before .before .before .before .before .before .before .before .before .before .before .before .before .before .before .before .before .before .before .before .before .before .before .before .before .before .before .before .before .loop .records) (c .before .before .before .before .before .before .before .before .before .before .before .before .before .before .before .before .before .before .before .before .before .before .before .before .before .before .before .before .before .loop .stored)) (ch "}") (c .before .before .before .before .before .before .before .before .before .before .before .before .before .before .before .before .before .before .before .before .before .before .before .before .before .before .first .given .0 .0) = (subst (λ (r : Open). OpenSays (c .before .before .before .before .before .before .before .before .before .before .before .before .before .before .before .before .before .before .before .before .before .before .before .before .before .before .before .before .before .before .before .before .before .args .text .now) (cursor (c .before .before .before .before .before .before .before .before .before .before .before .before .before .before .before .before .before .before .before .before .before .before .before .before .before .before .before .before .before .loop .at) (c .before .before .before .before .before .before .before .before .before .before .before .before .before .before .before .before .before .before .before .before .before .before .before .before .before .before .before .before .before .loop .records) (c .before .before .before .before .before .before .before .before .before .before .before .before .before .before .before .before .before .before .before .before .before .before .before .before .before .before .before .before .before .loop .stored)) (ch "}") r) (c .before .before .before .before .before .before .before .before .before .before .before .before .before .before .before .before .before .before .before .before .before .before .before .before .before .before .first .given .1) (c .before .before .before .before .before .before .before .before .before .before .before .before .before .before .before .before .before .before .before .before .before .before .before .before .before .before .before .before .«open» .ensures)) in let d : Named (c .before .before .before .before .before .before .before .before .before .before .before .before .before .before .before .before .before .before .before .before .before .before .before .before .before .before .before .before .before .before .before .before .before .args .text .now) (c .before .before .before .before .before .before .before .before .before .before .before .before .before .before .before .before .before .before .before .before .before .before .before .before .before .before .first .given .0 .0) (c .before .before .before .before .before .before .before .before .before .before .before .before .before .before .before .before .before .before .before .before .before .before .before .before .before .before .before .before .before .loop .store) (c .before .before .before .before .before .before .before .before .before .before .before .before .before .before .before .before .before .before .before .before .before .before .before .member .last .1 .1 .0) (c .before .before .before .before .before .before .before .before .before .before .before .before .before .before .before .before .before .before .before .n .given .0 .0) (c .before .before .before .before .before .before .before .before .before .before .before .before .before .before .before .before .before .before .before .n .given .0 .1 .0) = (subst (λ (r : Member). MemberSays (c .before .before .before .before .before .before .before .before .before .before .before .before .before .before .before .before .before .before .before .before .before .before .before .before .before .before .before .before .before .before .before .before .before .args .text .now) (c .before .before .before .before .before .before .before .before .before .before .before .before .before .before .before .before .before .before .before .before .before .before .before .before .before .before .first .given .0 .0) (c .before .before .before .before .before .before .before .before .before .before .before .before .before .before .before .before .before .before .before .before .before .before .before .before .before .before .before .before .before .loop .store) (c .before .before .before .before .before .before .before .before .before .before .before .before .before .before .before .before .before .before .before .before .before .before .before .member .last .1 .1 .0) r) (c .before .before .before .before .before .before .before .before .before .before .before .before .before .before .before .before .before .before .before .n .given .1) (c .before .before .before .before .before .before .before .before .before .before .before .before .before .before .before .before .before .before .before .before .before .before .before .member .ensures)) in let w : Took (c .before .before .before .before .before .before .before .before .before .before .before .before .before .before .before .before .before .before .before .before .before .before .before .before .before .before .before .before .before .before .before .before .before .args .text .now) (wants (c .before .before .before .before .before .before .before .before .before .before .before .before .before .before .before .before .before .before .before .before .before .before .before .before .before .before .before .before .before .before .before .before .before .args .depth)) (c .before .before .before .before .before .before .before .before .before .before .before .before .before .before .before .before .before .before .before .before .before .before .before .before .before .before .before .before .before .before .before .before .before .args .depth) (c .before .before .before .before .before .before .before .before .before .before .before .before .before .before .before .before .before .before .before .n .given .0 .1 .0) (c .before .before .before .before .before .before .before .before .before .before .before .before .before .before .before .before .put-record2 .last .0) (c .before .before .before .before .before .before .before .before .before .before .before .value .last .1 .1 .1 .0) (c .before .before .before .before .before .before .before .before .before .before .before .before .before .before .before .before .before .before .before .before .before .before .before .member .last .1 .1 .0) (c .before .before .before .before .before .before .before .before .before .before .before .value .last .1 .1 .1 .1 .0) (c .before .before .before .before .before .last .given .0 .0) = (subst (λ (r : Step). Says (c .before .before .before .before .before .before .before .before .before .before .before .before .before .before .before .before .before .before .before .before .before .before .before .before .before .before .before .before .before .before .before .before .before .args .text .now) (wants (c .before .before .before .before .before .before .before .before .before .before .before .before .before .before .before .before .before .before .before .before .before .before .before .before .before .before .before .before .before .before .before .before .before .args .depth)) (λ k. Shut (c .before .before .before .before .before .before .before .before .before .before .before .before .before .before .before .before .before .before .before .before .before .before .before .before .before .before .before .before .before .before .before .before .before .args .text .now) ((c .before .before .before .before .before .before .before .before .before .before .before .before .before .before .before .before .before .before .before .n .given .0 .1 .0) .at) (c .before .before .before .before .before .before .before .before .before .before .before .before .before .before .before .before .before .before .before .before .before .before .before .before .before .before .before .before .before .before .before .before .before .args .depth) k) (c .before .before .before .before .before .before .before .before .before .before .before .before .before .before .before .before .before .before .before .before .before .before .before .before .before .before .before .before .before .before .before .before .before .args .depth) (c .before .before .before .before .before .before .before .before .before .before .before .before .before .before .before .before .before .before .before .n .given .0 .1 .0) (c .before .before .before .before .before .before .before .before .before .before .before .before .before .before .before .before .put-record2 .last .0) (c .before .before .before .before .before .before .before .before .before .before .before .value .last .1 .1 .1 .0) (c .before .before .before .before .before .before .before .before .before .before .before .before .before .before .before .before .before .before .before .before .before .before .before .member .last .1 .1 .0) (c .before .before .before .before .before .before .before .before .before .before .before .value .last .1 .1 .1 .1 .0) r) (c .before .before .before .before .before .last .given .1) (c .before .before .before .before .before .before .before .before .before .before .before .value .ensures)) in let m : Moved (c .before .before .before .before .before .before .before .before .before .before .before .before .before .before .before .before .before .before .before .before .before .before .before .before .before .before .before .before .before .before .before .before .before .args .text .now) (c .before .before .before .before .before .last .given .0 .0) (c .before .next3 .given .0 .0) = (subst (λ (r : After). AfterSays (c .before .before .before .before .before .before .before .before .before .before .before .before .before .before .before .before .before .before .before .before .before .before .before .before .before .before .before .before .before .before .before .before .before .args .text .now) (c .before .before .before .before .before .last .given .0 .0) (ch "}") r) (c .before .next3 .given .1) (c .before .before .before .after .ensures)) .1 in omega (arith, h .behind, d .past, w .past, m .past, m .within)
+object-loop-less t c = let h : Begins (c .before .before .before .before .before .before .before .before .before .before .before .before .before .before .before .before .before .before .before .before .before .before .before .before .before .before .before .before .before .before .before .before .before .args .text .now) (cursor (c .before .before .before .before .before .before .before .before .before .before .before .before .before .before .before .before .before .before .before .before .before .before .before .before .before .before .before .before .before .loop .at) (c .before .before .before .before .before .before .before .before .before .before .before .before .before .before .before .before .before .before .before .before .before .before .before .before .before .before .before .before .before .loop .records) (c .before .before .before .before .before .before .before .before .before .before .before .before .before .before .before .before .before .before .before .before .before .before .before .before .before .before .before .before .before .loop .stored)) (ch "}") (c .before .before .before .before .before .before .before .before .before .before .before .before .before .before .before .before .before .before .before .before .before .before .before .before .before .before .first .given .0 .0) = (subst (λ (r : Ahead). AheadSays (c .before .before .before .before .before .before .before .before .before .before .before .before .before .before .before .before .before .before .before .before .before .before .before .before .before .before .before .before .before .before .before .before .before .args .text .now) (cursor (c .before .before .before .before .before .before .before .before .before .before .before .before .before .before .before .before .before .before .before .before .before .before .before .before .before .before .before .before .before .loop .at) (c .before .before .before .before .before .before .before .before .before .before .before .before .before .before .before .before .before .before .before .before .before .before .before .before .before .before .before .before .before .loop .records) (c .before .before .before .before .before .before .before .before .before .before .before .before .before .before .before .before .before .before .before .before .before .before .before .before .before .before .before .before .before .loop .stored)) (ch "}") r) (c .before .before .before .before .before .before .before .before .before .before .before .before .before .before .before .before .before .before .before .before .before .before .before .before .before .before .first .given .1) (c .before .before .before .before .before .before .before .before .before .before .before .before .before .before .before .before .before .before .before .before .before .before .before .before .before .before .before .before .ahead .ensures)) in let d : Named (c .before .before .before .before .before .before .before .before .before .before .before .before .before .before .before .before .before .before .before .before .before .before .before .before .before .before .before .before .before .before .before .before .before .args .text .now) (c .before .before .before .before .before .before .before .before .before .before .before .before .before .before .before .before .before .before .before .before .before .before .before .before .before .before .first .given .0 .0) (c .before .before .before .before .before .before .before .before .before .before .before .before .before .before .before .before .before .before .before .before .before .before .before .before .before .before .before .before .before .loop .store) (c .before .before .before .before .before .before .before .before .before .before .before .before .before .before .before .before .before .before .before .before .before .before .before .member .last .1 .1 .0) (c .before .before .before .before .before .before .before .before .before .before .before .before .before .before .before .before .before .before .before .n .given .0 .0) (c .before .before .before .before .before .before .before .before .before .before .before .before .before .before .before .before .before .before .before .n .given .0 .1 .0) = (subst (λ (r : Member). MemberSays (c .before .before .before .before .before .before .before .before .before .before .before .before .before .before .before .before .before .before .before .before .before .before .before .before .before .before .before .before .before .before .before .before .before .args .text .now) (c .before .before .before .before .before .before .before .before .before .before .before .before .before .before .before .before .before .before .before .before .before .before .before .before .before .before .first .given .0 .0) (c .before .before .before .before .before .before .before .before .before .before .before .before .before .before .before .before .before .before .before .before .before .before .before .before .before .before .before .before .before .loop .store) (c .before .before .before .before .before .before .before .before .before .before .before .before .before .before .before .before .before .before .before .before .before .before .before .member .last .1 .1 .0) r) (c .before .before .before .before .before .before .before .before .before .before .before .before .before .before .before .before .before .before .before .n .given .1) (c .before .before .before .before .before .before .before .before .before .before .before .before .before .before .before .before .before .before .before .before .before .before .before .member .ensures)) in let w : Took (c .before .before .before .before .before .before .before .before .before .before .before .before .before .before .before .before .before .before .before .before .before .before .before .before .before .before .before .before .before .before .before .before .before .args .text .now) (wants (c .before .before .before .before .before .before .before .before .before .before .before .before .before .before .before .before .before .before .before .before .before .before .before .before .before .before .before .before .before .before .before .before .before .args .depth)) (c .before .before .before .before .before .before .before .before .before .before .before .before .before .before .before .before .before .before .before .before .before .before .before .before .before .before .before .before .before .before .before .before .before .args .depth) (c .before .before .before .before .before .before .before .before .before .before .before .before .before .before .before .before .before .before .before .n .given .0 .1 .0) (c .before .before .before .before .before .before .before .before .before .before .before .before .before .before .before .before .put-record2 .last .0) (c .before .before .before .before .before .before .before .before .before .before .before .value .last .1 .1 .1 .0) (c .before .before .before .before .before .before .before .before .before .before .before .before .before .before .before .before .before .before .before .before .before .before .before .member .last .1 .1 .0) (c .before .before .before .before .before .before .before .before .before .before .before .value .last .1 .1 .1 .1 .0) (c .before .before .before .before .before .last .given .0 .0) = (subst (λ (r : Step). Says (c .before .before .before .before .before .before .before .before .before .before .before .before .before .before .before .before .before .before .before .before .before .before .before .before .before .before .before .before .before .before .before .before .before .args .text .now) (wants (c .before .before .before .before .before .before .before .before .before .before .before .before .before .before .before .before .before .before .before .before .before .before .before .before .before .before .before .before .before .before .before .before .before .args .depth)) (λ k. Shut (c .before .before .before .before .before .before .before .before .before .before .before .before .before .before .before .before .before .before .before .before .before .before .before .before .before .before .before .before .before .before .before .before .before .args .text .now) ((c .before .before .before .before .before .before .before .before .before .before .before .before .before .before .before .before .before .before .before .n .given .0 .1 .0) .at) (c .before .before .before .before .before .before .before .before .before .before .before .before .before .before .before .before .before .before .before .before .before .before .before .before .before .before .before .before .before .before .before .before .before .args .depth) k) (c .before .before .before .before .before .before .before .before .before .before .before .before .before .before .before .before .before .before .before .before .before .before .before .before .before .before .before .before .before .before .before .before .before .args .depth) (c .before .before .before .before .before .before .before .before .before .before .before .before .before .before .before .before .before .before .before .n .given .0 .1 .0) (c .before .before .before .before .before .before .before .before .before .before .before .before .before .before .before .before .put-record2 .last .0) (c .before .before .before .before .before .before .before .before .before .before .before .value .last .1 .1 .1 .0) (c .before .before .before .before .before .before .before .before .before .before .before .before .before .before .before .before .before .before .before .before .before .before .before .member .last .1 .1 .0) (c .before .before .before .before .before .before .before .before .before .before .before .value .last .1 .1 .1 .1 .0) r) (c .before .before .before .before .before .last .given .1) (c .before .before .before .before .before .before .before .before .before .before .before .value .ensures)) in let m : Moved (c .before .before .before .before .before .before .before .before .before .before .before .before .before .before .before .before .before .before .before .before .before .before .before .before .before .before .before .before .before .before .before .before .before .args .text .now) (c .before .before .before .before .before .last .given .0 .0) (c .before .next3 .given .0 .0) = (subst (λ (r : After). AfterSays (c .before .before .before .before .before .before .before .before .before .before .before .before .before .before .before .before .before .before .before .before .before .before .before .before .before .before .before .before .before .before .before .before .before .args .text .now) (c .before .before .before .before .before .last .given .0 .0) (ch "}") r) (c .before .next3 .given .1) (c .before .before .before .after .ensures)) .1 in omega (arith, h .behind, d .past, w .past, m .past, m .within)
 
--- src/cursor.rt:172:9
 object-loop-again : (t : ℕ) → object-lts.Need-loop-again (object-calls t) (object-at t) object.Post object-Inv-loop object-μ-loop
-object-loop-again t c = (added-comma (member-added (c .before .before .before .before .before .before .before .before .before .before .before .before .before .before .before .before .before .before .before .before .before .before .before .before .before .before .before .before .before .loop .inv .0) (c .before .before .before .before .before .before .before .before .before .before .before .before .before .before .before .before .before .before .before .before .before .before .before .before .before .before .first .given .0 .0) (c .before .before .before .before .before .before .before .before .before .before .before .before .before .before .before .before .before .before .before .n .given .0 .1 .0) (c .before .before .before .before .before .last .given .0 .0) (c .before .before .before .before .before .before .before .before .before .before .before .before .before .before .before .before .before .before .before .n .given .0 .0) (c .before .before .before .before .before .before .before .before .before .before .before .before .before .before .before .before .before .before .before .before .before .before .before .member .last .1 .1 .0) (c .before .before .before .before .before .before .before .before .before .before .before .value .last .1 .1 .1 .0) (c .before .before .before .before .before .before .before .before .before .before .before .value .last .1 .1 .1 .1 .0) (subst (λ (r : Open). OpenSays (c .before .before .before .before .before .before .before .before .before .before .before .before .before .before .before .before .before .before .before .before .before .before .before .before .before .before .before .before .before .before .before .before .before .args .text .now) (cursor (c .before .before .before .before .before .before .before .before .before .before .before .before .before .before .before .before .before .before .before .before .before .before .before .before .before .before .before .before .before .loop .at) (c .before .before .before .before .before .before .before .before .before .before .before .before .before .before .before .before .before .before .before .before .before .before .before .before .before .before .before .before .before .loop .records) (c .before .before .before .before .before .before .before .before .before .before .before .before .before .before .before .before .before .before .before .before .before .before .before .before .before .before .before .before .before .loop .stored)) (ch "}") r) (c .before .before .before .before .before .before .before .before .before .before .before .before .before .before .before .before .before .before .before .before .before .before .before .before .before .before .first .given .1) (c .before .before .before .before .before .before .before .before .before .before .before .before .before .before .before .before .before .before .before .before .before .before .before .before .before .before .before .before .«open» .ensures)) (subst (λ (r : Member). MemberSays (c .before .before .before .before .before .before .before .before .before .before .before .before .before .before .before .before .before .before .before .before .before .before .before .before .before .before .before .before .before .before .before .before .before .args .text .now) (c .before .before .before .before .before .before .before .before .before .before .before .before .before .before .before .before .before .before .before .before .before .before .before .before .before .before .first .given .0 .0) (c .before .before .before .before .before .before .before .before .before .before .before .before .before .before .before .before .before .before .before .before .before .before .before .before .before .before .before .before .before .loop .store) (c .before .before .before .before .before .before .before .before .before .before .before .before .before .before .before .before .before .before .before .before .before .before .before .member .last .1 .1 .0) r) (c .before .before .before .before .before .before .before .before .before .before .before .before .before .before .before .before .before .before .before .n .given .1) (c .before .before .before .before .before .before .before .before .before .before .before .before .before .before .before .before .before .before .before .before .before .before .before .member .ensures)) (subst (λ (v : List ℕ). Took (c .before .before .before .before .before .before .before .before .before .before .before .before .before .before .before .before .before .before .before .before .before .before .before .before .before .before .before .before .before .before .before .before .before .args .text .now) (wants (c .before .before .before .before .before .before .before .before .before .before .before .before .before .before .before .before .before .before .before .before .before .before .before .before .before .before .before .before .before .before .before .before .before .args .depth)) (c .before .before .before .before .before .before .before .before .before .before .before .before .before .before .before .before .before .before .before .before .before .before .before .before .before .before .before .before .before .before .before .before .before .args .depth) (c .before .before .before .before .before .before .before .before .before .before .before .before .before .before .before .before .before .before .before .n .given .0 .1 .0) v (c .before .before .before .before .before .before .before .before .before .before .before .value .last .1 .1 .1 .0) (c .before .before .before .before .before .before .before .before .before .before .before .before .before .before .before .before .before .before .before .before .before .before .before .member .last .1 .1 .0) (c .before .before .before .before .before .before .before .before .before .before .before .value .last .1 .1 .1 .1 .0) (c .before .before .before .before .before .last .given .0 .0)) (c .before .before .before .before .before .before .before .before .before .before .before .before .before .before .before .before .put-record2 .ensures) (subst (λ (r : Step). Says (c .before .before .before .before .before .before .before .before .before .before .before .before .before .before .before .before .before .before .before .before .before .before .before .before .before .before .before .before .before .before .before .before .before .args .text .now) (wants (c .before .before .before .before .before .before .before .before .before .before .before .before .before .before .before .before .before .before .before .before .before .before .before .before .before .before .before .before .before .before .before .before .before .args .depth)) (λ k. Shut (c .before .before .before .before .before .before .before .before .before .before .before .before .before .before .before .before .before .before .before .before .before .before .before .before .before .before .before .before .before .before .before .before .before .args .text .now) ((c .before .before .before .before .before .before .before .before .before .before .before .before .before .before .before .before .before .before .before .n .given .0 .1 .0) .at) (c .before .before .before .before .before .before .before .before .before .before .before .before .before .before .before .before .before .before .before .before .before .before .before .before .before .before .before .before .before .before .before .before .before .args .depth) k) (c .before .before .before .before .before .before .before .before .before .before .before .before .before .before .before .before .before .before .before .before .before .before .before .before .before .before .before .before .before .before .before .before .before .args .depth) (c .before .before .before .before .before .before .before .before .before .before .before .before .before .before .before .before .before .before .before .n .given .0 .1 .0) (c .before .before .before .before .before .before .before .before .before .before .before .before .before .before .before .before .put-record2 .last .0) (c .before .before .before .before .before .before .before .before .before .before .before .value .last .1 .1 .1 .0) (c .before .before .before .before .before .before .before .before .before .before .before .before .before .before .before .before .before .before .before .before .before .before .before .member .last .1 .1 .0) (c .before .before .before .before .before .before .before .before .before .before .before .value .last .1 .1 .1 .1 .0) r) (c .before .before .before .before .before .last .given .1) (c .before .before .before .before .before .before .before .before .before .before .before .value .ensures))) (c .before .before .before .before .before .before .before .before .before .before .before .value .kept .1 .1 .1 .0 ∙ c .before .before .before .before .before .before .before .before .before .before .before .before .before .before .before .before .put-record2 .kept .0)) (c .before .next3 .given .0 .0) (subst (λ (r : After). AfterSays (c .before .before .before .before .before .before .before .before .before .before .before .before .before .before .before .before .before .before .before .before .before .before .before .before .before .before .before .before .before .before .before .before .before .args .text .now) (c .before .before .before .before .before .last .given .0 .0) (ch "}") r) (c .before .next3 .given .1) (c .before .before .before .after .ensures)), c .before .before .before .before .before .before .before .before .before .before .before .value .kept .1 .1 .1 .0 ∙ c .before .before .before .before .before .before .before .before .before .before .before .before .before .before .before .before .put-record2 .kept .0 ∙ c .before .before .before .before .before .before .before .before .before .before .before .before .before .before .before .before .before .before .before .before .before .before .before .before .before .before .before .before .before .loop .inv .1, c .before .before .before .before .before .before .before .before .before .before .before .value .kept .1 .1 .1 .1 .0 ∙ c .before .before .before .before .before .before .before .before .before .before .before .before .before .before .before .before .before .before .before .before .before .before .before .member .kept .1 .1 .0 ∙ c .before .before .before .before .before .before .before .before .before .before .before .before .before .before .before .before .before .before .before .before .before .before .before .before .before .before .before .before .before .loop .inv .2)
+object-loop-again t c = (added-comma (member-added (c .before .before .before .before .before .before .before .before .before .before .before .before .before .before .before .before .before .before .before .before .before .before .before .before .before .before .before .before .before .loop .inv .0) (c .before .before .before .before .before .before .before .before .before .before .before .before .before .before .before .before .before .before .before .before .before .before .before .before .before .before .first .given .0 .0) (c .before .before .before .before .before .before .before .before .before .before .before .before .before .before .before .before .before .before .before .n .given .0 .1 .0) (c .before .before .before .before .before .last .given .0 .0) (c .before .before .before .before .before .before .before .before .before .before .before .before .before .before .before .before .before .before .before .n .given .0 .0) (c .before .before .before .before .before .before .before .before .before .before .before .before .before .before .before .before .before .before .before .before .before .before .before .member .last .1 .1 .0) (c .before .before .before .before .before .before .before .before .before .before .before .value .last .1 .1 .1 .0) (c .before .before .before .before .before .before .before .before .before .before .before .value .last .1 .1 .1 .1 .0) (subst (λ (r : Ahead). AheadSays (c .before .before .before .before .before .before .before .before .before .before .before .before .before .before .before .before .before .before .before .before .before .before .before .before .before .before .before .before .before .before .before .before .before .args .text .now) (cursor (c .before .before .before .before .before .before .before .before .before .before .before .before .before .before .before .before .before .before .before .before .before .before .before .before .before .before .before .before .before .loop .at) (c .before .before .before .before .before .before .before .before .before .before .before .before .before .before .before .before .before .before .before .before .before .before .before .before .before .before .before .before .before .loop .records) (c .before .before .before .before .before .before .before .before .before .before .before .before .before .before .before .before .before .before .before .before .before .before .before .before .before .before .before .before .before .loop .stored)) (ch "}") r) (c .before .before .before .before .before .before .before .before .before .before .before .before .before .before .before .before .before .before .before .before .before .before .before .before .before .before .first .given .1) (c .before .before .before .before .before .before .before .before .before .before .before .before .before .before .before .before .before .before .before .before .before .before .before .before .before .before .before .before .ahead .ensures)) (subst (λ (r : Member). MemberSays (c .before .before .before .before .before .before .before .before .before .before .before .before .before .before .before .before .before .before .before .before .before .before .before .before .before .before .before .before .before .before .before .before .before .args .text .now) (c .before .before .before .before .before .before .before .before .before .before .before .before .before .before .before .before .before .before .before .before .before .before .before .before .before .before .first .given .0 .0) (c .before .before .before .before .before .before .before .before .before .before .before .before .before .before .before .before .before .before .before .before .before .before .before .before .before .before .before .before .before .loop .store) (c .before .before .before .before .before .before .before .before .before .before .before .before .before .before .before .before .before .before .before .before .before .before .before .member .last .1 .1 .0) r) (c .before .before .before .before .before .before .before .before .before .before .before .before .before .before .before .before .before .before .before .n .given .1) (c .before .before .before .before .before .before .before .before .before .before .before .before .before .before .before .before .before .before .before .before .before .before .before .member .ensures)) (subst (λ (v : List ℕ). Took (c .before .before .before .before .before .before .before .before .before .before .before .before .before .before .before .before .before .before .before .before .before .before .before .before .before .before .before .before .before .before .before .before .before .args .text .now) (wants (c .before .before .before .before .before .before .before .before .before .before .before .before .before .before .before .before .before .before .before .before .before .before .before .before .before .before .before .before .before .before .before .before .before .args .depth)) (c .before .before .before .before .before .before .before .before .before .before .before .before .before .before .before .before .before .before .before .before .before .before .before .before .before .before .before .before .before .before .before .before .before .args .depth) (c .before .before .before .before .before .before .before .before .before .before .before .before .before .before .before .before .before .before .before .n .given .0 .1 .0) v (c .before .before .before .before .before .before .before .before .before .before .before .value .last .1 .1 .1 .0) (c .before .before .before .before .before .before .before .before .before .before .before .before .before .before .before .before .before .before .before .before .before .before .before .member .last .1 .1 .0) (c .before .before .before .before .before .before .before .before .before .before .before .value .last .1 .1 .1 .1 .0) (c .before .before .before .before .before .last .given .0 .0)) (c .before .before .before .before .before .before .before .before .before .before .before .before .before .before .before .before .put-record2 .ensures) (subst (λ (r : Step). Says (c .before .before .before .before .before .before .before .before .before .before .before .before .before .before .before .before .before .before .before .before .before .before .before .before .before .before .before .before .before .before .before .before .before .args .text .now) (wants (c .before .before .before .before .before .before .before .before .before .before .before .before .before .before .before .before .before .before .before .before .before .before .before .before .before .before .before .before .before .before .before .before .before .args .depth)) (λ k. Shut (c .before .before .before .before .before .before .before .before .before .before .before .before .before .before .before .before .before .before .before .before .before .before .before .before .before .before .before .before .before .before .before .before .before .args .text .now) ((c .before .before .before .before .before .before .before .before .before .before .before .before .before .before .before .before .before .before .before .n .given .0 .1 .0) .at) (c .before .before .before .before .before .before .before .before .before .before .before .before .before .before .before .before .before .before .before .before .before .before .before .before .before .before .before .before .before .before .before .before .before .args .depth) k) (c .before .before .before .before .before .before .before .before .before .before .before .before .before .before .before .before .before .before .before .before .before .before .before .before .before .before .before .before .before .before .before .before .before .args .depth) (c .before .before .before .before .before .before .before .before .before .before .before .before .before .before .before .before .before .before .before .n .given .0 .1 .0) (c .before .before .before .before .before .before .before .before .before .before .before .before .before .before .before .before .put-record2 .last .0) (c .before .before .before .before .before .before .before .before .before .before .before .value .last .1 .1 .1 .0) (c .before .before .before .before .before .before .before .before .before .before .before .before .before .before .before .before .before .before .before .before .before .before .before .member .last .1 .1 .0) (c .before .before .before .before .before .before .before .before .before .before .before .value .last .1 .1 .1 .1 .0) r) (c .before .before .before .before .before .last .given .1) (c .before .before .before .before .before .before .before .before .before .before .before .value .ensures))) (c .before .before .before .before .before .before .before .before .before .before .before .value .kept .1 .1 .1 .0 ∙ c .before .before .before .before .before .before .before .before .before .before .before .before .before .before .before .before .put-record2 .kept .0)) (c .before .next3 .given .0 .0) (subst (λ (r : After). AfterSays (c .before .before .before .before .before .before .before .before .before .before .before .before .before .before .before .before .before .before .before .before .before .before .before .before .before .before .before .before .before .before .before .before .before .args .text .now) (c .before .before .before .before .before .last .given .0 .0) (ch "}") r) (c .before .next3 .given .1) (c .before .before .before .after .ensures)), c .before .before .before .before .before .before .before .before .before .before .before .value .kept .1 .1 .1 .0 ∙ c .before .before .before .before .before .before .before .before .before .before .before .before .before .before .before .before .put-record2 .kept .0 ∙ c .before .before .before .before .before .before .before .before .before .before .before .before .before .before .before .before .before .before .before .before .before .before .before .before .before .before .before .before .before .loop .inv .1, c .before .before .before .before .before .before .before .before .before .before .before .value .kept .1 .1 .1 .1 .0 ∙ c .before .before .before .before .before .before .before .before .before .before .before .before .before .before .before .before .before .before .before .before .before .before .before .member .kept .1 .1 .0 ∙ c .before .before .before .before .before .before .before .before .before .before .before .before .before .before .before .before .before .before .before .before .before .before .before .before .before .before .before .before .before .loop .inv .2)
 
--- src/cursor.rt:101:15
 value-head-requires : (t : ℕ) → value-lts.Need-head-requires (value-calls t) (value-at t) value.Post
 value-head-requires t c κs = c .before .before .before .before .pre .1
 
--- src/cursor.rt:102:27
 value-enum-known-why : (t : ℕ) → value-lts.Need-enum-known-why (value-calls t) (value-at t) value.Post
 value-enum-known-why t c = search needs
 
--- src/cursor.rt:103:24
 value-enum-known-item : (t : ℕ) → value-lts.Need-enum-known-item (value-calls t) (value-at t) value.Post
 value-enum-known-item t c = search needs
 
--- src/cursor.rt:104:48
 value-record-of-requires : (t : ℕ) → value-lts.Need-record-of-requires (value-calls t) (value-at t) value.Post
 value-record-of-requires t c κs = tt
 
--- src/cursor.rt:104:17
 value-put-record-requires : (t : ℕ) → value-lts.Need-put-record-requires (value-calls t) (value-at t) value.Post
 value-put-record-requires t c κs = tt
 
--- src/cursor.rt:107:25
 value-enum-known-inside : (t : ℕ) → value-lts.Need-enum-known-inside (value-calls t) (value-at t) value.Post
 value-enum-known-inside t c = search needs
 
--- src/cursor.rt:109:21
 value-same-length : (t : ℕ) → value-lts.Need-same-length (value-calls t) (value-at t) value.Post
 value-same-length t c = c .before .before .before .before .before .before .head .kept .1 .1 .0
 
--- src/cursor.rt:109:21
 value-returns : (t : ℕ) → value-lts.Need-returns (value-calls t) (value-at t) value.Post
 value-returns t c = opened-deep square (c .before .before .inside .given .0 .0) (c .before .before .before .before .before .before .before .before .before .before .before .args .depth) (c .if1 .taken) ((subst (λ (r : Head). HeadSays (c .before .before .before .before .before .before .before .before .before .before .before .args .text .now) (c .before .before .before .before .before .before .before .before .before .before .before .args .self) (c .before .before .before .before .before .before .before .before .before .before .before .args .store .now) (c .before .before .before .before .before .before .head .last .1 .1 .0) r) (c .before .before .inside .given .1) (c .before .before .before .before .before .before .head .ensures)) .0)
 
--- src/cursor.rt:111:36
 value-sub-array : (t : ℕ) → value-lts.Need-sub-array (value-calls t) (value-at t) value.Post
 value-sub-array t c = omega (arith, c .if1 .left)
 
--- src/cursor.rt:111:17
 value-array-requires : (t : ℕ) → value-lts.Need-array-requires (value-calls t) (value-at t) value.Post
 value-array-requires t c κs = (omega (arith, c .before .before .before .before .before .before .before .before .before .before .before .before .before .pre .0, c .before .before .if1 .left), opened-inner square (c .before .before .before .before .inside .given .0 .0) (c .before .before .before .before .before .before .before .before .before .before .before .before .before .pre .1) ((subst (λ (r : Head). HeadSays (c .before .before .before .before .before .before .before .before .before .before .before .before .before .args .text .now) (c .before .before .before .before .before .before .before .before .before .before .before .before .before .args .self) (c .before .before .before .before .before .before .before .before .before .before .before .before .before .args .store .now) (c .before .before .before .before .before .before .before .before .head .last .1 .1 .0) r) (c .before .before .before .before .inside .given .1) (c .before .before .before .before .before .before .before .before .head .ensures)) .0))
 
--- src/cursor.rt:113:26
 value-enum-known-inside-2 : (t : ℕ) → value-lts.Need-enum-known-inside-2 (value-calls t) (value-at t) value.Post
 value-enum-known-inside-2 t c = search needs
 
--- src/cursor.rt:115:21
 value-same-length-2 : (t : ℕ) → value-lts.Need-same-length-2 (value-calls t) (value-at t) value.Post
 value-same-length-2 t c = c .before .before .before .before .before .before .head .kept .1 .1 .0
 
--- src/cursor.rt:115:21
 value-returns-2 : (t : ℕ) → value-lts.Need-returns-2 (value-calls t) (value-at t) value.Post
 value-returns-2 t c = opened-deep curly (c .before .before .inside2 .given .0 .0) (c .before .before .before .before .before .before .before .before .before .before .before .args .depth) (c .if2 .taken) ((subst (λ (r : Head). HeadSays (c .before .before .before .before .before .before .before .before .before .before .before .args .text .now) (c .before .before .before .before .before .before .before .before .before .before .before .args .self) (c .before .before .before .before .before .before .before .before .before .before .before .args .store .now) (c .before .before .before .before .before .before .head .last .1 .1 .0) r) (c .before .before .inside2 .given .1) (c .before .before .before .before .before .before .head .ensures)) .0)
 
--- src/cursor.rt:117:37
 value-sub-object : (t : ℕ) → value-lts.Need-sub-object (value-calls t) (value-at t) value.Post
 value-sub-object t c = omega (arith, c .if2 .left)
 
--- src/cursor.rt:117:17
 value-object-requires : (t : ℕ) → value-lts.Need-object-requires (value-calls t) (value-at t) value.Post
 value-object-requires t c κs = (omega (arith, c .before .before .before .before .before .before .before .before .before .before .before .before .before .pre .0, c .before .before .if2 .left), opened-inner curly (c .before .before .before .before .inside2 .given .0 .0) (c .before .before .before .before .before .before .before .before .before .before .before .before .before .pre .1) ((subst (λ (r : Head). HeadSays (c .before .before .before .before .before .before .before .before .before .before .before .before .before .args .text .now) (c .before .before .before .before .before .before .before .before .before .before .before .before .before .args .self) (c .before .before .before .before .before .before .before .before .before .before .before .before .before .args .store .now) (c .before .before .before .before .before .before .before .before .head .last .1 .1 .0) r) (c .before .before .before .before .inside2 .given .1) (c .before .before .before .before .before .before .before .before .head .ensures)) .0))
 
--- src/cursor.rt:97:5
 value-same-length-3 : (t : ℕ) → value-lts.Need-same-length-3 (value-calls t) (value-at t) value.Post
 value-same-length-3 t c = c .before .before .before .before .before .head .kept .1 .1 .0
 
--- src/cursor.rt:97:5
 value-returns-3 : (t : ℕ) → value-lts.Need-returns-3 (value-calls t) (value-at t) value.Post
 value-returns-3 t c = λ k s. (subst (λ (r : Head). HeadSays (c .before .before .before .before .before .before .before .before .before .before .args .text .now) (c .before .before .before .before .before .before .before .before .before .before .args .self) (c .before .before .before .before .before .before .before .before .before .before .args .store .now) (c .before .before .before .before .before .head .last .1 .1 .0) r) (c .before .why .given .1) (c .before .before .before .before .before .head .ensures)) (c .before .before .before .before .before .before .before .before .before .before .args .depth) k s
 
--- src/cursor.rt:97:5
 value-same-length-4 : (t : ℕ) → value-lts.Need-same-length-4 (value-calls t) (value-at t) value.Post
 value-same-length-4 t c = c .before .before .put-record .kept .0
 
--- src/cursor.rt:97:5
 value-same-length-5 : (t : ℕ) → value-lts.Need-same-length-5 (value-calls t) (value-at t) value.Post
 value-same-length-5 t c = c .before .before .before .before .before .before .before .before .before .before .head .kept .1 .1 .0
 
--- src/cursor.rt:97:5
 value-returns-4 : (t : ℕ) → value-lts.Need-returns-4 (value-calls t) (value-at t) value.Post
 value-returns-4 t c = rw (c .before .before .put-record .ensures) (rw (c .before .before .before .record-of .ensures) (took-item (c .before .before .before .before .before .before .before .before .before .before .before .before .before .before .before .args .text .now) (c .before .before .before .before .before .before .before .before .before .before .before .before .before .before .before .args .tape .now) (c .before .before .before .before .before .before .before .before .before .before .before .before .before .before .before .args .store .now) (c .before .before .before .before .before .before .before .before .before .before .head .last .1 .1 .0) (c .before .before .before .before .before .before .before .before .before .before .before .before .before .before .before .args .depth) (c .before .before .before .before .before .before .before .before .before .before .before .before .before .before .before .args .self) (c .before .before .before .before .before .before .item .given .0 .1 .0) (c .before .before .before .before .before .before .item .given .0 .0) (subst (λ (r : Head). HeadSays (c .before .before .before .before .before .before .before .before .before .before .before .before .before .before .before .args .text .now) (c .before .before .before .before .before .before .before .before .before .before .before .before .before .before .before .args .self) (c .before .before .before .before .before .before .before .before .before .before .before .before .before .before .before .args .store .now) (c .before .before .before .before .before .before .before .before .before .before .head .last .1 .1 .0) r) (c .before .before .before .before .before .before .item .given .1) (c .before .before .before .before .before .before .before .before .before .before .head .ensures))))
 
--- src/cursor.rt:97:5
 value-same-length-6 : (t : ℕ) → value-lts.Need-same-length-6 (value-calls t) (value-at t) value.Post
 value-same-length-6 t c = c .before .before .before .before .array .kept .1 .1 .1 .0
 
--- src/cursor.rt:97:5
 value-same-length-7 : (t : ℕ) → value-lts.Need-same-length-7 (value-calls t) (value-at t) value.Post
 value-same-length-7 t c = c .before .before .before .before .array .kept .1 .1 .1 .1 .0 ∙ c .before .before .before .before .before .before .before .before .before .before .before .before .before .head .kept .1 .1 .0
 
--- src/cursor.rt:97:5
 value-returns-5 : (t : ℕ) → value-lts.Need-returns-5 (value-calls t) (value-at t) value.Post
 value-returns-5 t c = says-inside (c .before .before .before .before .before .before .before .before .before .before .before .before .before .before .before .before .before .before .args .text .now) (c .before .before .before .before .before .before .before .before .before .before .before .before .before .before .before .before .before .before .args .tape .now) (c .before .before .before .before .array .last .1 .1 .1 .0) (c .before .before .before .before .before .before .before .before .before .before .before .before .before .before .before .before .before .before .args .store .now) (c .before .before .before .before .before .before .before .before .before .before .before .before .before .head .last .1 .1 .0) (c .before .before .before .before .array .last .1 .1 .1 .1 .0) square (c .before .before .before .before .before .before .before .before .before .before .before .before .before .before .before .before .before .before .args .depth - 1) (c .before .before .before .before .before .before .before .before .before .before .before .before .before .before .before .before .before .before .args .depth) (omega (arith, c .before .before .before .before .before .before .before .if1 .left)) (c .before .before .before .before .before .before .before .before .before .before .before .before .before .before .before .before .before .before .args .self) (c .before .before .before .before .before .before .before .before .before .inside .given .0 .0) ((subst (λ (r : Head). HeadSays (c .before .before .before .before .before .before .before .before .before .before .before .before .before .before .before .before .before .before .args .text .now) (c .before .before .before .before .before .before .before .before .before .before .before .before .before .before .before .before .before .before .args .self) (c .before .before .before .before .before .before .before .before .before .before .before .before .before .before .before .before .before .before .args .store .now) (c .before .before .before .before .before .before .before .before .before .before .before .before .before .head .last .1 .1 .0) r) (c .before .before .before .before .before .before .before .before .before .inside .given .1) (c .before .before .before .before .before .before .before .before .before .before .before .before .before .head .ensures)) .0) ((subst (λ (r : Head). HeadSays (c .before .before .before .before .before .before .before .before .before .before .before .before .before .before .before .before .before .before .args .text .now) (c .before .before .before .before .before .before .before .before .before .before .before .before .before .before .before .before .before .before .args .self) (c .before .before .before .before .before .before .before .before .before .before .before .before .before .before .before .before .before .before .args .store .now) (c .before .before .before .before .before .before .before .before .before .before .before .before .before .head .last .1 .1 .0) r) (c .before .before .before .before .before .before .before .before .before .inside .given .1) (c .before .before .before .before .before .before .before .before .before .before .before .before .before .head .ensures)) .1) (c .before .before .before .before .array .result) (c .before .before .before .before .array .ensures)
 
--- src/cursor.rt:97:5
 value-same-length-8 : (t : ℕ) → value-lts.Need-same-length-8 (value-calls t) (value-at t) value.Post
 value-same-length-8 t c = c .before .before .before .before .object .kept .1 .1 .1 .0
 
--- src/cursor.rt:97:5
 value-same-length-9 : (t : ℕ) → value-lts.Need-same-length-9 (value-calls t) (value-at t) value.Post
 value-same-length-9 t c = c .before .before .before .before .object .kept .1 .1 .1 .1 .0 ∙ c .before .before .before .before .before .before .before .before .before .before .before .before .before .head .kept .1 .1 .0
 
--- src/cursor.rt:97:5
 value-returns-6 : (t : ℕ) → value-lts.Need-returns-6 (value-calls t) (value-at t) value.Post
 value-returns-6 t c = says-inside (c .before .before .before .before .before .before .before .before .before .before .before .before .before .before .before .before .before .before .args .text .now) (c .before .before .before .before .before .before .before .before .before .before .before .before .before .before .before .before .before .before .args .tape .now) (c .before .before .before .before .object .last .1 .1 .1 .0) (c .before .before .before .before .before .before .before .before .before .before .before .before .before .before .before .before .before .before .args .store .now) (c .before .before .before .before .before .before .before .before .before .before .before .before .before .head .last .1 .1 .0) (c .before .before .before .before .object .last .1 .1 .1 .1 .0) curly (c .before .before .before .before .before .before .before .before .before .before .before .before .before .before .before .before .before .before .args .depth - 1) (c .before .before .before .before .before .before .before .before .before .before .before .before .before .before .before .before .before .before .args .depth) (omega (arith, c .before .before .before .before .before .before .before .if2 .left)) (c .before .before .before .before .before .before .before .before .before .before .before .before .before .before .before .before .before .before .args .self) (c .before .before .before .before .before .before .before .before .before .inside2 .given .0 .0) ((subst (λ (r : Head). HeadSays (c .before .before .before .before .before .before .before .before .before .before .before .before .before .before .before .before .before .before .args .text .now) (c .before .before .before .before .before .before .before .before .before .before .before .before .before .before .before .before .before .before .args .self) (c .before .before .before .before .before .before .before .before .before .before .before .before .before .before .before .before .before .before .args .store .now) (c .before .before .before .before .before .before .before .before .before .before .before .before .before .head .last .1 .1 .0) r) (c .before .before .before .before .before .before .before .before .before .inside2 .given .1) (c .before .before .before .before .before .before .before .before .before .before .before .before .before .head .ensures)) .0) ((subst (λ (r : Head). HeadSays (c .before .before .before .before .before .before .before .before .before .before .before .before .before .before .before .before .before .before .args .text .now) (c .before .before .before .before .before .before .before .before .before .before .before .before .before .before .before .before .before .before .args .self) (c .before .before .before .before .before .before .before .before .before .before .before .before .before .before .before .before .before .before .args .store .now) (c .before .before .before .before .before .before .before .before .before .before .before .before .before .head .last .1 .1 .0) r) (c .before .before .before .before .before .before .before .before .before .inside2 .given .1) (c .before .before .before .before .before .before .before .before .before .before .before .before .before .head .ensures)) .1) (c .before .before .before .before .object .result) (c .before .before .before .before .object .ensures)
 
@@ -478,7 +381,7 @@ pub +array+object+value-spec : {M : Type 1} → statement M
     array-μ-loop
     (array-add-records t)
     (array-loop-holds t)
-    (array-open-requires t)
+    (array-ahead-requires t)
     (array-enum-known-why t)
     (array-same-length t)
     (array-same-length-2 t)
@@ -515,7 +418,7 @@ pub +array+object+value-spec : {M : Type 1} → statement M
     object-μ-loop
     (object-add-records t)
     (object-loop-holds t)
-    (object-open-requires t)
+    (object-ahead-requires t)
     (object-enum-known-why t)
     (object-same-length t)
     (object-same-length-2 t)

@@ -1,10 +1,10 @@
-use Rattle.reader.proofs.Containers.{after-broken, after-end, after-comma, after-close, after-wrong}
+use Rattle.reader.proofs.CursorBracketLaws.{after-broken, after-end, after-comma, after-close, after-wrong}
 use borrow.Author.Needs.{needs}
 use Rattle.reader.proofs.cursor.Cursor.after.Statement.{statement}
 use Rattle.reader.proofs.cursor.Cursor.after.Tie as tie
 use Rattle.reader.proofs.cursor.Cursor.after.Reads as reads
 use Rattle.reader.proofs.cursor.Cursor.after.Lts as lts
-use Rattle.reader.proofs.layouts.pass.Reads as pass-reads
+use Rattle.reader.proofs.layout.pass.Reads as pass-reads
 
 pass-requires : tie.Need-pass-requires
 pass-requires c κs = search needs

@@ -1,10 +1,10 @@
-use Rattle.reader.proofs.Containers.{colon-broken, colon-end, colon-wrong, colon-breaks, colon-key}
+use Rattle.reader.proofs.CursorBracketLaws.{colon-broken, colon-end, colon-wrong, colon-breaks, colon-key}
 use borrow.Author.Needs.{needs}
 use Rattle.reader.proofs.cursor.Cursor.colon.Statement.{statement}
 use Rattle.reader.proofs.cursor.Cursor.colon.Tie as tie
 use Rattle.reader.proofs.cursor.Cursor.colon.Reads as reads
 use Rattle.reader.proofs.cursor.Cursor.colon.Lts as lts
-use Rattle.reader.proofs.layouts.pass.Reads as pass-reads
+use Rattle.reader.proofs.layout.pass.Reads as pass-reads
 
 pass-requires : tie.Need-pass-requires
 pass-requires c κs = search needs

@@ -1,7 +1,7 @@
 use native.Mathlib.Omega.{arith}
 use mathlib.Core.Path.{refl, ap, _≡_}
 use Prim.Native.Nat.{_+_}
-use Rattle.reader.proofs.Containers.{none-wanted, opens-array, opens-object}
+use Rattle.reader.proofs.CursorBracketLaws.{none-wanted, opens-array, opens-object}
 use borrow.Author.Needs.{needs}
 use Rattle.reader.proofs.cursor.Cursor.head.Statement.{statement}
 use Rattle.reader.proofs.cursor.Cursor.head.Tie as tie

@@ -1,12 +1,12 @@
 use native.Mathlib.Omega.{arith}
-use Rattle.reader.proofs.Containers.{member-refused, member-says}
+use Rattle.reader.proofs.CursorBracketLaws.{member-refused, member-says}
 use borrow.Author.Needs.{needs}
 use Rattle.reader.proofs.cursor.Cursor.member.Statement.{statement}
 use Rattle.reader.proofs.cursor.Cursor.member.Tie as tie
 use Rattle.reader.proofs.cursor.Cursor.member.Reads as reads
 use Rattle.reader.proofs.cursor.Cursor.member.Lts as lts
 use Rattle.reader.proofs.cursor.Cursor.colon.Reads as colon-reads
-use Rattle.reader.proofs.names.key.Reads as key-reads
+use Rattle.reader.proofs.key.key.Reads as key-reads
 
 key-requires : tie.Need-key-requires
 key-requires c κs = search needs

@@ -1,0 +1,2 @@
+-- What functions of this crate promise each other, and what that is said with. Nothing here has to be believed.
+pub mod Steps

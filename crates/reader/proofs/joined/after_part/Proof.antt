@@ -1,0 +1,65 @@
+use native.Mathlib.Omega.{arith}
+use Rattle.reader.proofs.JoinedLaws.{alone-end, alone, plus-breaks, plus-next, join-breaks}
+use borrow.Author.Needs.{needs}
+use Rattle.reader.proofs.joined.after_part.Statement.{statement}
+use Rattle.reader.proofs.joined.after_part.Tie as tie
+use Rattle.reader.proofs.joined.after_part.Reads as reads
+use Rattle.reader.proofs.joined.after_part.Lts as lts
+use Rattle.reader.proofs.layout.pass.Reads as pass-reads
+
+pass-requires : tie.Need-pass-requires
+pass-requires c κs = search needs
+
+enum-known-p : tie.Need-enum-known-p
+enum-known-p c = search needs
+
+enum-known-at : tie.Need-enum-known-at
+enum-known-at c = search needs
+
+returns : tie.Need-returns
+returns c = alone-end (c .before .before .before .before .before .before .args .text .now) (c .before .before .before .before .before .before .args .from) (c .before .before .at .given .0 .0) (rw (c .before .before .at .given .1) at (c .before .before .before .before .pass .ensures)) (c .if1 .taken)
+
+shared-slice-read-if2 : tie.Need-shared-slice-read-if2
+shared-slice-read-if2 c = search needs
+
+returns-2 : tie.Need-returns-2
+returns-2 c = alone (c .before .before .before .before .before .before .before .before .args .text .now) (c .before .before .before .before .before .before .before .before .args .from) (c .before .before .before .before .at .given .0 .0) (rw (c .before .before .before .before .at .given .1) at (c .before .before .before .before .before .before .pass .ensures)) (c .if2 .taken)
+
+add-pass : tie.Need-add-pass
+add-pass c = search needs
+
+pass-requires-2 : tie.Need-pass-requires-2
+pass-requires-2 c κs = search needs
+
+enum-known-p-2 : tie.Need-enum-known-p-2
+enum-known-p-2 c = search needs
+
+enum-known-next : tie.Need-enum-known-next
+enum-known-next c = search needs
+
+returns-3 : tie.Need-returns-3
+returns-3 c = join-breaks (c .before .before .before .before .before .args .text .now) (c .before .before .before .before .before .args .from) (c .before .p .given .0 .0) (rw (c .before .p .given .1) at (c .before .before .before .pass .ensures))
+
+returns-4 : tie.Need-returns-4
+returns-4 c = plus-breaks (c .before .before .before .before .before .before .before .before .before .before .before .before .args .text .now) (c .before .before .before .before .before .before .before .before .before .before .before .before .args .from) (c .before .before .before .before .before .before .before .before .at .given .0 .0) (rw (c .before .before .before .before .before .before .before .before .at .given .1) at (c .before .before .before .before .before .before .before .before .before .before .pass .ensures)) (c .before .before .before .before .before .before .if1 .left) (c .before .before .before .before .if2 .left) (c .before .p2 .given .0 .0) (rw (c .before .p2 .given .1) at (c .before .before .before .pass2 .ensures))
+
+returns-5 : tie.Need-returns-5
+returns-5 c = plus-next (c .before .before .before .before .before .before .before .before .before .before .before .before .args .text .now) (c .before .before .before .before .before .before .before .before .before .before .before .before .args .from) (c .before .before .before .before .before .before .before .before .at .given .0 .0) (rw (c .before .before .before .before .before .before .before .before .at .given .1) at (c .before .before .before .before .before .before .before .before .before .before .pass .ensures)) (c .before .before .before .before .before .before .if1 .left) (c .before .before .before .before .if2 .left) (c .before .next .given .0 .0) (rw (c .before .next .given .1) at (c .before .before .before .pass2 .ensures))
+
+pub after-part-spec : {M : Type 1} → statement M
+after-part-spec =
+    tie.close
+    (tie.spec
+    pass-requires
+    enum-known-p
+    enum-known-at
+    returns
+    shared-slice-read-if2
+    returns-2
+    add-pass
+    pass-requires-2
+    enum-known-p-2
+    enum-known-next
+    returns-3
+    returns-4
+    returns-5)

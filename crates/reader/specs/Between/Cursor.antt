@@ -1,0 +1,235 @@
+-- What the cursor's methods promise, by their answer. Assumes nothing.
+use mathlib.Core.Path.{_≡_}
+use mathlib.Core.List.{List, [], _∷_}
+use Prim.Native.Nat.{ℕ, suc, _+_, _*_, _≤_, _<_}
+use lib.ListN.{length, getD}
+use lib.Seq.{sets}
+use Rattle.meaning.specs.declared.Record.{Record}
+use Rattle.meaning.specs.declared.Refusal.{Refusal}
+use Rattle.meaning.specs.declared.Refusal.the-variants.{TooDeep}
+use Rattle.meaning.specs.Letters.{ch}
+use Rattle.meaning.specs.Limits.{textLimit}
+use Rattle.meaning.specs.Meaning.{Meaning, Meanings, Members}
+use Rattle.meaning.specs.Tape.{records, storeOf, bytes, recordsOf, recordsBytes}
+use Rattle.grammar.specs.Values.{Inside, elements, members}
+use Rattle.machine.specs.Machine.{Base, want, wantKey, got, value, Mode, base, Frame, inside, pair, Conf, at, Bracket, square, curly, bareOf, wanted, shut, classOf, quoteC}
+use Rattle.machine.specs.Names.{wordScan}
+use Rattle.machine.specs.Scan.{ended, broke}
+use Rattle.items.specs.Between.Places.{ranAt}
+use Rattle.reader.specs.Between.Scanning.{Goes, Refuses, Bare, Shut}
+use Rattle.items.specs.declared.Item.{Item}
+use Rattle.items.specs.declared.Scanned.{Scanned}
+use Rattle.reader.specs.declared.cursor.Cursor.{Cursor}
+use Rattle.reader.specs.declared.cursor.Step.{Step}
+use Rattle.reader.specs.declared.cursor.Head.{Head}
+use Rattle.reader.specs.declared.cursor.Ahead.{Ahead}
+use Rattle.reader.specs.declared.cursor.After.{After}
+use Rattle.reader.specs.declared.cursor.Member.{Member}
+
+-- ---- items
+
+-- the record of an item whose store bytes begin at `start`
+abbrev pub recordItem : Item → ℕ → Record
+recordItem Item.Null start = Record.Null
+recordItem (Item.Bool b) start = Record.Bool b
+recordItem (Item.Number n) start = Record.Number n
+recordItem (Item.Time t) start = Record.Time t
+recordItem (Item.Str n) start = Record.Str n start
+recordItem (Item.Bin n) start = Record.Bin n start
+
+-- how many store bytes an item has
+abbrev pub itemBytes : Item → ℕ
+itemBytes Item.Null = 0
+itemBytes (Item.Bool b) = 0
+itemBytes (Item.Number n) = 0
+itemBytes (Item.Time t) = 0
+itemBytes (Item.Str n) = n
+itemBytes (Item.Bin n) = n
+
+-- one item, where a value is wanted: what it means, its record and its store bytes
+pub record Scalar (text : List ℕ) (p start : ℕ) (entry exit : List ℕ) (i : Item) (q : ℕ) : Type 0 where
+  pub m : Meaning
+  pub runs : (d : ℕ) (k : List Frame) → Goes text (at (base want) d k) p (at (base (got (value m))) d k) q
+  pub taped : (index : ℕ) → recordsOf m index start ≡ recordItem i start ∷ []
+  pub filled : exit ≡ sets entry start (storeOf m)
+  pub counted : itemBytes i ≡ bytes m
+  pub room : p + bytes m ≤ q
+  pub past : p < q
+  pub within : q ≤ length text
+
+-- where a value is wanted the text is refused, unless a bracket closes there
+abbrev pub Unwanted : List ℕ → ℕ → Refusal → Type 0
+Unwanted text p why = (d : ℕ) (k : List Frame) → Shut text p d k → Refuses text (at (base want) d k) p why
+
+abbrev pub ScalarSays : List ℕ → ℕ → ℕ → List ℕ → List ℕ → Scanned → Type 0
+ScalarSays text p start entry exit (Scanned.Item i q) = Scalar text p start entry exit i q
+ScalarSays text p start entry exit (Scanned.Refused why) = Unwanted text p why
+
+-- a word that means this item
+abbrev pub SpeltSays : List ℕ → ℕ → List ℕ → Item → Scanned → Type 0
+SpeltSays text p letters item (Scanned.Item i q) = (ranAt wordScan text letters p ≡ ended tt q) × (q ≤ length text) × (i ≡ item)
+SpeltSays text p letters item (Scanned.Refused why) = ranAt wordScan text letters p ≡ broke why
+
+-- a quote stands at p
+pub record Quoted (text : List ℕ) (p : ℕ) : Type 0 where
+  pub inside : p < length text
+  pub quote : classOf (getD text p 0) ≡ quoteC
+
+-- where an item may stand: no layout, and no opening bracket
+pub record AtScalar (text : List ℕ) (p start : ℕ) : Type 0 where
+  pub inside : p < length text
+  pub bare : Bare text p
+  pub stored : start ≤ p
+  pub short : length text ≤ textLimit
+  pub no-square : getD text p 0 ≡ ch "[" → ⊥
+  pub no-curly : getD text p 0 ≡ ch "{" → ⊥
+
+-- ---- the cursor
+
+-- what has been put is no more than what has been passed
+pub record Ready (text : List ℕ) (c : Cursor) : Type 0 where
+  pub within : c .at ≤ length text
+  pub records : c .records ≤ c .at
+  pub stored : c .stored ≤ c .at
+  pub short : length text ≤ textLimit
+
+-- where a value is wanted, no layout stands
+pub record AtValue (text : List ℕ) (c : Cursor) : Type 0 where
+  pub ready : Ready text c
+  pub bare : Bare text (c .at)
+
+-- after an opening bracket: one byte more has been passed than counted
+pub record Inner (text : List ℕ) (c : Cursor) : Type 0 where
+  pub within : c .at ≤ length text
+  pub records : c .records < c .at
+  pub stored : c .stored < c .at
+  pub short : length text ≤ textLimit
+
+-- where a member begins
+pub record AtMember (text : List ℕ) (c : Cursor) : Type 0 where
+  pub ready : Ready text c
+  pub bare : Bare text (c .at)
+  pub inside : c .at < length text
+  pub other : getD text (c .at) 0 ≡ ch "}" → ⊥
+
+-- the same counts, further on
+pub record Moved (text : List ℕ) (c n : Cursor) : Type 0 where
+  pub past : c .at < n .at
+  pub within : n .at ≤ length text
+  pub records : n .records ≡ c .records
+  pub stored : n .stored ≡ c .stored
+
+-- ---- brackets, commas and colons
+
+-- an opening bracket
+pub record Opened (text : List ℕ) (c : Cursor) (y : Bracket) (n : Cursor) : Type 0 where
+  pub opens : (d : ℕ) (k : List Frame) → Goes text (at (base want) (suc d) k) (c .at) (at (base (wanted (bareOf y))) d (inside (bareOf y) ∷ k)) (n .at)
+  pub deep : (k : List Frame) → Refuses text (at (base want) 0 k) (c .at) (TooDeep (c .at))
+  pub moved : Moved text c n
+
+pub record OneItem (text : List ℕ) (c : Cursor) (entry exit : List ℕ) (i : Item) (n : Cursor) : Type 0 where
+  pub scalar : Scalar text (c .at) (c .stored) entry exit i (n .at)
+  pub records : n .records ≡ c .records + 1
+  pub stored : n .stored ≡ c .stored + itemBytes i
+
+abbrev pub HeadSays : List ℕ → Cursor → List ℕ → List ℕ → Head → Type 0
+HeadSays text c entry exit (Head.Item i n) = OneItem text c entry exit i n
+HeadSays text c entry exit (Head.Array n) = Opened text c square n × (exit ≡ entry)
+HeadSays text c entry exit (Head.Object n) = Opened text c curly n × (exit ≡ entry)
+HeadSays text c entry exit (Head.Refused why) = Unwanted text (c .at) why
+
+-- the byte that closes
+abbrev pub closer : Inside → ℕ
+closer (elements x) = ch "]"
+closer (members x) = ch "}"
+
+-- in a container where an element or a member may stand
+abbrev pub within : Inside → ℕ → List Frame → Conf
+within y d k = at (base (wanted y)) d (inside y ∷ k)
+
+-- an element or a member begins
+pub record Begins (text : List ℕ) (c : Cursor) (closing : ℕ) (n : Cursor) : Type 0 where
+  pub goes : (s : Base) (d : ℕ) (k : List Frame) → Goes text (at (base s) d k) (c .at) (at (base s) d k) (n .at)
+  pub bare : Bare text (n .at)
+  pub behind : c .at ≤ n .at
+  pub inside : n .at < length text
+  pub other : getD text (n .at) 0 ≡ closing → ⊥
+  pub records : n .records ≡ c .records
+  pub stored : n .stored ≡ c .stored
+
+abbrev pub AheadSays : List ℕ → Cursor → ℕ → Ahead → Type 0
+AheadSays text c closing (Ahead.Close n) = ((y : Inside) → closer y ≡ closing → (d : ℕ) (k : List Frame) → Goes text (within y d k) (c .at) (at (base (got (value (shut y)))) (suc d) k) (n .at)) × Moved text c n
+AheadSays text c closing (Ahead.More n) = Begins text c closing n
+AheadSays text c closing (Ahead.Refused why) = (y : Inside) → closer y ≡ closing → (d : ℕ) (k : List Frame) → Refuses text (within y d k) (c .at) why
+
+-- in a frame whose container this byte closes, one more value makes of it what the function says
+pub data Adds : Frame → ℕ → (Meaning → Inside) → Type 0 where
+  element : {x : Meanings} → Adds (inside (elements x)) (ch "]") (λ m. elements (Meanings.more x m))
+  member : {x : Members} {u : List ℕ} → Adds (pair x u) (ch "}") (λ m. members (Members.member x u m))
+
+abbrev pub AfterSays : List ℕ → Cursor → ℕ → After → Type 0
+AfterSays text c closing (After.Comma n) = ((f : Frame) (y : Meaning → Inside) → Adds f closing y → (m : Meaning) (d : ℕ) (k : List Frame) → Goes text (at (base (got (value m))) d (f ∷ k)) (c .at) (within (y m) d k) (n .at)) × Moved text c n
+AfterSays text c closing (After.Close n) = ((f : Frame) (y : Meaning → Inside) → Adds f closing y → (m : Meaning) (d : ℕ) (k : List Frame) → Goes text (at (base (got (value m))) d (f ∷ k)) (c .at) (at (base (got (value (shut (y m))))) (suc d) k) (n .at)) × Moved text c n
+AfterSays text c closing (After.Refused why) = (f : Frame) (y : Meaning → Inside) → Adds f closing y → (m : Meaning) (d : ℕ) (k : List Frame) → Refuses text (at (base (got (value m))) d (f ∷ k)) (c .at) why
+
+-- after a key: a colon, and where its value begins
+pub record Coloned (text : List ℕ) (c n : Cursor) : Type 0 where
+  pub goes : (x : Members) (u : List ℕ) (d : ℕ) (k : List Frame) → Goes text (at (base (got (Rattle.machine.specs.Machine.Got.key u))) d (inside (members x) ∷ k)) (c .at) (at (base want) d (pair x u ∷ k)) (n .at)
+  pub bare : Bare text (n .at)
+  pub moved : Moved text c n
+
+abbrev pub ColonSays : List ℕ → Cursor → ℕ → Member → Type 0
+ColonSays text c size (Member.Key n v) = Coloned text c v × (n ≡ size)
+ColonSays text c size (Member.Refused why) = (x : Members) (u : List ℕ) (d : ℕ) (k : List Frame) → Refuses text (at (base (got (Rattle.machine.specs.Machine.Got.key u))) d (inside (members x) ∷ k)) (c .at) why
+
+-- a key and its colon
+pub record Named (text : List ℕ) (c : Cursor) (entry exit : List ℕ) (n : ℕ) (v : Cursor) : Type 0 where
+  pub u : List ℕ
+  pub goes : (x : Members) (d : ℕ) (k : List Frame) → Goes text (within (members x) d k) (c .at) (at (base want) d (pair x u ∷ k)) (v .at)
+  pub counted : n ≡ length u
+  pub filled : exit ≡ sets entry (c .stored) u
+  pub bare : Bare text (v .at)
+  pub records : v .records ≡ c .records + 1
+  pub stored : v .stored ≡ c .stored + length u
+  pub room : c .at + 1 + length u ≤ v .at
+  pub past : c .at + 1 < v .at
+  pub within : v .at ≤ length text
+
+abbrev pub MemberSays : List ℕ → Cursor → List ℕ → List ℕ → Member → Type 0
+MemberSays text c entry exit (Member.Key n v) = Named text c entry exit n v
+MemberSays text c entry exit (Member.Refused why) = (x : Members) (d : ℕ) (k : List Frame) → Refuses text (within (members x) d k) (c .at) why
+
+-- ---- values
+
+-- A value has been read, from a state in which `depth` more may open to one in which `top` may: what it means, the records and the store bytes
+-- put, and that these are no more than the bytes passed. The tape is filled where it has room for all of the value's records.
+pub record Took (text : List ℕ) (start : List Frame → Conf) (top : ℕ) (c : Cursor) (tape tape' store store' : List ℕ) (n : Cursor) : Type 0 where
+  pub m : Meaning
+  pub runs : (k : List Frame) → Goes text (start k) (c .at) (at (base (got (value m))) top k) (n .at)
+  pub recorded : n .records ≡ c .records + records m
+  pub stored : n .stored ≡ c .stored + bytes m
+  pub taped : n .records * 16 ≤ length tape → tape' ≡ sets tape (c .records * 16) (recordsBytes (recordsOf m (c .records) (c .stored)))
+  pub filled : store' ≡ sets store (c .stored) (storeOf m)
+  pub past : c .at < n .at
+  pub few : n .records + c .at ≤ c .records + n .at
+  pub short : n .stored + c .at ≤ c .stored + n .at
+  pub within : n .at ≤ length text
+
+-- the text is refused, whatever is open, where `ok` holds of it
+abbrev pub Left : List ℕ → (List Frame → Conf) → (List Frame → Type 0) → ℕ → Refusal → Type 0
+Left text start ok p why = (k : List Frame) → ok k → Refuses text (start k) p why
+
+abbrev pub Says : List ℕ → (List Frame → Conf) → (List Frame → Type 0) → ℕ → Cursor → List ℕ → List ℕ → List ℕ → List ℕ → Step → Type 0
+Says text start ok top c tape tape' store store' (Step.Value n) = Took text start top c tape tape' store store' n
+Says text start ok top c tape tape' store store' (Step.Refused was why) = Left text start ok (c .at) why
+
+-- where a value is wanted
+abbrev pub wants : ℕ → List Frame → Conf
+wants d k = at (base want) d k
+
+-- inside a container with nothing in it yet
+abbrev pub bareIn : Bracket → ℕ → List Frame → Conf
+bareIn y d k = within (bareOf y) d k
+
+abbrev pub always : List Frame → Type 0
+always k = Unit {0}

@@ -1,0 +1,147 @@
+// Parts joined by a plus, with layout allowed on both sides.
+ghost use Prim.Native.Nat.{_≤_};
+ghost use lib.ListN.{length};
+ghost use Rattle.machine.specs.Machine.{Use};
+ghost use Rattle.machine.specs.Machine as Machine;
+ghost use Rattle.machine.specs.Strings;
+ghost use Rattle.machine.specs.Binaries;
+ghost use Rattle.reader.specs.Between.Joined.{JoinSays, PlacedSays, BytesSays, stringPart, binaryPart, wholeBinary};
+use crate::layout;
+use crate::layout::Layout;
+use items::binary_part;
+use items::binary_part::Piece;
+use items::string_part;
+use items::string_part::Part;
+use meaning::Refusal;
+
+// What follows a part: the next one's place, after a plus; none, and where the layout ends; or what breaks the layout.
+pub enum Join {
+    Next(usize),
+    Last(usize),
+    NotGrammar(usize),
+}
+
+// Joined bytes, or a key's: the place after them and the layout that follows, and how many; or a refusal.
+pub enum Bytes {
+    Whole { end: usize, bytes: usize },
+    Refused(Refusal),
+}
+
+// After a part.
+pub fn after_part(text: &[u8], from: usize) -> Join
+    requires { ⌜ from ≤ length (now text) ⌝ }
+    ensures { λ r. ⌜ JoinSays (now (text .entry)) from r ⌝ }
+{
+    match layout::pass(text, from) {
+        Layout::NotGrammar(p) => Join::NotGrammar(p),
+        Layout::Ended(at) => {
+            if at >= text.len() {
+                return Join::Last(at);
+            }
+            if text[at] != b'+' {
+                return Join::Last(at);
+            }
+            match layout::pass(text, at + 1) {
+                Layout::NotGrammar(p) => Join::NotGrammar(p),
+                Layout::Ended(next) => Join::Next(next),
+            }
+        }
+    }
+}
+
+// The string part at a place of the text.
+fn string_part(text: &[u8], at: usize, store: &mut [u8], start: usize) -> Bytes
+    requires { ⌜ (at ≤ length (now text)) × (start ≤ at) ⌝ }
+    ensures { λ r. ⌜ PlacedSays Strings.scan Strings.begin (now (text .entry)) at start (now (store .entry)) (now (store .exit)) r ⌝ }
+{
+    match string_part::read_part(&text[at..], store, start) {
+        Part::NotGrammar(p) => Bytes::Refused(Refusal::NotGrammar(at + p)),
+        Part::BadEscape(p) => Bytes::Refused(Refusal::BadEscape(at + p)),
+        Part::Closed { taken, bytes } => Bytes::Whole {
+            end: at + taken,
+            bytes: bytes,
+        },
+    }
+}
+
+// The binary part at a place of the text.
+fn binary_part(text: &[u8], at: usize, store: &mut [u8], start: usize) -> Bytes
+    requires { ⌜ (at ≤ length (now text)) × (start ≤ at) ⌝ }
+    ensures { λ r. ⌜ PlacedSays Binaries.scan Binaries.begin (now (text .entry)) at start (now (store .entry)) (now (store .exit)) r ⌝ }
+{
+    match binary_part::read_part(text, at, store, start) {
+        Piece::NotGrammar(p) => Bytes::Refused(Refusal::NotGrammar(p)),
+        Piece::Closed { end: after, bytes } => Bytes::Whole {
+            end: after,
+            bytes: bytes,
+        },
+    }
+}
+
+// A string, from its first part on.
+pub fn string(text: &[u8], from: usize, store: &mut [u8], start: usize) -> Bytes
+    requires { ⌜ (from ≤ length (now text)) × (start ≤ from) ⌝ }
+    ensures { λ r. ⌜ BytesSays Use stringPart Machine.string (now (text .entry)) from start (now (store .entry)) (now (store .exit)) r ⌝ }
+{
+    let mut at = from;
+    let mut out = start;
+    loop {
+        match string_part(text, at, store, out) {
+            Bytes::Refused(why) => {
+                return Bytes::Refused(why);
+            }
+            Bytes::Whole {
+                end: after,
+                bytes: n,
+            } => match after_part(text, after) {
+                Join::NotGrammar(p) => {
+                    return Bytes::Refused(Refusal::NotGrammar(p));
+                }
+                Join::Last(end) => {
+                    return Bytes::Whole {
+                        end: end,
+                        bytes: out + n - start,
+                    };
+                }
+                Join::Next(next) => {
+                    at = next;
+                    out = out + n;
+                }
+            },
+        }
+    }
+}
+
+// Binary, from its first part on.
+pub fn binary(text: &[u8], from: usize, store: &mut [u8], start: usize) -> Bytes
+    requires { ⌜ (from ≤ length (now text)) × (start ≤ from) ⌝ }
+    ensures { λ r. ⌜ BytesSays Unit binaryPart wholeBinary (now (text .entry)) from start (now (store .entry)) (now (store .exit)) r ⌝ }
+{
+    let mut at = from;
+    let mut out = start;
+    loop {
+        match binary_part(text, at, store, out) {
+            Bytes::Refused(why) => {
+                return Bytes::Refused(why);
+            }
+            Bytes::Whole {
+                end: after,
+                bytes: n,
+            } => match after_part(text, after) {
+                Join::NotGrammar(p) => {
+                    return Bytes::Refused(Refusal::NotGrammar(p));
+                }
+                Join::Last(end) => {
+                    return Bytes::Whole {
+                        end: end,
+                        bytes: out + n - start,
+                    };
+                }
+                Join::Next(next) => {
+                    at = next;
+                    out = out + n;
+                }
+            },
+        }
+    }
+}

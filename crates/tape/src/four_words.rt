@@ -1,0 +1,410 @@
+// A record and its four numbers, each way.
+ghost use mathlib.Core.Path.{_≡_};
+ghost use Prim.Native.Nat.{_+_, _≤_, _<_, _^_};
+ghost use lib.ListN.{length};
+ghost use Rattle.meaning.specs.declared.Record.{Record};
+ghost use Rattle.meaning.specs.Between.Words.{monthDay, fourWords, FitDate};
+ghost use Rattle.tape.specs.Between.Shapes.{Written, Loaded, notFinite, dateOf, onlyRecord, Common, Shaped, wordsAt};
+use crate::Shape;
+use crate::Words;
+use crate::little_endian;
+use meaning::Date;
+use meaning::Number;
+use meaning::Record;
+use meaning::Time;
+
+// The marks, two letters each.
+const NU: u64 = b'n' as u64 + b'u' as u64 * 256;
+
+const BO: u64 = b'b' as u64 + b'o' as u64 * 256;
+
+pub const NB: u64 = b'n' as u64 + b'b' as u64 * 256;
+
+const NX: u64 = b'n' as u64 + b'x' as u64 * 256;
+
+pub const ST: u64 = b's' as u64 + b't' as u64 * 256;
+
+pub const KY: u64 = b'k' as u64 + b'y' as u64 * 256;
+
+const BY: u64 = b'b' as u64 + b'y' as u64 * 256;
+
+const LD: u64 = b'l' as u64 + b'd' as u64 * 256;
+
+const LT: u64 = b'l' as u64 + b't' as u64 * 256;
+
+const DT: u64 = b'd' as u64 + b't' as u64 * 256;
+
+const OD: u64 = b'o' as u64 + b'd' as u64 * 256;
+
+pub const AR: u64 = b'a' as u64 + b'r' as u64 * 256;
+
+pub const OB: u64 = b'o' as u64 + b'b' as u64 * 256;
+
+fn number_words(n: Number) -> Words
+    ensures { λ w. ⌜ Written (Record.Number n) w ⌝ }
+{
+    match n {
+        Number::Finite {
+            minus,
+            coefficient,
+            power,
+        } => {
+            Words {
+                mark: NB,
+                low: little_endian::flag(minus),
+                mid: little_endian::bits32(power) as u64,
+                high: coefficient,
+            }
+        }
+        Number::NotANumber => Words {
+            mark: NX,
+            low: 0,
+            mid: 0,
+            high: 0,
+        },
+        Number::Infinite { minus } => Words {
+            mark: NX,
+            low: 0,
+            mid: 1 + little_endian::flag(minus),
+            high: 0,
+        },
+    }
+}
+
+// Month, day and offset in bytes 4-7.
+fn month_day(d: Date, offset: u16) -> u64
+    ensures { λ r. ⌜ (r ≡ monthDay d offset) × FitDate d ⌝ }
+{
+    let month = d.month as u64;
+    let day = d.day as u64;
+    let bits = offset as u64;
+    month + day * 256 + bits * 65536
+}
+
+fn time_words(t: Time) -> Words
+    ensures { λ w. ⌜ Written (Record.Time t) w ⌝ }
+{
+    match t {
+        Time::LocalDate(d) => Words {
+            mark: LD,
+            low: d.year as u64,
+            mid: month_day(d, 0),
+            high: 0,
+        },
+        Time::LocalTime(clock) => Words {
+            mark: LT,
+            low: 0,
+            mid: 0,
+            high: clock,
+        },
+        Time::LocalDateTime(d, clock) => Words {
+            mark: DT,
+            low: d.year as u64,
+            mid: month_day(d, 0),
+            high: clock,
+        },
+        Time::OffsetDateTime(d, clock, offset) => {
+            Words {
+                mark: OD,
+                low: d.year as u64,
+                mid: month_day(d, little_endian::bits16(offset)),
+                high: clock,
+            }
+        }
+    }
+}
+
+// The four numbers of a record.
+pub fn words_of(r: Record) -> Words
+    ensures { λ w. ⌜ Written r w ⌝ }
+{
+    match r {
+        Record::Null => Words {
+            mark: NU,
+            low: 0,
+            mid: 0,
+            high: 0,
+        },
+        Record::Bool(b) => Words {
+            mark: BO,
+            low: 0,
+            mid: little_endian::flag(b),
+            high: 0,
+        },
+        Record::Number(n) => number_words(n),
+        Record::Str { length, start } => Words {
+            mark: ST,
+            low: 0,
+            mid: length as u64,
+            high: start as u64,
+        },
+        Record::Key { length, start } => Words {
+            mark: KY,
+            low: 0,
+            mid: length as u64,
+            high: start as u64,
+        },
+        Record::Bin { length, start } => Words {
+            mark: BY,
+            low: 0,
+            mid: length as u64,
+            high: start as u64,
+        },
+        Record::Time(t) => time_words(t),
+        Record::Array { end } => Words {
+            mark: AR,
+            low: 0,
+            mid: 0,
+            high: end as u64,
+        },
+        Record::Object { end } => Words {
+            mark: OB,
+            low: 0,
+            mid: 0,
+            high: end as u64,
+        },
+    }
+}
+
+// The sixteen bytes of four numbers.
+pub fn put_words(bytes: &mut [u8], w: Words)
+    requires { ⌜ length (now bytes) ≡ 16 ⌝ }
+    ensures { λ _. ⌜ now (bytes .exit) ≡ fourWords (w .mark) (w .low) (w .mid) (w .high) ⌝ }
+{
+    little_endian::store2(bytes, 0, w.mark);
+    little_endian::store2(bytes, 2, w.low);
+    little_endian::store4(bytes, 4, w.mid);
+    little_endian::store8(bytes, 8, w.high);
+}
+
+fn not_finite(mid: u64) -> Number
+    ensures { λ n. ⌜ n ≡ notFinite mid ⌝ }
+{
+    if mid == 0 {
+        return Number::NotANumber;
+    }
+    if mid == 2 {
+        return Number::Infinite { minus: true };
+    }
+    Number::Infinite { minus: false }
+}
+
+fn date_of(low: u64, mid: u64) -> Date
+    requires { ⌜ low < 2 ^ 16 ⌝ }
+    ensures { λ d. ⌜ d ≡ dateOf low mid ⌝ }
+{
+    Date {
+        year: low as u16,
+        month: (mid % 256) as u8,
+        day: (mid / 256 % 256) as u8,
+    }
+}
+
+// The record with these four numbers, if there is one; what they must be beside the mark is not tested here.
+fn record_of(w: Words) -> Record
+    requires { ⌜ Loaded w ⌝ }
+    ensures { λ r. ⌜ r ≡ onlyRecord w ⌝ }
+{
+    let mark = w.mark;
+    let low = w.low;
+    let mid = w.mid;
+    let high = w.high;
+    if mark == BO {
+        return Record::Bool(mid == 1);
+    }
+    if mark == NB {
+        return Record::Number(Number::Finite {
+            minus: low == 1,
+            coefficient: high,
+            power: little_endian::signed32(mid as u32),
+        });
+    }
+    if mark == NX {
+        return Record::Number(not_finite(mid));
+    }
+    if mark == ST {
+        return Record::Str {
+            length: mid as usize,
+            start: high as usize,
+        };
+    }
+    if mark == KY {
+        return Record::Key {
+            length: mid as usize,
+            start: high as usize,
+        };
+    }
+    if mark == BY {
+        return Record::Bin {
+            length: mid as usize,
+            start: high as usize,
+        };
+    }
+    if mark == LD {
+        return Record::Time(Time::LocalDate(date_of(low, mid)));
+    }
+    if mark == LT {
+        return Record::Time(Time::LocalTime(high));
+    }
+    if mark == DT {
+        return Record::Time(Time::LocalDateTime(date_of(low, mid), high));
+    }
+    if mark == OD {
+        return Record::Time(Time::OffsetDateTime(
+            date_of(low, mid),
+            high,
+            little_endian::signed16((mid / 65536) as u16),
+        ));
+    }
+    if mark == AR {
+        return Record::Array { end: high as usize };
+    }
+    if mark == OB {
+        return Record::Object { end: high as usize };
+    }
+    Record::Null
+}
+
+// The same. Keys, strings, numbers and containers, which fill most tapes, come first: so much is compiled into the
+// callers. The last answer has a local of its own, so that the others need no place in memory.
+fn common_record(w: Words) -> Record
+    requires { ⌜ Loaded w ⌝ }
+    ensures { λ r. ⌜ r ≡ onlyRecord w ⌝ }
+{
+    let mark = w.mark;
+    let low = w.low;
+    let mid = w.mid;
+    let high = w.high;
+    if mark == KY {
+        return Record::Key {
+            length: mid as usize,
+            start: high as usize,
+        };
+    }
+    if mark == ST {
+        return Record::Str {
+            length: mid as usize,
+            start: high as usize,
+        };
+    }
+    if mark == NB {
+        return Record::Number(Number::Finite {
+            minus: low == 1,
+            coefficient: high,
+            power: little_endian::signed32(mid as u32),
+        });
+    }
+    if mark == AR {
+        return Record::Array { end: high as usize };
+    }
+    if mark == OB {
+        return Record::Object { end: high as usize };
+    }
+    let r = record_of(Words {
+        mark: mark,
+        low: low,
+        mid: mid,
+        high: high,
+    });
+    r
+}
+
+// The record with these four numbers, or none: a record's own numbers are these, or no record has them.
+fn any_shape(w: Words) -> Shape
+    requires { ⌜ Loaded w ⌝ }
+    ensures { λ s. ⌜ Shaped w s ⌝ }
+{
+    let r = record_of(w);
+    let own = words_of(r);
+    if own.mark != w.mark {
+        return Shape::Junk;
+    }
+    if own.low != w.low {
+        return Shape::Junk;
+    }
+    if own.mid != w.mid {
+        return Shape::Junk;
+    }
+    if own.high != w.high {
+        return Shape::Junk;
+    }
+    Shape::Record(r)
+}
+
+// Whether these are the numbers of a key, a string, a number or a container: their unnamed bytes are zero.
+fn common(w: Words) -> bool
+    requires { ⌜ Loaded w ⌝ }
+    ensures { λ b. ⌜ Common w b ⌝ }
+{
+    let mark = w.mark;
+    if mark == NB {
+        if w.low > 1 {
+            return false;
+        }
+        return true;
+    }
+    if w.low != 0 {
+        return false;
+    }
+    if mark == KY {
+        return true;
+    }
+    if mark == ST {
+        return true;
+    }
+    if w.mid != 0 {
+        return false;
+    }
+    if mark == AR {
+        return true;
+    }
+    if mark == OB {
+        return true;
+    }
+    false
+}
+
+// The same as of any record, the common ones first.
+fn shape_of(w: Words) -> Shape
+    requires { ⌜ Loaded w ⌝ }
+    ensures { λ s. ⌜ Shaped w s ⌝ }
+{
+    if common(w) {
+        return Shape::Record(common_record(w));
+    }
+    let s = any_shape(w);
+    s
+}
+
+// The four numbers in the sixteen bytes from the place `at`.
+pub fn words_at(tape: &[u8], at: usize) -> Words
+    requires { ⌜ at + 16 ≤ length (now tape) ⌝ }
+    ensures { λ w. ⌜ w ≡ wordsAt (now (tape .entry)) at ⌝ }
+{
+    let mark = little_endian::load2(tape, at);
+    let low = little_endian::load2(tape, at + 2);
+    let mid = little_endian::load4(tape, at + 4);
+    let high = little_endian::load8(tape, at + 8);
+    Words {
+        mark: mark,
+        low: low,
+        mid: mid,
+        high: high,
+    }
+}
+
+// What stands in the sixteen bytes from the place `at`.
+pub fn shape_at(tape: &[u8], at: usize) -> Shape
+    requires { ⌜ at + 16 ≤ length (now tape) ⌝ }
+    ensures { λ s. ⌜ Shaped (wordsAt (now (tape .entry)) at) s ⌝ }
+{
+    shape_of(words_at(tape, at))
+}
+
+// The one record that may stand in the sixteen bytes from the place `at`.
+pub fn only_at(tape: &[u8], at: usize) -> Record
+    requires { ⌜ at + 16 ≤ length (now tape) ⌝ }
+    ensures { λ r. ⌜ r ≡ onlyRecord (wordsAt (now (tape .entry)) at) ⌝ }
+{
+    common_record(words_at(tape, at))
+}
