@@ -1,3 +1,3 @@
--- RewritesLaws: a text read, and its tape and store written. Lines: the whole line, and that there is one
-pub mod RewritesLaws
-pub mod Lines
+-- StepsLaws: a text read, and its tape and store written. LineLaws: the whole line, and that there is one
+pub mod StepsLaws
+pub mod LineLaws

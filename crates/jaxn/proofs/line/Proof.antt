@@ -2,7 +2,7 @@
 use mathlib.Core.Path.{sym, _∙_}
 use native.Mathlib.Omega.{arith}
 use Rattle.io.proofs.Counting.{front}
-use Rattle.jaxn.proofs.Lines.{text-within, tells-longer, tells-refusal, tells-text}
+use Rattle.jaxn.proofs.LineLaws.{text-within, tells-longer, tells-refusal, tells-text}
 use borrow.Author.Needs.{needs}
 use Rattle.jaxn.proofs.line.Statement.{statement}
 use Rattle.jaxn.proofs.line.Tie as tie

@@ -1,7 +1,7 @@
 -- `main`: what is answered lies within what was read, and what is printed within the output. Assumes nothing.
 use native.Mathlib.Omega.{arith}
 use Rattle.io.proofs.Counting.{front}
-use Rattle.jaxn.proofs.Lines.{read-within, tells-within}
+use Rattle.jaxn.proofs.LineLaws.{read-within, tells-within}
 use borrow.Author.Needs.{needs}
 use Rattle.jaxn.proofs.main.Statement.{statement}
 use Rattle.jaxn.proofs.main.Tie as tie

@@ -1,6 +1,6 @@
 -- `refused_line`: one piece after the other. Assumes nothing.
 use native.Mathlib.Omega.{arith}
-use Rattle.jaxn.proofs.Lines.{digits-few, five-pieces}
+use Rattle.jaxn.proofs.LineLaws.{digits-few, five-pieces}
 use borrow.Author.Needs.{needs}
 use Rattle.jaxn.proofs.refused_line.Statement.{statement}
 use Rattle.jaxn.proofs.refused_line.Tie as tie

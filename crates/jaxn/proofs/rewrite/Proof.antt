@@ -1,6 +1,6 @@
 -- `rewrite`: by what `read` answers. Assumes nothing.
 use native.Mathlib.Omega.{arith}
-use Rattle.jaxn.proofs.RewritesLaws.{tape-within, store-within, tape-part, store-part, not-read, rewritten}
+use Rattle.jaxn.proofs.StepsLaws.{tape-within, store-within, tape-part, store-part, not-read, rewritten}
 use borrow.Author.Needs.{needs}
 use Rattle.jaxn.proofs.rewrite.Statement.{statement}
 use Rattle.jaxn.proofs.rewrite.Tie as tie
