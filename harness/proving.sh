@@ -24,6 +24,7 @@ interrupted() { # SIGNAL
     [ -z "${teller:-}" ] || kill "$teller" 2>/dev/null
     if [ -n "$group" ]; then
         kill -s TERM -- "-$group" 2>/dev/null || kill -s TERM "$group" 2>/dev/null
+        kill -s CONT -- "-$group" 2>/dev/null # one that is stopped ends only then
         wait "$group" 2>/dev/null
         tries=0
         while [ "$tries" -lt 30 ] && kill -s 0 -- "-$group" 2>/dev/null; do
