@@ -185,19 +185,19 @@ module _ (p : ℕ) (a : List ℕ) (n : N.Number) (y : Number false a n) (bad : (
   sure : (b : ℕ) → NumberOut p (scan (adv p a) s b) → scan (adv p a) s b ≡ breaks (BadNumber p)
   sure = refuses IsNumber (BadNumber p) p a s x (λ m z h. bad (h .0) (number-of z (h .1)))
 
-  ended : GoesTo scan (NumberOut p) Runs.Ends (adv p a) s []
+  ended : GoesTo scan (NumberOut p) Runs.EndsItem (adv p a) s []
   ended = goes-end scan x (number-out y p)
 
   not-taken : (b : ℕ) → (Takes (scan (adv p a) s b) → ⊥) → scan (adv p a) s b ≡ breaks (BadNumber p)
   not-taken b f = sure b (any-byte IsNumber (λ r. r ≡ BadNumber p) (number-out y p) x b f)
 
   number-walk : {c r : List ℕ} → Ends c r → c ≡ a → (d : ℕ) (k : List Frame) → read (adv p a) (at (item (Machine.numeric s)) d k) r ≡ No (BadNumber p)
-  number-walk Ends.over q d k = breaks-end (adv p a) s d k (BadNumber p) (sure over (end-out scan Runs.Ends.end ended))
+  number-walk Ends.over q d k = breaks-end (adv p a) s d k (BadNumber p) (sure over (end-out scan Runs.EndsItem.end ended))
   number-walk (Ends.byte {b = b} {r = r} f) q d k =
       let g : (z : List ℕ) → Numeric (a ++ (b ∷ z)) → ⊥ = λ z i. f z (subst (λ (c : List ℕ). Numeric (c ++ (b ∷ z))) (sym q) i) in
       breaks-read (adv p a) s b r d k (BadNumber p) (not-taken b (takes-not p a s b x g))
   number-walk (Ends.space {r = r} w) q d k =
-      breaks-read (adv p a) s (ch " ") r d k (BadNumber p) (not-taken (ch " ") (no-space p (adv p a) s (end-out scan Runs.Ends.end ended)))
+      breaks-read (adv p a) s (ch " ") r d k (BadNumber p) (not-taken (ch " ") (no-space p (adv p a) s (end-out scan Runs.EndsItem.end ended)))
 
 -- 6 is given at the number's first byte
 pub number-given : (d : ℕ) (l x r : List ℕ) (n : N.Number) → Left d value l → Number false x n → ((m : N.Number) → Number true x m → ⊥) → Ends x r
@@ -306,7 +306,7 @@ module _ (p : ℕ) (a : List ℕ) (t : T.Time) (y : Time-value false a t) (bad :
     untaken b n = good-now b (any-byte IsTime (λ r. r ≡ BadTime p) (time-out y p) x b n)
 
     time-walk : {c r : List ℕ} → Ends c r → c ≡ a → read (adv p a) (at (item (Machine.numeric s)) d k) r ≡ No (BadTime p)
-    time-walk Ends.over q = breaks-end (adv p a) s d k (BadTime p) (good-now over (end-out scan Runs.Ends.end (goes-end scan x (time-out y p))))
+    time-walk Ends.over q = breaks-end (adv p a) s d k (BadTime p) (good-now over (end-out scan Runs.EndsItem.end (goes-end scan x (time-out y p))))
     time-walk (Ends.byte {b = b} {r = r} f) q =
         let g : (z : List ℕ) → Numeric (a ++ (b ∷ z)) → ⊥ = λ z i. f z (subst (λ (c : List ℕ). Numeric (c ++ (b ∷ z))) (sym q) i) in
         breaks-read (adv p a) s b r d k (BadTime p) (untaken b (takes-not p a s b x g))

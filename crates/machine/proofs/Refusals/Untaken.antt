@@ -256,19 +256,19 @@ module _ (P : Meaning → Type 0) (R : Refusal → Type 0) where
   untaken-out Or.same h n = h
   untaken-out Or.none h n = absurd h
 
-  pub any-byte : {p : ℕ} {s s' : St} {a : List ℕ} → GoesTo scan Q Runs.Ends p s a → Steps scan p s a s' → (b : ℕ) → (Takes (scan (adv p a) s' b) → ⊥)
+  pub any-byte : {p : ℕ} {s s' : St} {a : List ℕ} → GoesTo scan Q Runs.EndsItem p s a → Steps scan p s a s' → (b : ℕ) → (Takes (scan (adv p a) s' b) → ⊥)
       → Q (scan (adv p a) s' b)
-  any-byte {p} {s' = s'} {a = a} g x b n = untaken-out (taken-or-same (adv p a) s' b) (end-out scan Runs.Ends.end (goes-end scan x g)) n
+  any-byte {p} {s' = s'} {a = a} g x b n = untaken-out (taken-or-same (adv p a) s' b) (end-out scan Runs.EndsItem.end (goes-end scan x g)) n
 
   -- behind a date and a space that is taken, what is no digit ends it
   spaced-out : {p b : ℕ} {s u : St} → HaltTo scan Q p s b → b ≡ ch " " → scan p s (ch " ") ≡ takes u → (c : ℕ) → Runs.NoDigit c → Q (scan (suc p) u c)
   spaced-out {p} {b} {s} (HaltTo.here h) e f c n = absurd (subst Q f (subst (λ (x : ℕ). Q (scan p s x)) e h))
   spaced-out {p} (HaltTo.spaced g k) e f c n = subst (λ (x : St). Q (scan (suc p) x c)) (taken-once scan (sym g ∙ f)) (k (suc p) c n)
 
-  space-out : {p : ℕ} {s u : St} → GoesTo scan Q Runs.Ends p s [] → Steps scan p s (letters " ") u → (c : ℕ) → Runs.NoDigit c → Q (scan (suc p) u c)
-  space-out (GoesTo.ends h) (Steps.eat Steps.stay e) c n = spaced-out (h (ch " ") (Runs.Ends.blank Blank.space)) refl e c n
+  space-out : {p : ℕ} {s u : St} → GoesTo scan Q Runs.EndsItem p s [] → Steps scan p s (letters " ") u → (c : ℕ) → Runs.NoDigit c → Q (scan (suc p) u c)
+  space-out (GoesTo.ends h) (Steps.eat Steps.stay e) c n = spaced-out (h (ch " ") (Runs.EndsItem.blank Blank.space)) refl e c n
 
-  module _ {p : ℕ} {s u : St} {a : List ℕ} (g : GoesTo scan Q Runs.Ends p s a) (x : Steps scan p s (a ++ letters " ") u) where
+  module _ {p : ℕ} {s u : St} {a : List ℕ} (g : GoesTo scan Q Runs.EndsItem p s a) (x : Steps scan p s (a ++ letters " ") u) where
     pub space-digitless : (c : ℕ) → Runs.NoDigit c → Q (scan (adv p (a ++ letters " ")) u c)
     space-digitless c n = let h = split-steps a x in rw (adv-join p a (letters " ")) (space-out (goes-end scan (h .1) g) (h .2) c n)
 
