@@ -11,7 +11,7 @@ use Rattle.machine.specs.Machine
 use Rattle.machine.specs.Machine.{Base, want, wantKey, wantString, wantBinary, got, Mode, base, slash, line, block, star, Frame, Conf, at, step, finish, Class, classOf, blankC, hashC, slashC, Note, noteOf, lineEnd, starN, slashN, plainN, controlN}
 use Rattle.items.specs.Between.Places.{Onward}
 use Rattle.reader.specs.Between.Scanning.{Goes, Refuses, Bare}
-use Rattle.reader.specs.Between.Layout.{Passes, Commented, Breaks, Blanks, LayoutEnds, CommentSays, MaybeSays}
+use Rattle.reader.specs.Between.Layout.{Passes, Commented, Breaks, BlankSays, Blanks, LayoutEnds, CommentSays, MaybeSays}
 use Rattle.reader.specs.declared.layout.Comment.{Comment}
 use Rattle.reader.proofs.ScanningClassLaws.{NoteIs, note-is}
 use Rattle.reader.proofs.ScanningLaws.{go, stop, halt, alike, alike-end}
@@ -39,6 +39,13 @@ on-slash wantKey p d k b e = rw e
 on-slash (wantString z u) p d k b e = rw e
 on-slash (wantBinary u) p d k b e = rw e
 on-slash (got g) p d k b e = rw e
+
+-- what is told of one byte
+pub is-blank : (b : ℕ) → classOf b ≡ blankC → BlankSays b true
+is-blank b h = record { blank = λ e. h; other = λ e. let z : _≡_ {A = ℕ} 0 1 = cc in absurd (omega arith) }
+
+pub no-blank : (b : ℕ) → (classOf b ≡ blankC → ⊥) → BlankSays b false
+no-blank b h = record { blank = λ e. let z : _≡_ {A = ℕ} 0 1 = cc in absurd (omega arith); other = λ e. h }
 
 -- on the way
 pub record Passing (text : List ℕ) (p q : ℕ) : Type 0 where

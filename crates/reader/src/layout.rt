@@ -3,7 +3,7 @@ ghost use mathlib.Core.Path.{_≡_};
 ghost use Prim.Native.Nat.{_≤_, _<_};
 ghost use lib.ListN.{length};
 ghost use Rattle.machine.specs.Machine.{noteOf, line, block, slash};
-ghost use Rattle.reader.specs.Between.Layout.{noteIs, CommentSays, MaybeSays, Blanks, LayoutSays};
+ghost use Rattle.reader.specs.Between.Layout.{noteIs, CommentSays, MaybeSays, BlankSays, Blanks, LayoutSays};
 
 pub enum Layout {
     Ended(usize),
@@ -147,6 +147,28 @@ fn comment_at(text: &[u8], at: usize) -> Comment
     Comment::Absent
 }
 
+// Whether a byte is a space, tab, LF or CR. Most are above all of them.
+fn is_blank(b: u8) -> bool
+    ensures { λ r. ⌜ BlankSays b r ⌝ }
+{
+    if b > b' ' {
+        return false;
+    }
+    if b == b' ' {
+        return true;
+    }
+    if b == b'\n' {
+        return true;
+    }
+    if b == b'\r' {
+        return true;
+    }
+    if b == b'\t' {
+        return true;
+    }
+    false
+}
+
 // The first place from `from` on that is no space, tab, LF or CR.
 fn blanks(text: &[u8], from: usize) -> usize
     requires { ⌜ from ≤ length (now text) ⌝ }
@@ -154,26 +176,10 @@ fn blanks(text: &[u8], from: usize) -> usize
 {
     let mut at = from;
     while at < text.len() {
-        let b = text[at];
-        if b > b' ' {
-            return at;
-        }
-        if b == b' ' {
+        if is_blank(text[at]) {
             at = at + 1;
         } else {
-            if b == b'\n' {
-                at = at + 1;
-            } else {
-                if b == b'\r' {
-                    at = at + 1;
-                } else {
-                    if b == b'\t' {
-                        at = at + 1;
-                    } else {
-                        return at;
-                    }
-                }
-            }
+            return at;
         }
     }
     at

@@ -21,7 +21,7 @@ use Rattle.meaning.specs.Between.Words.{mark, markOf, lowOf, midOf, highOf, mon
 use Rattle.meaning.proofs.Records.{record-words}
 use Rattle.tape.specs.declared.Words.{Words}
 use Rattle.tape.specs.declared.Shape.{Shape}
-use Rattle.tape.specs.Between.Shapes.{Worded, Loaded, Written, notFinite, dateOf, recordOf, onlyRecord, Common, Shaped, shaped, junk}
+use Rattle.tape.specs.Between.Shapes.{Worded, Holds, Loaded, Written, notFinite, dateOf, recordOf, onlyRecord, Common, Shaped, shaped, junk}
 
 pub flag-small : (b : Bool) → flag b ≤ 1
 flag-small true = omega arith
@@ -64,12 +64,19 @@ written r w f e = record {
   bytes-are = words-bytes r f ∙ sym (ap₂ (λ (a b : ℕ). fourWords a b (w .mid) (w .high)) (e .mark-is) (e .low-is) ∙ ap₂ (fourWords (markOf r) (lowOf r)) (e .mid-is) (e .high-is));
 }
 
+pub written-as : (r : Record) (w : Words) → DateFits r → Holds w (markOf r) (lowOf r) (midOf r) (highOf r) → Written r w
+written-as r w f e = written r w f (record { mark-is = e .mark-held; low-is = e .low-held; mid-is = e .mid-held; high-is = e .high-held })
+
 pub infinite-mid : (b : Bool) (f : ℕ) → f ≡ flag b → 1 + f ≡ midOf (Record.Number (Infinite b))
 unfolding midOf
 infinite-mid true f e = omega arith
 infinite-mid false f e = omega arith
 
 -- ---- from the numbers to the record
+
+-- a mark that is not this one
+pub past : (a k : ℕ) (x : Record) {y z : Record} → (a ≡ k → ⊥) → y ≡ z → y ≡ cond (eqb a k) x z
+past a k x {z = z} n e = e ∙ sym (ap (λ (b : Bool). cond b x z) (ne-eqb a k n))
 
 date-back : (d : Date) (o : ℕ) → FitDate d → dateOf (d .year) (monthDay d o) ≡ d
 date-back d o f =

@@ -4,7 +4,7 @@ ghost use Prim.Native.Nat.{_+_, _≤_, _<_, _^_};
 ghost use lib.ListN.{length};
 ghost use Rattle.meaning.specs.declared.Record.{Record};
 ghost use Rattle.meaning.specs.Between.Words.{monthDay, fourWords, FitDate};
-ghost use Rattle.tape.specs.Between.Shapes.{Written, Loaded, notFinite, dateOf, onlyRecord, Common, Shaped, wordsAt};
+ghost use Rattle.tape.specs.Between.Shapes.{Written, Holds, Loaded, notFinite, dateOf, containerOf, timeOf, bytesOf, onlyRecord, Common, Shaped, wordsAt};
 use crate::Shape;
 use crate::Words;
 use crate::little_endian;
@@ -114,6 +114,30 @@ fn time_words(t: Time) -> Words
     }
 }
 
+// The four numbers of a record with bytes in the store.
+fn bytes_words(mark: u64, length: usize, start: usize) -> Words
+    ensures { λ w. ⌜ Holds w mark 0 length start ⌝ }
+{
+    Words {
+        mark: mark,
+        low: 0,
+        mid: length as u64,
+        high: start as u64,
+    }
+}
+
+// The four numbers of a container.
+fn end_words(mark: u64, end: usize) -> Words
+    ensures { λ w. ⌜ Holds w mark 0 0 end ⌝ }
+{
+    Words {
+        mark: mark,
+        low: 0,
+        mid: 0,
+        high: end as u64,
+    }
+}
+
 // The four numbers of a record.
 pub fn words_of(r: Record) -> Words
     ensures { λ w. ⌜ Written r w ⌝ }
@@ -132,37 +156,12 @@ pub fn words_of(r: Record) -> Words
             high: 0,
         },
         Record::Number(n) => number_words(n),
-        Record::Str { length, start } => Words {
-            mark: ST,
-            low: 0,
-            mid: length as u64,
-            high: start as u64,
-        },
-        Record::Key { length, start } => Words {
-            mark: KY,
-            low: 0,
-            mid: length as u64,
-            high: start as u64,
-        },
-        Record::Bin { length, start } => Words {
-            mark: BY,
-            low: 0,
-            mid: length as u64,
-            high: start as u64,
-        },
+        Record::Str { length, start } => bytes_words(ST, length, start),
+        Record::Key { length, start } => bytes_words(KY, length, start),
+        Record::Bin { length, start } => bytes_words(BY, length, start),
         Record::Time(t) => time_words(t),
-        Record::Array { end } => Words {
-            mark: AR,
-            low: 0,
-            mid: 0,
-            high: end as u64,
-        },
-        Record::Object { end } => Words {
-            mark: OB,
-            low: 0,
-            mid: 0,
-            high: end as u64,
-        },
+        Record::Array { end } => end_words(AR, end),
+        Record::Object { end } => end_words(OB, end),
     }
 }
 
@@ -200,6 +199,69 @@ fn date_of(low: u64, mid: u64) -> Date
     }
 }
 
+// The container with these four numbers; null where the mark is no container's.
+fn container_of(w: Words) -> Record
+    ensures { λ r. ⌜ r ≡ containerOf (w .mark) (w .high) ⌝ }
+{
+    let mark = w.mark;
+    let high = w.high;
+    if mark == AR {
+        return Record::Array { end: high as usize };
+    }
+    if mark == OB {
+        return Record::Object { end: high as usize };
+    }
+    Record::Null
+}
+
+// The time with these four numbers, or a container.
+fn time_of(w: Words) -> Record
+    requires { ⌜ Loaded w ⌝ }
+    ensures { λ r. ⌜ r ≡ timeOf (w .mark) (w .low) (w .mid) (w .high) ⌝ }
+{
+    let mark = w.mark;
+    let low = w.low;
+    let mid = w.mid;
+    let high = w.high;
+    if mark == LD {
+        return Record::Time(Time::LocalDate(date_of(low, mid)));
+    }
+    if mark == LT {
+        return Record::Time(Time::LocalTime(high));
+    }
+    if mark == DT {
+        return Record::Time(Time::LocalDateTime(date_of(low, mid), high));
+    }
+    if mark == OD {
+        return Record::Time(Time::OffsetDateTime(
+            date_of(low, mid),
+            high,
+            little_endian::signed16((mid / 65536) as u16),
+        ));
+    }
+    container_of(w)
+}
+
+// The record with bytes in the store that has these four numbers, or a time or a container.
+fn bytes_of(w: Words) -> Record
+    requires { ⌜ Loaded w ⌝ }
+    ensures { λ r. ⌜ r ≡ bytesOf (w .mark) (w .low) (w .mid) (w .high) ⌝ }
+{
+    let mark = w.mark;
+    let length = w.mid as usize;
+    let start = w.high as usize;
+    if mark == ST {
+        return Record::Str { length, start };
+    }
+    if mark == KY {
+        return Record::Key { length, start };
+    }
+    if mark == BY {
+        return Record::Bin { length, start };
+    }
+    time_of(w)
+}
+
 // The record with these four numbers, if there is one; what they must be beside the mark is not tested here.
 fn record_of(w: Words) -> Record
     requires { ⌜ Loaded w ⌝ }
@@ -222,47 +284,7 @@ fn record_of(w: Words) -> Record
     if mark == NX {
         return Record::Number(not_finite(mid));
     }
-    if mark == ST {
-        return Record::Str {
-            length: mid as usize,
-            start: high as usize,
-        };
-    }
-    if mark == KY {
-        return Record::Key {
-            length: mid as usize,
-            start: high as usize,
-        };
-    }
-    if mark == BY {
-        return Record::Bin {
-            length: mid as usize,
-            start: high as usize,
-        };
-    }
-    if mark == LD {
-        return Record::Time(Time::LocalDate(date_of(low, mid)));
-    }
-    if mark == LT {
-        return Record::Time(Time::LocalTime(high));
-    }
-    if mark == DT {
-        return Record::Time(Time::LocalDateTime(date_of(low, mid), high));
-    }
-    if mark == OD {
-        return Record::Time(Time::OffsetDateTime(
-            date_of(low, mid),
-            high,
-            little_endian::signed16((mid / 65536) as u16),
-        ));
-    }
-    if mark == AR {
-        return Record::Array { end: high as usize };
-    }
-    if mark == OB {
-        return Record::Object { end: high as usize };
-    }
-    Record::Null
+    bytes_of(w)
 }
 
 // The same. Keys, strings, numbers and containers, which fill most tapes, come first: so much is compiled into the
@@ -275,17 +297,13 @@ fn common_record(w: Words) -> Record
     let low = w.low;
     let mid = w.mid;
     let high = w.high;
+    let length = mid as usize;
+    let start = high as usize;
     if mark == KY {
-        return Record::Key {
-            length: mid as usize,
-            start: high as usize,
-        };
+        return Record::Key { length, start };
     }
     if mark == ST {
-        return Record::Str {
-            length: mid as usize,
-            start: high as usize,
-        };
+        return Record::Str { length, start };
     }
     if mark == NB {
         return Record::Number(Number::Finite {

@@ -88,72 +88,34 @@ fn reaches(n: u64, p: u64) -> usize
     if n < p { 0 } else { 1 }
 }
 
-// 10 to the power t, and 0 where t is 0. Tests of one number, of each of its values, are compiled to a table.
+// 10 to the power t, and 0 where t is 0. A match of one number, with an arm for each of its values, is compiled to a table.
 fn power(t: usize) -> u64
     requires { ⌜ t < 20 ⌝ }
     ensures { λ r. ⌜ Power t r ⌝ }
 {
-    if t == 0 {
-        return 0;
+    match t {
+        0 => 0,
+        1 => 10,
+        2 => 100,
+        3 => 1000,
+        4 => 10000,
+        5 => 100000,
+        6 => 1000000,
+        7 => 10000000,
+        8 => 100000000,
+        9 => 1000000000,
+        10 => 10000000000,
+        11 => 100000000000,
+        12 => 1000000000000,
+        13 => 10000000000000,
+        14 => 100000000000000,
+        15 => 1000000000000000,
+        16 => 10000000000000000,
+        17 => 100000000000000000,
+        18 => 1000000000000000000,
+        19 => 10000000000000000000,
+        _ => 0,
     }
-    if t == 1 {
-        return 10;
-    }
-    if t == 2 {
-        return 100;
-    }
-    if t == 3 {
-        return 1000;
-    }
-    if t == 4 {
-        return 10000;
-    }
-    if t == 5 {
-        return 100000;
-    }
-    if t == 6 {
-        return 1000000;
-    }
-    if t == 7 {
-        return 10000000;
-    }
-    if t == 8 {
-        return 100000000;
-    }
-    if t == 9 {
-        return 1000000000;
-    }
-    if t == 10 {
-        return 10000000000;
-    }
-    if t == 11 {
-        return 100000000000;
-    }
-    if t == 12 {
-        return 1000000000000;
-    }
-    if t == 13 {
-        return 10000000000000;
-    }
-    if t == 14 {
-        return 100000000000000;
-    }
-    if t == 15 {
-        return 1000000000000000;
-    }
-    if t == 16 {
-        return 10000000000000000;
-    }
-    if t == 17 {
-        return 100000000000000000;
-    }
-    if t == 18 {
-        return 1000000000000000000;
-    }
-    if t == 19 {
-        return 10000000000000000000;
-    }
-    0
 }
 
 // How many decimal digits a number has: with so many bits they are t or t + 1, since the factor is just below the

@@ -1,5 +1,6 @@
 -- What the readers of layout promise. Assumes nothing.
 use mathlib.Core.Path.{_≡_}
+use mathlib.Core.Bool.{Bool, true, false}
 use mathlib.Core.List.{List}
 use Prim.Native.Nat.{ℕ, _≤_, _<_}
 use lib.ListN.{length, getD}
@@ -43,6 +44,11 @@ abbrev pub MaybeSays : List ℕ → ℕ → Comment → Type 0
 MaybeSays text p Comment.Absent = (Machine.classOf (getD text p 0) ≡ Machine.hashC → ⊥) × (Machine.classOf (getD text p 0) ≡ Machine.slashC → ⊥)
 MaybeSays text p (Comment.Ended q) = Commented text base p q × (p < q)
 MaybeSays text p (Comment.NotGrammar q) = Breaks text base p q
+
+-- whether b is a blank
+pub record BlankSays (b : ℕ) (r : Bool) : Type 0 where
+  pub blank : r ≡ true → Machine.classOf b ≡ Machine.blankC
+  pub other : r ≡ false → Machine.classOf b ≡ Machine.blankC → ⊥
 
 -- blanks alone
 pub record Blanks (text : List ℕ) (p q : ℕ) : Type 0 where

@@ -24,6 +24,13 @@ pub record Worded (r : Record) (w : Words) : Type 0 where
   pub mid-is : w .mid ≡ midOf r
   pub high-is : w .high ≡ highOf r
 
+-- these are the four numbers
+pub record Holds (w : Words) (mark low mid high : ℕ) : Type 0 where
+  pub mark-held : w .mark ≡ mark
+  pub low-held : w .low ≡ low
+  pub mid-held : w .mid ≡ mid
+  pub high-held : w .high ≡ high
+
 -- and they make its bytes
 pub record Written (r : Record) (w : Words) : Type 0 where
   pub worded : Worded r w
@@ -43,22 +50,31 @@ notFinite mid = cond (eqb mid 0) NotANumber (cond (eqb mid 2) (Infinite true) (I
 abbrev pub dateOf : ℕ → ℕ → Date
 dateOf low mid = record { year = low; month = mid % 256; day = mid / 256 % 256 }
 
--- the one record that may have these four numbers
+-- the one record that may have these four numbers: a container or null; or else a time; or else one with bytes in the store; any
+abbrev pub containerOf : ℕ → ℕ → Record
+containerOf a high = cond (eqb a (mark "a" "r")) (Record.Array high) (cond (eqb a (mark "o" "b")) (Record.Object high) Record.Null)
+
+abbrev pub timeOf : ℕ → ℕ → ℕ → ℕ → Record
+timeOf a low mid high =
+    cond (eqb a (mark "l" "d")) (Record.Time (LocalDate (dateOf low mid)))
+    (cond (eqb a (mark "l" "t")) (Record.Time (LocalTime high))
+    (cond (eqb a (mark "d" "t")) (Record.Time (LocalDateTime (dateOf low mid) high))
+    (cond (eqb a (mark "o" "d")) (Record.Time (OffsetDateTime (dateOf low mid) high (toZ w16 (mid / 65536))))
+    (containerOf a high))))
+
+abbrev pub bytesOf : ℕ → ℕ → ℕ → ℕ → Record
+bytesOf a low mid high =
+    cond (eqb a (mark "s" "t")) (Record.Str mid high)
+    (cond (eqb a (mark "k" "y")) (Record.Key mid high)
+    (cond (eqb a (mark "b" "y")) (Record.Bin mid high)
+    (timeOf a low mid high)))
+
 unfoldable pub recordOf : ℕ → ℕ → ℕ → ℕ → Record
 recordOf a low mid high =
     cond (eqb a (mark "b" "o")) (Record.Bool (eqb mid 1))
     (cond (eqb a (mark "n" "b")) (Record.Number (Finite (eqb low 1) high (toZ w32 mid)))
     (cond (eqb a (mark "n" "x")) (Record.Number (notFinite mid))
-    (cond (eqb a (mark "s" "t")) (Record.Str mid high)
-    (cond (eqb a (mark "k" "y")) (Record.Key mid high)
-    (cond (eqb a (mark "b" "y")) (Record.Bin mid high)
-    (cond (eqb a (mark "l" "d")) (Record.Time (LocalDate (dateOf low mid)))
-    (cond (eqb a (mark "l" "t")) (Record.Time (LocalTime high))
-    (cond (eqb a (mark "d" "t")) (Record.Time (LocalDateTime (dateOf low mid) high))
-    (cond (eqb a (mark "o" "d")) (Record.Time (OffsetDateTime (dateOf low mid) high (toZ w16 (mid / 65536))))
-    (cond (eqb a (mark "a" "r")) (Record.Array high)
-    (cond (eqb a (mark "o" "b")) (Record.Object high)
-    Record.Null)))))))))))
+    (bytesOf a low mid high)))
 
 abbrev pub onlyRecord : Words → Record
 onlyRecord w = recordOf (w .mark) (w .low) (w .mid) (w .high)
