@@ -27,6 +27,7 @@ pub enum Octet {
     NotGrammar(usize),
 }
 
+// What follows a pair: a dot must have a digit after it.
 fn after_pair(text: &[u8], at: usize) -> Pair
     requires { ⌜ at ≤ length (now text) ⌝ }
     ensures { λ r. ⌜ PairSays (now (text .entry)) at r ⌝ }

@@ -12,6 +12,7 @@ pub enum Sort {
     Neither,
 }
 
+// The sort of a byte; `$` and `_` count as letters.
 pub fn sort_of(b: u8) -> Sort
     ensures { λ r. ⌜ classOf b ≡ sortIs r ⌝ }
 {

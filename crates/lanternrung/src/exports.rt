@@ -57,6 +57,7 @@ pub struct Fields {
     pub end: u64,
 }
 
+// The reader's counts, or its refusal with both counts 0.
 fn sizes_of(a: Answer) -> Sizes
     ensures { λ r. ⌜ r ≡ sizesOf a ⌝ }
 {
@@ -76,6 +77,7 @@ fn sizes_of(a: Answer) -> Sizes
     }
 }
 
+// The length of what was written, or the refusal with length 0.
 fn text_of(a: Written) -> Text
     ensures { λ r. ⌜ r ≡ textOf a ⌝ }
 {
@@ -93,6 +95,7 @@ fn text_of(a: Written) -> Text
     }
 }
 
+// 1 if set.
 fn flag(b: bool) -> u32
     ensures { λ r. ⌜ r ≡ flagOf b ⌝ }
 {
@@ -146,6 +149,7 @@ fn plain(kind: u32, set: u32, length: u64, start: u64, end: u64) -> Fields
     }
 }
 
+// Kind 3 if finite; otherwise kind 4, with flag 0 for NaN, 1 for Infinity and 2 for -Infinity.
 fn number_fields(n: Number) -> Fields
     ensures { λ r. ⌜ r ≡ numberFields n ⌝ }
 {
@@ -197,6 +201,7 @@ fn dated(kind: u32, d: Date, clock: u64, offset: i32) -> Fields
     }
 }
 
+// Kinds 8 to 11, one for each time type.
 fn time_fields(t: Time) -> Fields
     ensures { λ r. ⌜ r ≡ timeFields t ⌝ }
 {
@@ -217,6 +222,7 @@ fn time_fields(t: Time) -> Fields
     }
 }
 
+// A record's kind as its number, and the fields that the kind has.
 fn fields_of(r: Record) -> Fields
     ensures { λ f. ⌜ f ≡ fieldsOf r ⌝ }
 {
@@ -233,6 +239,7 @@ fn fields_of(r: Record) -> Fields
     }
 }
 
+// Whether the bytes are UTF-8: refusal 2, with its place, where they are not.
 #[no_mangle]
 pub extern "C" fn lanternrung_utf8(bytes: &[u8]) -> Status
     ensures { λ r. ⌜ Utf8Told (now (bytes .entry)) r ⌝ }
@@ -249,6 +256,7 @@ pub extern "C" fn lanternrung_utf8(bytes: &[u8]) -> Status
     }
 }
 
+// Whether there is such a date: refusal 5, at place 0, where there is none.
 #[no_mangle]
 pub extern "C" fn lanternrung_date(year: u64, month: u64, day: u64) -> Status
     ensures { λ r. ⌜ DateTold year month day r ⌝ }
@@ -265,6 +273,7 @@ pub extern "C" fn lanternrung_date(year: u64, month: u64, day: u64) -> Status
     }
 }
 
+// How many records and store bytes the text needs, or the refusal.
 #[no_mangle]
 pub extern "C" fn lanternrung_measure(text: &[u8]) -> Sizes
     ensures { λ r. ⌜ MeasureTold (now (text .entry)) r ⌝ }
@@ -272,6 +281,7 @@ pub extern "C" fn lanternrung_measure(text: &[u8]) -> Sizes
     sizes_of(reader::measure(text))
 }
 
+// How many records and store bytes the text has filled, or the refusal.
 #[no_mangle]
 pub extern "C" fn lanternrung_read(text: &[u8], tape: &mut [u8], store: &mut [u8]) -> Sizes
     ensures { λ r. ⌜ ReadTold (now (text .entry)) (now (tape .entry)) (now (store .entry)) r (now (tape .exit)) (now (store .exit)) ⌝ }
@@ -279,6 +289,7 @@ pub extern "C" fn lanternrung_read(text: &[u8], tape: &mut [u8], store: &mut [u8
     sizes_of(reader::read(text, tape, store))
 }
 
+// The record at this index, or the refusal.
 #[no_mangle]
 pub extern "C" fn lanternrung_look(tape: &[u8], store: &[u8], index: u64) -> Fields
     ensures { λ r. ⌜ LookTold (now (tape .entry)) (now (store .entry)) index r ⌝ }
@@ -289,6 +300,7 @@ pub extern "C" fn lanternrung_look(tape: &[u8], store: &[u8], index: u64) -> Fie
     }
 }
 
+// The length of the canonical text in the output, or the refusal.
 #[no_mangle]
 pub extern "C" fn lanternrung_write_jaxn(tape: &[u8], store: &[u8], out: &mut [u8]) -> Text
     ensures { λ r. ⌜ JaxnTold (now (tape .entry)) (now (store .entry)) (now (out .entry)) r (now (out .exit)) ⌝ }
@@ -296,6 +308,7 @@ pub extern "C" fn lanternrung_write_jaxn(tape: &[u8], store: &[u8], out: &mut [u
     text_of(writer::write_jaxn(tape, store, out))
 }
 
+// The length of the JSON text in the output, or the refusal.
 #[no_mangle]
 pub extern "C" fn lanternrung_write_json(tape: &[u8], store: &[u8], out: &mut [u8]) -> Text
     ensures { λ r. ⌜ JsonTold (now (tape .entry)) (now (store .entry)) (now (out .entry)) r (now (out .exit)) ⌝ }

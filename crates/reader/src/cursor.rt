@@ -82,6 +82,7 @@ fn record_of(item: Item, start: usize) -> Record
     }
 }
 
+// The item for which these letters stand, and the place after them; or the byte that no rule allows.
 fn spelt(text: &[u8], at: usize, letters: &[u8], item: Item) -> Scanned
     requires { ⌜ at ≤ length (now text) ⌝ }
     ensures { λ r. ⌜ SpeltSays (now (text .entry)) at (now (letters .entry)) item r ⌝ }

@@ -26,6 +26,7 @@ pub enum Note {
     Plain,
 }
 
+// What a byte is in a comment; of the bytes below U+0020 only a tab is plain.
 fn note_of(b: u8) -> Note
     ensures { λ r. ⌜ noteOf b ≡ noteIs r ⌝ }
 {

@@ -40,6 +40,7 @@ fn kept_from(s: &[u8], at: u64) {
     }
 }
 
+// Prints whether the bytes are UTF-8. Like each call here it gives true: there is such a call.
 pub(crate) fn utf8(rest: &[u8]) -> bool {
     let mut bytes = io::buffer();
     let n = spelling::decode(rest, false, &mut bytes);
@@ -47,6 +48,7 @@ pub(crate) fn utf8(rest: &[u8]) -> bool {
     true
 }
 
+// Prints whether the three numbers are a date.
 pub(crate) fn date(rest: &[u8]) -> bool {
     let year = spelling::find(rest, 0, b' ');
     let tail = spelling::after(rest, year);
@@ -60,6 +62,7 @@ pub(crate) fn date(rest: &[u8]) -> bool {
     true
 }
 
+// Prints how many records and store bytes a text needs.
 pub(crate) fn measure(rest: &[u8]) -> bool {
     let mut text = io::buffer();
     let n = spelling::decode(rest, false, &mut text);
@@ -75,6 +78,7 @@ fn read_into(text: &[u8], tape: &mut [u8], store: &mut [u8]) {
     kept_from(store, s.bytes);
 }
 
+// Prints the same of a text that is read into a tape and a store of the lengths before it.
 pub(crate) fn read(rest: &[u8]) -> bool {
     let first = spelling::find(rest, 0, b' ');
     let tail = spelling::after(rest, first);
@@ -137,6 +141,7 @@ pub(crate) fn goes_round(text: &[u8]) -> bool {
     comes_back(&tape[..used], &store[..bytes])
 }
 
+// The answer of the JSON call or of the JAXN call.
 fn write(json: bool, tape: &[u8], store: &[u8], out: &mut [u8]) -> Text {
     if json {
         return lanternrung_write_json(tape, store, out);
@@ -156,6 +161,7 @@ fn written(json: bool, tape: &[u8], store: &[u8], out: &mut [u8]) {
     kept_from(out, w.length);
 }
 
+// Prints what is written of a text that is read, and a fault where it does not go round.
 fn rewritten(json: bool, rest: &[u8]) -> bool {
     let mut text = io::buffer();
     let n = spelling::decode(rest, false, &mut text);
@@ -176,14 +182,17 @@ fn rewritten(json: bool, rest: &[u8]) -> bool {
     true
 }
 
+// Prints the canonical text of what is read, or the refusal.
 pub(crate) fn jaxn(rest: &[u8]) -> bool {
     rewritten(false, rest)
 }
 
+// Prints the JSON text of what is read, or the refusal.
 pub(crate) fn json(rest: &[u8]) -> bool {
     rewritten(true, rest)
 }
 
+// Prints the record at an index of a spelled tape, beside a spelled store.
 pub(crate) fn look(rest: &[u8]) -> bool {
     let first = spelling::find(rest, 0, b' ');
     let tail = spelling::after(rest, first);
@@ -196,6 +205,7 @@ pub(crate) fn look(rest: &[u8]) -> bool {
     true
 }
 
+// Prints what is written of a spelled tape and store, into an output of the length before them.
 fn write_case(json: bool, rest: &[u8]) -> bool {
     let first = spelling::find(rest, 0, b' ');
     let tail = spelling::after(rest, first);
@@ -210,10 +220,12 @@ fn write_case(json: bool, rest: &[u8]) -> bool {
     true
 }
 
+// A spelled tape and store, as canonical text.
 pub(crate) fn write_jaxn(rest: &[u8]) -> bool {
     write_case(false, rest)
 }
 
+// A spelled tape and store, as JSON text.
 pub(crate) fn write_json(rest: &[u8]) -> bool {
     write_case(true, rest)
 }

@@ -15,6 +15,7 @@ fn put(out: &mut [u8; 4096], at: usize, s: &[u8]) -> usize {
     at
 }
 
+// One of sixteen values, by the last hex digit of the number, and the place after it.
 fn piece(out: &mut [u8; 4096], at: usize, kind: u64) -> usize {
     match kind % 16 {
         0 => put(out, at, b"null"),
@@ -50,6 +51,7 @@ fn values(out: &mut [u8; 4096], seed: u64) -> usize {
     at
 }
 
+// What stands before `end` goes round.
 fn goes_round(out: &[u8; 4096], end: usize) -> bool {
     let all: &[u8] = out;
     let size = spelling::within(end as u64, all);
@@ -65,6 +67,7 @@ fn generated(seed: u64) -> bool {
     goes_round(&out, end)
 }
 
+// The next seed, by three shifts.
 fn mixed(seed: u64) -> u64 {
     let a = seed ^ (seed << 13);
     let b = a ^ (a >> 7);
@@ -85,6 +88,7 @@ fn come_back(count: u64) -> u64 {
     i
 }
 
+// Prints how many of so many generated records come back.
 pub(crate) fn sweep(rest: &[u8]) -> bool {
     showing::count(come_back(spelling::number(rest)), b" read again");
     true

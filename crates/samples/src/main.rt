@@ -32,6 +32,7 @@ fn on_rules(name: &[u8], rest: &[u8]) -> bool {
     false
 }
 
+// The same for the calls that are given a text.
 fn on_text(name: &[u8], rest: &[u8]) -> bool {
     if check::same(name, b"measure") {
         return calls::measure(rest);
@@ -51,6 +52,7 @@ fn on_text(name: &[u8], rest: &[u8]) -> bool {
     false
 }
 
+// The same for the calls that are given a tape, and for the generated records.
 fn on_tape(name: &[u8], rest: &[u8]) -> bool {
     if check::same(name, b"look") {
         return calls::look(rest);
@@ -67,6 +69,7 @@ fn on_tape(name: &[u8], rest: &[u8]) -> bool {
     false
 }
 
+// The call of this name, if any; an empty line and a heading call nothing, and are no fault.
 fn call(name: &[u8], rest: &[u8]) -> bool {
     if name.len() == 0 || check::same(name, b"#") {
         return true;
@@ -74,6 +77,7 @@ fn call(name: &[u8], rest: &[u8]) -> bool {
     on_rules(name, rest) || on_text(name, rest) || on_tape(name, rest)
 }
 
+// Prints a case with its outcome, and a fault where there is no such call.
 fn line(s: &[u8]) {
     io::write_all(STDOUT_FILENO, s);
     let end = spelling::find(s, 0, b' ');
@@ -96,6 +100,7 @@ fn each(cases: &[u8]) {
     }
 }
 
+// All the cases are read before the first is tried.
 fn main() {
     let mut cases = io::large_buffer();
     let n = io::read_full(STDIN_FILENO, &mut cases);

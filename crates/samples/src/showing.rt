@@ -4,10 +4,12 @@ use lanternrung::exports::Sizes;
 use lanternrung::exports::Status;
 use libc::STDOUT_FILENO;
 
+// Prints the bytes as they are.
 fn word(s: &[u8]) {
     io::write_all(STDOUT_FILENO, s);
 }
 
+// Prints a number in decimal digits.
 fn decimal(n: u64) {
     io::print_decimal(STDOUT_FILENO, n);
 }
@@ -17,6 +19,7 @@ pub(crate) fn arrow() {
     word(b" -> ");
 }
 
+// An answer in words, after its arrow.
 pub(crate) fn say(s: &[u8]) {
     arrow();
     word(s);
@@ -28,6 +31,7 @@ pub(crate) fn fault(s: &[u8]) {
     word(s);
 }
 
+// A refusal, by its number and its place.
 pub(crate) fn refused(number: u32, place: u64) {
     say(b"refused ");
     decimal(number as u64);
@@ -35,6 +39,7 @@ pub(crate) fn refused(number: u32, place: u64) {
     decimal(place);
 }
 
+// The refusal, or `done`.
 pub(crate) fn status(s: Status) {
     if s.refused > 0 {
         refused(s.refused, s.place);
@@ -43,6 +48,7 @@ pub(crate) fn status(s: Status) {
     }
 }
 
+// The refusal, or how many records and bytes.
 pub(crate) fn sizes(s: Sizes) {
     if s.refused > 0 {
         refused(s.refused, s.place);
@@ -55,12 +61,14 @@ pub(crate) fn sizes(s: Sizes) {
     }
 }
 
+// A number and what it counts, after an arrow.
 pub(crate) fn count(n: u64, of: &[u8]) {
     arrow();
     decimal(n);
     word(of);
 }
 
+// The number without its sign, never by negating: the least one has no opposite in 32 bits.
 fn magnitude(x: i32) -> u64 {
     if x < 0 {
         return (-1 - x) as u64 + 1;
@@ -84,6 +92,7 @@ fn field(name: &[u8], n: u64) {
     }
 }
 
+// The same with its sign.
 fn signed_field(name: &[u8], x: i32) {
     if x != 0 {
         word(name);
@@ -91,6 +100,7 @@ fn signed_field(name: &[u8], x: i32) {
     }
 }
 
+// The fields of numbers, and of strings, keys and binary.
 fn number_fields(f: Fields) {
     signed_field(b" power ", f.power);
     field(b" coefficient ", f.coefficient);
@@ -98,6 +108,7 @@ fn number_fields(f: Fields) {
     field(b" start ", f.start);
 }
 
+// The fields of the time types.
 fn time_fields(f: Fields) {
     field(b" year ", f.year as u64);
     field(b" month ", f.month as u64);
@@ -106,6 +117,7 @@ fn time_fields(f: Fields) {
     field(b" time ", f.time);
 }
 
+// The refusal, or the record's kind and those of its fields that are not 0.
 pub(crate) fn fields(f: Fields) {
     if f.refused > 0 {
         refused(f.refused, f.place);
@@ -131,6 +143,7 @@ fn spell(b: u8, dots: bool) {
     }
 }
 
+// All the bytes, as a case spells them.
 fn spelled(s: &[u8], dots: bool) {
     let mut i: usize = 0;
     while i < s.len() {

@@ -48,10 +48,12 @@ fn digit(b: u8) -> u8
     }
 }
 
+// A byte stands for itself; in a tape a dot stands for a zero byte.
 fn plain(b: u8, dots: bool) -> u8 {
     if dots && b == b'.' { 0 } else { b }
 }
 
+// The byte spelled at this place; a percent sign with less than two bytes after it stands for itself.
 fn take(s: &[u8], at: usize, dots: bool) -> Spelled
     requires { ⌜ at < length (now s) ⌝ }
     ensures { λ u. ⌜ (at < u .next) × (u .next ≤ length (now (s .entry))) ⌝ }
@@ -89,6 +91,7 @@ pub(crate) fn decode(s: &[u8], dots: bool, out: &mut [u8]) -> usize
     n
 }
 
+// A byte as a number of 64 bits.
 fn wide(b: u8) -> u64
     ensures { λ r. ⌜ r ≡ b ⌝ }
 {

@@ -38,6 +38,7 @@ pub fn good_finite(coefficient: u64, power: i32) -> bool
     power <= GREATEST_POWER
 }
 
+// Only a finite number has a rule.
 pub fn good_number(n: Number) -> bool
     ensures { λ b. ⌜ Decides (GoodNumber n) b ⌝ }
 {
@@ -52,6 +53,7 @@ pub fn good_number(n: Number) -> bool
     }
 }
 
+// Whether the calendar has this date.
 fn good_date(d: Date) -> bool
     ensures { λ b. ⌜ Decides (GoodDate d) b ⌝ }
 {
@@ -61,12 +63,14 @@ fn good_date(d: Date) -> bool
     }
 }
 
+// A time of day is less than a whole day.
 fn good_clock(clock: u64) -> bool
     ensures { λ b. ⌜ Decides (clock < day) b ⌝ }
 {
     clock < DAY
 }
 
+// An offset lies within its limit on either side of 0.
 fn good_offset(offset: i16) -> bool
     ensures { λ b. ⌜ Decides (natAbs offset ≤ offsetLimit) b ⌝ }
 {
@@ -76,6 +80,7 @@ fn good_offset(offset: i16) -> bool
     offset <= OFFSET_LIMIT
 }
 
+// Each part that the time type has is good.
 pub fn good_time(t: Time) -> bool
     ensures { λ b. ⌜ Decides (GoodTime t) b ⌝ }
 {

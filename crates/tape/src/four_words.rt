@@ -40,6 +40,7 @@ pub const AR: u64 = b'a' as u64 + b'r' as u64 * 256;
 
 pub const OB: u64 = b'o' as u64 + b'b' as u64 * 256;
 
+// Mark `nb` with sign, power and coefficient; or `nx` with 0 for NaN, 1 for Infinity and 2 for -Infinity.
 fn number_words(n: Number) -> Words
     ensures { λ w. ⌜ Written (Record.Number n) w ⌝ }
 {
@@ -81,6 +82,7 @@ fn month_day(d: Date, offset: u16) -> u64
     month + day * 256 + bits * 65536
 }
 
+// The four numbers of a time value; the parts that its type has not are 0.
 fn time_words(t: Time) -> Words
     ensures { λ w. ⌜ Written (Record.Time t) w ⌝ }
 {
@@ -176,6 +178,7 @@ pub fn put_words(bytes: &mut [u8], w: Words)
     little_endian::store8(bytes, 8, w.high);
 }
 
+// 0 is NaN and 2 is -Infinity; any other number is taken for Infinity, and not tested here.
 fn not_finite(mid: u64) -> Number
     ensures { λ n. ⌜ n ≡ notFinite mid ⌝ }
 {
@@ -188,6 +191,7 @@ fn not_finite(mid: u64) -> Number
     Number::Infinite { minus: false }
 }
 
+// The year is in bytes 2-3, the month in byte 4, the day in byte 5.
 fn date_of(low: u64, mid: u64) -> Date
     requires { ⌜ low < 2 ^ 16 ⌝ }
     ensures { λ d. ⌜ d ≡ dateOf low mid ⌝ }

@@ -90,6 +90,7 @@ pub fn open(next: u8, end: usize, inner: u8, depth: usize) -> Turn
     Turn::No
 }
 
+// What a record does in this state and depth, where the store bytes so far end at the place `at`.
 pub fn turn(r: Record, at: usize, depth: usize, state: u8) -> Turn
     requires { ⌜ bytesEnd r < 2 ^ 64 ⌝ }
     ensures { λ t. ⌜ t ≡ turnOf r at depth state ⌝ }

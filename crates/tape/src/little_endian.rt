@@ -16,6 +16,7 @@ pub fn store2(bytes: &mut [u8], at: usize, v: u64)
     bytes[at + 1] = (v / 256 % 256) as u8;
 }
 
+// Four bytes, as twice two.
 pub fn store4(bytes: &mut [u8], at: usize, v: u64)
     requires { ⌜ at + 4 ≤ length (now bytes) ⌝ }
     ensures { λ _. ⌜ now (bytes .exit) ≡ sets (now (bytes .entry)) at (le 4 v) ⌝ }
@@ -24,6 +25,7 @@ pub fn store4(bytes: &mut [u8], at: usize, v: u64)
     store2(bytes, at + 2, v / 65536);
 }
 
+// Eight bytes, as twice four.
 pub fn store8(bytes: &mut [u8], at: usize, v: u64)
     requires { ⌜ at + 8 ≤ length (now bytes) ⌝ }
     ensures { λ _. ⌜ now (bytes .exit) ≡ sets (now (bytes .entry)) at (le 8 v) ⌝ }
@@ -32,6 +34,7 @@ pub fn store8(bytes: &mut [u8], at: usize, v: u64)
     store4(bytes, at + 4, v / 4294967296);
 }
 
+// A byte as a number of 64 bits.
 fn wide(b: u8) -> u64
     ensures { λ r. ⌜ r ≡ b ⌝ }
 {
@@ -46,6 +49,7 @@ pub fn load2(bytes: &[u8], at: usize) -> u64
     wide(bytes[at]) + wide(bytes[at + 1]) * 256
 }
 
+// Four bytes, as twice two.
 pub fn load4(bytes: &[u8], at: usize) -> u64
     requires { ⌜ at + 4 ≤ length (now bytes) ⌝ }
     ensures { λ r. ⌜ (r ≡ get 4 (now (bytes .entry)) at) × (r < 2 ^ 32) ⌝ }
@@ -53,6 +57,7 @@ pub fn load4(bytes: &[u8], at: usize) -> u64
     load2(bytes, at) + load2(bytes, at + 2) * 65536
 }
 
+// Eight bytes, as twice four.
 pub fn load8(bytes: &[u8], at: usize) -> u64
     requires { ⌜ at + 8 ≤ length (now bytes) ⌝ }
     ensures { λ r. ⌜ r ≡ get 8 (now (bytes .entry)) at ⌝ }
@@ -67,6 +72,7 @@ pub fn bits16(x: i16) -> u16
     if x < 0 { !((-1 - x) as u16) } else { x as u16 }
 }
 
+// The same at 32 bits.
 pub fn bits32(x: i32) -> u32
     ensures { λ r. ⌜ r ≡ ofZ w32 x ⌝ }
 {
@@ -84,6 +90,7 @@ pub fn signed16(n: u16) -> i16
     }
 }
 
+// The same at 32 bits.
 pub fn signed32(n: u32) -> i32
     ensures { λ r. ⌜ r ≡ toZ w32 n ⌝ }
 {

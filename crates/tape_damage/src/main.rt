@@ -11,6 +11,7 @@ use tape::Looked;
 
 // ---- the decoder
 
+// A byte as a number of 64 bits.
 fn wide(x: u8) -> u64
     ensures { λ r. ⌜ r < 256 ⌝ }
 {
@@ -27,6 +28,7 @@ fn byte(t: &[u8], at: usize) -> u64
     0
 }
 
+// The number in two bytes from the place `at`, the lowest first; 0 far past the end.
 fn two(t: &[u8], at: usize) -> u64
     ensures { λ r. ⌜ r < 2 ^ 16 ⌝ }
 {
@@ -36,6 +38,7 @@ fn two(t: &[u8], at: usize) -> u64
     0
 }
 
+// The same in four bytes.
 fn four(t: &[u8], at: usize) -> u64
     ensures { λ r. ⌜ r < 2 ^ 32 ⌝ }
 {
@@ -45,6 +48,7 @@ fn four(t: &[u8], at: usize) -> u64
     0
 }
 
+// The same in eight bytes.
 fn eight(t: &[u8], at: usize) -> u64 {
     if at < 1000000 {
         return four(t, at) + four(t, at + 4) * 4294967296;
@@ -52,6 +56,7 @@ fn eight(t: &[u8], at: usize) -> u64 {
     0
 }
 
+// Whether February has 29 days in this year.
 fn leap(year: u64) -> bool {
     if year % 400 == 0 {
         return true;
@@ -62,6 +67,7 @@ fn leap(year: u64) -> bool {
     year % 4 == 0
 }
 
+// How many days the month has in this year.
 fn month_days(year: u64, month: u64) -> u64 {
     if month == 2 {
         if leap(year) {
@@ -75,6 +81,7 @@ fn month_days(year: u64, month: u64) -> u64 {
     31
 }
 
+// Whether year, month and day of the record at the place p are a date.
 fn date(t: &[u8], p: usize) -> bool {
     if p > 1000 {
         return false;
@@ -88,6 +95,7 @@ fn date(t: &[u8], p: usize) -> bool {
     day <= month_days(year, month)
 }
 
+// Whether the time of day, in bytes 8-15, is less than a whole day.
 fn clock(t: &[u8], p: usize) -> bool {
     if p > 1000 {
         return false;
@@ -95,6 +103,7 @@ fn clock(t: &[u8], p: usize) -> bool {
     eight(t, p + 8) < 86400000000000
 }
 
+// Whether sign, power and coefficient are those of a finite number.
 fn finite(t: &[u8], p: usize) -> bool {
     if p > 1000 {
         return false;
@@ -113,6 +122,7 @@ fn finite(t: &[u8], p: usize) -> bool {
     power <= 9999 || power >= 4294957297
 }
 
+// Whether byte 4 is at most so much, and all others after the mark are 0.
 fn small(t: &[u8], p: usize, most: u64) -> bool {
     if p > 1000 {
         return false;
@@ -123,6 +133,7 @@ fn small(t: &[u8], p: usize, most: u64) -> bool {
     false
 }
 
+// Whether the bytes lie inside a store of this length.
 fn bytes(t: &[u8], p: usize, room: u64) -> bool {
     if p > 1000 {
         return false;
@@ -137,6 +148,7 @@ fn bytes(t: &[u8], p: usize, room: u64) -> bool {
     false
 }
 
+// Whether the end is past the record's own index and not above the number of whole records.
 fn container(t: &[u8], p: usize, index: u64, whole: u64) -> bool {
     if p > 1000 {
         return false;
@@ -148,6 +160,7 @@ fn container(t: &[u8], p: usize, index: u64, whole: u64) -> bool {
     false
 }
 
+// Whether the offset, in bytes 6-7, lies from -1,439 to 1,439.
 fn offset(t: &[u8], p: usize) -> bool {
     if p > 1000 {
         return false;
@@ -156,6 +169,7 @@ fn offset(t: &[u8], p: usize) -> bool {
     bits <= 1439 || bits >= 64097
 }
 
+// Whether it is a local date or a local time, by the second letter of its mark.
 fn timed(t: &[u8], p: usize, b: u64) -> bool {
     if p > 1000 {
         return false;
@@ -226,6 +240,7 @@ fn decoder(t: &[u8], index: usize, room: u64) -> bool {
 
 // ---- the sample
 
+// Records 0 to 3: the object, `run` with 31, and the key `eta`.
 fn fill_first(t: &mut [u8]) {
     tape::put_record(t, 0, Record::Object { end: 11 });
     tape::put_record(
@@ -255,6 +270,7 @@ fn fill_first(t: &mut [u8]) {
     );
 }
 
+// Records 4 to 7: NaN, `at` with its time, and the key `t`.
 fn fill_middle(t: &mut [u8]) {
     tape::put_record(t, 4, Record::Number(Number::NotANumber));
     tape::put_record(
@@ -288,6 +304,7 @@ fn fill_middle(t: &mut [u8]) {
     );
 }
 
+// Records 8 to 10: the array of 0.5 and -1250.5.
 fn fill_last(t: &mut [u8]) {
     tape::put_record(t, 8, Record::Array { end: 11 });
     tape::put_record(
@@ -334,6 +351,7 @@ fn taken(t: &[u8], s: &[u8], index: usize) -> u8 {
     }
 }
 
+// Whether `judge` finds the tape well formed.
 fn is_well(t: &[u8], s: &[u8]) -> bool {
     match tape::judge(t, s) {
         Judged::Well => true,
@@ -348,12 +366,14 @@ struct Tally {
     good: u64,
 }
 
+// 1 if set.
 fn count(b: bool) -> u64
     ensures { λ r. ⌜ r ≤ 1 ⌝ }
 {
     if b { 1 } else { 0 }
 }
 
+// One damaged tape: a fault where `look` and the decoder differ, or the bytes do not come back.
 fn tried(t: &[u8], s: &[u8], index: usize) -> Tally
     ensures { λ r. ⌜ (r .faults ≤ 1) × (r .well ≤ 1) × (r .good ≤ 1) ⌝ }
 {
@@ -417,6 +437,7 @@ fn say(n: u64, after: u8) {
     io::write_all(1, &text);
 }
 
+// Sweeps each byte of the sample, and prints the four sums.
 fn main() {
     let mut t: [u8; 176] = [0; 176];
     let s: [u8; 9] = [b'r', b'u', b'n', b'e', b't', b'a', b'a', b't', b't'];

@@ -7,6 +7,7 @@ ghost use Rattle.meaning.specs.Canonical.{decimal, fixed};
 ghost use Rattle.writer.specs.Between.Laid.{Put, PutAt};
 ghost use Rattle.writer.specs.Between.Pieces.{Power, Reaches};
 
+// Puts the byte, and gives the place after it.
 pub fn byte_at(out: &mut [u8], at: usize, b: u8) -> usize
     requires { ⌜ at < length (now out) ⌝ }
     ensures { λ r. ⌜ PutAt (b ∷ []) at (now (out .entry)) (now (out .exit)) r ⌝ }
@@ -128,6 +129,7 @@ pub fn decimal_len(n: u64) -> usize
     t + reaches(n, power(t))
 }
 
+// All the decimal digits of n, with no zeros in front.
 pub fn decimal_at(out: &mut [u8], at: usize, n: u64) -> usize
     requires { ⌜ at + length (decimal n) ≤ length (now out) ⌝ }
     ensures { λ r. ⌜ PutAt (decimal n) at (now (out .entry)) (now (out .exit)) r ⌝ }

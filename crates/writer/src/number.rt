@@ -9,6 +9,7 @@ use crate::Signed;
 use crate::byte_or_digit;
 use meaning::Number;
 
+// The sign and the number without it, never by negating: the least one has no opposite in 32 bits.
 pub fn sign_and_size(x: i32) -> Signed
     ensures { λ r. ⌜ SignAndSize x r ⌝ }
 {
@@ -35,6 +36,7 @@ pub fn minus_at(out: &mut [u8], at: usize, minus: bool) -> usize
     at
 }
 
+// The length of the same.
 fn minus_len(minus: bool) -> usize
     ensures { λ r. ⌜ (r ≡ length (minusText minus)) × (r ≤ 1) ⌝ }
 {
@@ -56,6 +58,7 @@ fn power_at(out: &mut [u8], at: usize, power: i32) -> usize
     byte_or_digit::decimal_at(out, first, size)
 }
 
+// The length of the same.
 fn power_len(power: i32) -> usize
     ensures { λ r. ⌜ (r ≡ length (powerText power)) × (r ≤ 22) ⌝ }
 {
@@ -90,6 +93,7 @@ pub fn write_number(out: &mut [u8], n: Number) -> usize
     }
 }
 
+// The length of a number's text.
 pub fn number_len(n: Number) -> usize
     ensures { λ r. ⌜ (r ≡ length (numberText n)) × (r < 64) ⌝ }
 {

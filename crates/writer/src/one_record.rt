@@ -18,6 +18,7 @@ use crate::time_value;
 use meaning::Number;
 use meaning::Record;
 
+// A comma is due after all but a key; a container gives its end and the bracket that closes it.
 pub fn effect_of(r: Record) -> Effect
     ensures { λ t. ⌜ t ≡ effectOf r ⌝ }
 {
@@ -49,6 +50,7 @@ pub fn effect_of(r: Record) -> Effect
     }
 }
 
+// A comma if set.
 pub fn comma_at(out: &mut [u8], at: usize, comma: bool) -> usize
     requires { ⌜ at + length (commaText comma) ≤ length (now out) ⌝ }
     ensures { λ r. ⌜ PutAt (commaText comma) at (now (out .entry)) (now (out .exit)) r ⌝ }
@@ -59,6 +61,7 @@ pub fn comma_at(out: &mut [u8], at: usize, comma: bool) -> usize
     at
 }
 
+// `true` or `false`.
 fn bool_at(out: &mut [u8], at: usize, b: bool) -> usize
     requires { ⌜ at + length (printed (Record.Bool b) []) ≤ length (now out) ⌝ }
     ensures { λ r. ⌜ PutAt (printed (Record.Bool b) []) at (now (out .entry)) (now (out .exit)) r ⌝ }
@@ -98,6 +101,7 @@ fn closes(end: usize, index: usize) -> usize
     if end == index + 1 { 2 } else { 1 }
 }
 
+// The length of a string or key in quotes, from its part of the store.
 fn part_len(store: &[u8], start: usize, length: usize) -> usize
     requires { ⌜ (start + length ≤ lib.ListN.length (now store)) × (lib.ListN.length (now store) ≤ storeLimit) ⌝ }
     ensures { λ r. ⌜ r ≡ lib.ListN.length (quoted (part (now (store .entry)) length start)) ⌝ }
@@ -106,6 +110,7 @@ fn part_len(store: &[u8], start: usize, length: usize) -> usize
     string_or_binary::string_len(&store[start..end])
 }
 
+// The length of the record's text, with the comma, colon or brackets that go with it.
 pub fn share_of(r: Record, index: usize, store: &[u8]) -> usize
     requires { ⌜ (bytesEnd r ≤ length (now store)) × (length (now store) ≤ storeLimit) × (index < recordLimit) ⌝ }
     ensures { λ n. ⌜ n ≡ share r index (now (store .entry)) ⌝ }

@@ -18,6 +18,7 @@ fn above(b: u8) -> u8
     if b < b' ' { 0 } else { b - 31 }
 }
 
+// The lesser of two bytes.
 fn lesser(a: u8, b: u8) -> u8
     ensures { λ r. ⌜ (r ≤ a) × (r ≤ b) ⌝ }
 {

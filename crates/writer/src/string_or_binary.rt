@@ -13,6 +13,7 @@ use crate::plain_run;
 // A shorter string goes byte by byte: looking for runs would cost more.
 const SHORT: usize = 16;
 
+// The digit as a byte of the text, in lower case.
 fn hex_digit(d: u8) -> u8
     requires { ⌜ d < 16 ⌝ }
     ensures { λ r. ⌜ r ≡ hexDigit d ⌝ }
@@ -20,6 +21,7 @@ fn hex_digit(d: u8) -> u8
     if d < 10 { b'0' + d } else { b'a' + (d - 10) }
 }
 
+// A byte as two hex digits, the high one first.
 fn pair_at(out: &mut [u8], at: usize, b: u8) -> usize
     requires { ⌜ at + 2 ≤ length (now out) ⌝ }
     ensures { λ r. ⌜ PutAt (hexPair b) at (now (out .entry)) (now (out .exit)) r ⌝ }
@@ -59,6 +61,7 @@ fn letter_of(b: u8) -> u8
     0
 }
 
+// A byte of a string: a short escape, `\u00` with a hex pair, or itself.
 fn escaped_at(out: &mut [u8], at: usize, b: u8) -> usize
     requires { ⌜ at + length (escaped b) ≤ length (now out) ⌝ }
     ensures { λ r. ⌜ PutAt (escaped b) at (now (out .entry)) (now (out .exit)) r ⌝ }
@@ -75,6 +78,7 @@ fn escaped_at(out: &mut [u8], at: usize, b: u8) -> usize
     byte_or_digit::byte_at(out, at, b)
 }
 
+// The length of the same.
 fn escaped_len(b: u8) -> usize
     ensures { λ r. ⌜ r ≡ length (escaped b) ⌝ }
 {
@@ -121,6 +125,7 @@ fn runs_at(out: &mut [u8], at: usize, s: &[u8]) -> usize
     end
 }
 
+// The bytes of a string without its quotes, a short one byte by byte.
 fn escapes_at(out: &mut [u8], at: usize, s: &[u8]) -> usize
     requires { ⌜ at + length (escapes (now s)) ≤ length (now out) ⌝ }
     ensures { λ r. ⌜ PutAt (escapes (now (s .entry))) at (now (out .entry)) (now (out .exit)) r ⌝ }
@@ -141,6 +146,7 @@ pub fn write_string(out: &mut [u8], s: &[u8]) -> usize
     byte_or_digit::byte_at(out, last, b'"')
 }
 
+// The length with both quotes, byte by byte.
 fn short_len(s: &[u8]) -> usize
     requires { ⌜ length (now s) ≤ storeLimit ⌝ }
     ensures { λ r. ⌜ r ≡ length (quoted (now (s .entry))) ⌝ }
@@ -154,6 +160,7 @@ fn short_len(s: &[u8]) -> usize
     total
 }
 
+// The same, run by run.
 fn runs_len(s: &[u8]) -> usize
     requires { ⌜ length (now s) ≤ storeLimit ⌝ }
     ensures { λ r. ⌜ r ≡ length (quoted (now (s .entry))) ⌝ }
@@ -173,6 +180,7 @@ fn runs_len(s: &[u8]) -> usize
     total
 }
 
+// The length of a string's text with both quotes.
 pub fn string_len(s: &[u8]) -> usize
     requires { ⌜ length (now s) ≤ storeLimit ⌝ }
     ensures { λ r. ⌜ r ≡ length (quoted (now (s .entry))) ⌝ }
@@ -192,6 +200,7 @@ pub fn string_at(out: &mut [u8], at: usize, store: &[u8], start: usize, length: 
     at + write_string(&mut out[at..], &store[start..end])
 }
 
+// Each byte as a hex pair, with nothing between them.
 fn pairs_at(out: &mut [u8], at: usize, s: &[u8]) -> usize
     requires { ⌜ at + length (hexPairs (now s)) ≤ length (now out) ⌝ }
     ensures { λ r. ⌜ PutAt (hexPairs (now (s .entry))) at (now (out .entry)) (now (out .exit)) r ⌝ }
@@ -214,6 +223,7 @@ pub fn write_binary(out: &mut [u8], s: &[u8]) -> usize
     pairs_at(out, first, s)
 }
 
+// The output from `at` on is lent, and the part of the store that is the binary.
 pub fn binary_at(out: &mut [u8], at: usize, store: &[u8], start: usize, length: usize) -> usize
     requires { ⌜ (start + length ≤ lib.ListN.length (now store)) × (at + lib.ListN.length (binaryText (take length (drop start (now store)))) ≤ lib.ListN.length (now out)) ⌝ }
     ensures { λ r. ⌜ PutAt (binaryText (take length (drop start (now (store .entry))))) at (now (out .entry)) (now (out .exit)) r ⌝ }

@@ -18,6 +18,7 @@ const MINUTE: u64 = 60 * SECOND;
 
 const HOUR: u64 = 60 * MINUTE;
 
+// Year, month and day in four, two and two digits, with `-` between.
 fn date_at(out: &mut [u8], at: usize, d: Date) -> usize
     requires { ⌜ at + length (dateText d) ≤ length (now out) ⌝ }
     ensures { λ r. ⌜ PutAt (dateText d) at (now (out .entry)) (now (out .exit)) r ⌝ }
@@ -64,6 +65,7 @@ fn fraction_at(out: &mut [u8], at: usize, n: u64) -> usize
     byte_or_digit::digits_at(out, first, t.count, t.digits)
 }
 
+// The length of the same, with its point.
 fn fraction_len(n: u64) -> usize
     ensures { λ r. ⌜ (r ≡ length (fractionText n)) × (r ≤ 10) ⌝ }
 {
@@ -87,12 +89,14 @@ fn clock_at(out: &mut [u8], at: usize, t: u64) -> usize
     fraction_at(out, e, t % SECOND)
 }
 
+// The length of the same: eight bytes and the fraction.
 fn clock_len(t: u64) -> usize
     ensures { λ r. ⌜ (r ≡ length (clockText t)) × (r ≤ 18) ⌝ }
 {
     8 + fraction_len(t % SECOND)
 }
 
+// A number of minutes as hh:mm.
 fn minutes_at(out: &mut [u8], at: usize, n: u64) -> usize
     requires { ⌜ at + length (minutesText n) ≤ length (now out) ⌝ }
     ensures { λ r. ⌜ PutAt (minutesText n) at (now (out .entry)) (now (out .exit)) r ⌝ }
@@ -120,6 +124,7 @@ fn offset_at(out: &mut [u8], at: usize, offset: i16) -> usize
     minutes_at(out, first, size)
 }
 
+// The length of the same.
 fn offset_len(offset: i16) -> usize
     ensures { λ r. ⌜ (r ≡ length (offsetText offset)) × (r ≤ 6) ⌝ }
 {
@@ -152,6 +157,7 @@ pub fn write_time(out: &mut [u8], t: Time) -> usize
     }
 }
 
+// The length of a time value's text.
 pub fn time_len(t: Time) -> usize
     ensures { λ r. ⌜ r ≡ length (timeText t) ⌝ }
 {

@@ -74,6 +74,7 @@ pub fn write_records(out: &mut [u8], tape: &[u8], store: &[u8]) -> usize
     }
 }
 
+// The index of the first record that has no JSON form, if there is one.
 pub fn first_formless(tape: &[u8], store: &[u8]) -> Formless
     ensures { λ r. ⌜ FirstFormless (now (tape .entry)) (now (store .entry)) r ⌝ }
 {
