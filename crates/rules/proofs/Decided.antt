@@ -10,7 +10,7 @@ use lib.Dec.{eqb, leb, ltb}
 use lib.ListN.{length, getD}
 use borrow.Author.Tests.{eqb-true, eqb-false, leb-true, leb-false, ltb-true, ltb-false, le-leb, lt-ltb, le-ltb}
 use Rattle.rules.specs.Rfc3629.{Octets, Judged, done}
-use Rattle.rules.specs.Between.Posts.{Passed, CharAt, lowOf, highOf}
+use Rattle.rules.specs.Between.Posts.{Passed, CharAt, Tails, Tailed, tailed, broken, lowOf, highOf}
 use Rattle.rules.specs.Between.Decided.{ones, conj, bounds, isWide, lengthAt, faultFrom, judged}
 use Rattle.rules.specs.declared.Utf8Answer.{Utf8Answer}
 use Rattle.rules.specs.declared.Utf8Answer.the-variants.{Done, IllFormed}
@@ -111,6 +111,12 @@ by-count s i n w = go (ℕ-discrete n 2) (ℕ-discrete n 3)
     go (yes e) q = rw e (back2 s i (subst (Wide s i) e w))
     go (no f) (yes e) = rw e (back3 s i (subst (Wide s i) e w))
     go (no f) (no g) = let e : n ≡ 4 = omega arith in rw e (back4 s i (subst (Wide s i) e w))
+
+-- where all but the tails is known
+pub by-tails : (s : List ℕ) (i n r : ℕ) → (n ≡ 0 → ⊥) → n ≡ ones (getD s i 0) → (Tails s i n → Wide s i n) → Tailed s i n r → CharAt s i r
+by-tails s i n r z e f (tailed t) = by-count s i n (f t)
+by-tails s i n r z e f (broken g) =
+    no-char s i (λ q. z (e ∙ q)) (λ m w. let v = subst (Wide s i) (w .count ∙ sym e) w in g (record { third = v .third; fourth = v .fourth }))
 
 pub length-is : (s : List ℕ) (i : ℕ) → i < length s → CharAt s i (lengthAt s i)
 unfolding lengthAt

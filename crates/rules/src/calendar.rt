@@ -4,6 +4,7 @@ ghost use Rattle.rules.specs.Rfc3339.{Lasts};
 
 const DAYS: [u64; 13] = [0, 31, 28, 31, 30, 31, 30, 31, 31, 30, 31, 30, 31];
 
+// Whether a year is a leap year: a multiple of 4, and of 400 where it is one of 100.
 fn is_leap(year: u64) -> bool
     ensures { λ r. ⌜ IsLeap year r ⌝ }
 {

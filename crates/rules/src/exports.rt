@@ -10,6 +10,7 @@ pub struct Status {
     pub place: u64,
 }
 
+// `crate::utf8`; the place is that of the first fault.
 #[no_mangle]
 pub extern "C" fn lr_rules_utf8(s: &[u8]) -> Status
     ensures { λ r. ⌜ Utf8Told (now (s .entry)) (r .refused) (r .place) ⌝ }
@@ -26,6 +27,7 @@ pub extern "C" fn lr_rules_utf8(s: &[u8]) -> Status
     }
 }
 
+// `crate::date`; a refusal has the place 0.
 #[no_mangle]
 pub extern "C" fn lr_rules_date(year: u64, month: u64, day: u64) -> Status
     ensures { λ r. ⌜ DateTold year month day (r .refused) (r .place) ⌝ }

@@ -2,7 +2,7 @@
 ghost use mathlib.Core.Path.{_≡_};
 ghost use Prim.Native.Nat.{_+_, _≤_, _<_};
 ghost use lib.ListN.{length};
-ghost use Rattle.rules.specs.Between.Posts.{AtMost, Ascii, CharAt, lowOf, highOf};
+ghost use Rattle.rules.specs.Between.Posts.{AtMost, Ascii, CharAt, Tailed, lowOf, highOf};
 
 // The greatest of the 32 bytes at `at`. There is no early exit, so that it is compiled to vector instructions.
 pub(crate) fn greatest(s: &[u8], at: usize) -> u8
@@ -73,6 +73,34 @@ fn high(a: u8) -> u8
     }
 }
 
+// n where each of the n bytes at `at` from the third on is a tail, 80 to BF, else 0; n is 2 to 4.
+fn tails(s: &[u8], at: usize, n: usize) -> usize
+    requires { ⌜ (2 ≤ n) × (n ≤ 4) × (at + n ≤ length (now s)) ⌝ }
+    ensures { λ r. ⌜ Tailed (now (s .entry)) at n r ⌝ }
+{
+    if n == 2 {
+        return n;
+    }
+    let c = s[at + 2];
+    if c < 0x80 {
+        return 0;
+    }
+    if c > 0xBF {
+        return 0;
+    }
+    if n == 3 {
+        return n;
+    }
+    let d = s[at + 3];
+    if d < 0x80 {
+        return 0;
+    }
+    if d > 0xBF {
+        return 0;
+    }
+    n
+}
+
 // The length of the character at `at`, or 0 where none stands there. The count of leading one bits in the first byte
 // gives the length: 0 means one byte, 2 to 4 that many.
 pub(crate) fn char_at(s: &[u8], at: usize) -> usize
@@ -106,25 +134,5 @@ pub(crate) fn char_at(s: &[u8], at: usize) -> usize
     if b > high(a) {
         return 0;
     }
-    if n == 2 {
-        return 2;
-    }
-    let c = s[at + 2];
-    if c < 0x80 {
-        return 0;
-    }
-    if c > 0xBF {
-        return 0;
-    }
-    if n == 3 {
-        return 3;
-    }
-    let d = s[at + 3];
-    if d < 0x80 {
-        return 0;
-    }
-    if d > 0xBF {
-        return 0;
-    }
-    4
+    tails(s, at, n)
 }

@@ -27,6 +27,16 @@ pub data CharAt (s : List ℕ) (i : ℕ) : ℕ → Type 0 where
   char : {n : ℕ} → 0 < n → i + n ≤ length s → Char (take n (drop i s)) → CharAt s i n
   gap : NoChar (drop i s) → CharAt s i 0
 
+-- of the n bytes at the place i, at most four, each from the third on is a tail
+pub record Tails (s : List ℕ) (i n : ℕ) : Type 0 where
+  pub third : 3 ≤ n → (0x80 ≤ getD s (i + 2) 0) × (getD s (i + 2) 0 ≤ 0xBF)
+  pub fourth : 4 ≤ n → (0x80 ≤ getD s (i + 3) 0) × (getD s (i + 3) 0 ≤ 0xBF)
+
+-- a test of that: n, or 0
+pub data Tailed (s : List ℕ) (i n : ℕ) : ℕ → Type 0 where
+  tailed : Tails s i n → Tailed s i n n
+  broken : (Tails s i n → ⊥) → Tailed s i n 0
+
 -- the least and the greatest second byte after the first byte a, of three or four
 unfoldable pub lowOf : ℕ → ℕ
 lowOf a = cond (eqb a 0xE0) 0xA0 (cond (eqb a 0xF0) 0x90 0x80)

@@ -2,13 +2,15 @@ use borrow.Author.Needs.{needs}
 use native.Mathlib.Omega.{arith}
 use lib.Count.{leading-le}
 use mir.Facts.{fits-le, fits-lit}
-use Rattle.rules.proofs.Places.{step1, down⁻, no-char, ascii-char, back2, back3, back4}
+use Rattle.rules.proofs.Places.{step1, down⁻, no-char, ascii-char}
+use Rattle.rules.proofs.Decided.{by-tails}
 use Rattle.rules.proofs.octets.char_at.Statement.{statement}
 use Rattle.rules.proofs.octets.char_at.Tie as tie
 use Rattle.rules.proofs.octets.char_at.Reads as reads
 use Rattle.rules.proofs.octets.char_at.Lts as lts
 use Rattle.rules.proofs.octets.high.Reads as high-reads
 use Rattle.rules.proofs.octets.low.Reads as low-reads
+use Rattle.rules.proofs.octets.tails.Reads as tails-reads
 
 shared-slice-read-a : tie.Need-shared-slice-read-a
 shared-slice-read-a c = search needs
@@ -55,38 +57,25 @@ high-requires c κs = search needs
 returns-8 : tie.Need-returns-8
 returns-8 c = no-char _ _ (λ z. omega arith) (λ n w. omega arith)
 
+tails-requires : tie.Need-tails-requires
+tails-requires c κs = search needs
+
 returns-9 : tie.Need-returns-9
-returns-9 c = back2 _ _ (omega arith)
-
-add-c : tie.Need-add-c
-add-c c = search needs
-
-shared-slice-read-c : tie.Need-shared-slice-read-c
-shared-slice-read-c c = search needs
-
-returns-10 : tie.Need-returns-10
-returns-10 c = no-char _ _ (λ z. omega arith) (λ n w. omega (arith, w .third (omega arith)))
-
-returns-11 : tie.Need-returns-11
-returns-11 c = no-char _ _ (λ z. omega arith) (λ n w. omega (arith, w .third (omega arith)))
-
-returns-12 : tie.Need-returns-12
-returns-12 c = back3 _ _ (omega arith)
-
-add-d : tie.Need-add-d
-add-d c = search needs
-
-shared-slice-read-d : tie.Need-shared-slice-read-d
-shared-slice-read-d c = search needs
-
-returns-13 : tie.Need-returns-13
-returns-13 c = no-char _ _ (λ z. omega arith) (λ n w. omega (arith, w .fourth (omega arith)))
-
-returns-14 : tie.Need-returns-14
-returns-14 c = no-char _ _ (λ z. omega arith) (λ n w. omega (arith, w .fourth (omega arith)))
-
-returns-15 : tie.Need-returns-15
-returns-15 c = back4 _ _ (omega arith)
+returns-9 c =
+    by-tails _ _ _ _ (λ z. omega arith) (omega arith)
+    (λ t. record {
+      two = omega arith;
+      four = omega arith;
+      fits = omega arith;
+      count = omega arith;
+      from = omega arith;
+      to = omega arith;
+      low = omega arith;
+      high = omega arith;
+      third = t .third;
+      fourth = t .fourth;
+    })
+    (c .tails .ensures)
 
 pub char-at-spec : {M : Type 1} → statement M
 char-at-spec =
@@ -107,14 +96,5 @@ char-at-spec =
     returns-7
     high-requires
     returns-8
-    returns-9
-    add-c
-    shared-slice-read-c
-    returns-10
-    returns-11
-    returns-12
-    add-d
-    shared-slice-read-d
-    returns-13
-    returns-14
-    returns-15)
+    tails-requires
+    returns-9)
