@@ -15,7 +15,7 @@ use Rattle.machine.specs.Scan.{Out, takes, stops, breaks, over, Ran, ended, bro
 use Rattle.machine.specs.Strings.{hexOf, noDigit, shortOf, noShort}
 use Rattle.machine.specs.Binaries.{St, start, dollar, text, esc, hex, hexLow, low, pairs, dot, done, begin, onDigit, onShort, onText, scan}
 use Rattle.items.specs.Between.Places.{digitAt, Runs}
-use Rattle.items.specs.Between.BinaryPart.{PairSays, Escaped, OctetSays, Closing, StateSays, PairsSays, TextSays, PieceSays}
+use Rattle.items.specs.Between.BinaryPart.{PairSays, Escaped, EscapeSays, OneByte, OneByteSays, Closing, StateSays, PairsSays, TextSays, PieceSays}
 use Rattle.items.specs.declared.binary_part.Pair.{Pair}
 use Rattle.items.specs.declared.binary_part.Octet.{Octet}
 use Rattle.items.specs.declared.binary_part.Piece.{Piece}
@@ -90,16 +90,16 @@ module _ (s : List ℕ) (p : ℕ) where
 -- ---- an escape of the quoted form, after its backslash
 
 module _ (s : List ℕ) (p : ℕ) where
-  pub escape-over : length s ≤ p → OctetSays s p (Octet.NotGrammar p)
+  pub escape-over : length s ≤ p → EscapeSays s p (Octet.NotGrammar p)
   unfolding scan onShort shortOf
   escape-over h = λ c a. end-break scan s p (esc c a) (NotGrammar p) h refl
 
   module _ (h : p < length s) where
-    pub escape-wrong : (getD s p 0 ≡ ch "x" → ⊥) → noShort ≤ shortOf (getD s p 0) → OctetSays s p (Octet.NotGrammar p)
+    pub escape-wrong : (getD s p 0 ≡ ch "x" → ⊥) → noShort ≤ shortOf (getD s p 0) → EscapeSays s p (Octet.NotGrammar p)
     unfolding scan onShort
     escape-wrong n g = λ c a. run-break scan s p (esc c a) (NotGrammar p) h (rw (ne-eqb _ _ n, le-ltb _ _ g))
 
-    pub escape-short : (getD s p 0 ≡ ch "x" → ⊥) → shortOf (getD s p 0) < noShort → OctetSays s p (Octet.Byte (p + 1) (shortOf (getD s p 0)))
+    pub escape-short : (getD s p 0 ≡ ch "x" → ⊥) → shortOf (getD s p 0) < noShort → EscapeSays s p (Octet.Byte (shortOf (getD s p 0)) (p + 1))
     unfolding scan onShort
     escape-short n g = record {
       runs = λ c a. run-take scan s p (esc c a) (text c (a ++ (shortOf (getD s p 0) ∷ []))) h (rw (ne-eqb _ _ n, lt-ltb _ _ g));
@@ -112,7 +112,7 @@ module _ (s : List ℕ) (p : ℕ) where
       unfolding scan
       after-x c a = run-take scan s p (esc c a) (hex c a) h (rw e)
 
-      pub escape-high : noDigit ≤ digitAt s (p + 1) → OctetSays s p (Octet.NotGrammar (p + 1))
+      pub escape-high : noDigit ≤ digitAt s (p + 1) → EscapeSays s p (Octet.NotGrammar (p + 1))
       unfolding scan
       escape-high g = λ c a. after-x c a ∙ digit-breaks s (p + 1) (hex c a) (hexLow c a) (λ b. refl) g
 
@@ -122,11 +122,11 @@ module _ (s : List ℕ) (p : ℕ) where
         after-high c a = after-x c a ∙ digit-goes s (p + 1) (hex c a) (hexLow c a) (breaks (NotGrammar (p + 1))) refl g
             ∙ (let n : p + 1 + 1 ≡ p + 2 = omega arith in ap (λ (j : ℕ). ran scan j (hexLow c a (digitAt s (p + 1))) (drop j s)) n)
 
-        pub escape-low : noDigit ≤ digitAt s (p + 2) → OctetSays s p (Octet.NotGrammar (p + 2))
+        pub escape-low : noDigit ≤ digitAt s (p + 2) → EscapeSays s p (Octet.NotGrammar (p + 2))
         unfolding scan
         escape-low l = λ c a. after-high c a ∙ digit-breaks s (p + 2) (hexLow c a (digitAt s (p + 1))) (λ x. text c (a ++ ((16 * digitAt s (p + 1) + x) ∷ []))) (λ b. refl) l
 
-        pub escape-hex : digitAt s (p + 2) < noDigit → OctetSays s p (Octet.Byte (p + 3) (16 * digitAt s (p + 1) + digitAt s (p + 2)))
+        pub escape-hex : digitAt s (p + 2) < noDigit → EscapeSays s p (Octet.Byte (16 * digitAt s (p + 1) + digitAt s (p + 2)) (p + 3))
         unfolding scan
         escape-hex l = record {
           runs = λ c a. after-high c a ∙ digit-goes s (p + 2) (hexLow c a (digitAt s (p + 1))) (λ x. text c (a ++ ((16 * digitAt s (p + 1) + x) ∷ []))) (breaks (NotGrammar (p + 2))) refl l
@@ -207,7 +207,7 @@ module _ (s : List ℕ) (q i : ℕ) (u : List ℕ) where
     pub text-escaped : (j v : ℕ) → getD s i 0 ≡ ch "\\" → Escaped s (i + 1) j v → Runs scan s (text q u) i (text q (u ++ (v ∷ []))) j
     text-escaped j v e w = text-escape e ∙ w .runs q u
 
-    pub text-unescaped : (r : ℕ) → getD s i 0 ≡ ch "\\" → OctetSays s (i + 1) (Octet.NotGrammar r) → ran scan i (text q u) (drop i s) ≡ broke (NotGrammar r)
+    pub text-unescaped : (r : ℕ) → getD s i 0 ≡ ch "\\" → EscapeSays s (i + 1) (Octet.NotGrammar r) → ran scan i (text q u) (drop i s) ≡ broke (NotGrammar r)
     text-unescaped r e w = text-escape e ∙ w q u
 
     module _ (n : getD s i 0 ≡ ch "\\" → ⊥) where
@@ -231,6 +231,22 @@ module _ (s : List ℕ) (q i : ℕ) (u : List ℕ) where
         pub text-plain : 0x20 ≤ getD s i 0 → getD s i 0 ≤ 0x7E → Runs scan s (text q u) i (text q (u ++ (getD s i 0 ∷ []))) (i + 1)
         unfolding scan onText
         text-plain k l = run-take scan s i (text q u) (text q (u ++ (getD s i 0 ∷ []))) h (rw (ne-eqb _ _ n, ne-eqb _ _ m, le-ltb _ _ k, le-leb _ _ l))
+
+-- one byte of it, where no quote closes it
+module _ (s : List ℕ) (i : ℕ) (h : i < length s) where
+  pub one-escaped : getD s i 0 ≡ ch "\\" → (r : Octet) → EscapeSays s (i + 1) r → OneByteSays s i r
+  one-escaped e (Octet.Byte v j) w = record { runs = λ c a m. text-escaped s c i a h j v e w; past = omega (arith, w .past); within = w .within }
+  one-escaped e (Octet.NotGrammar j) w = λ c a m. text-unescaped s c i a h j e w
+
+  module _ (n : getD s i 0 ≡ ch "\\" → ⊥) where
+    pub one-low : getD s i 0 < 0x20 → OneByteSays s i (Octet.NotGrammar i)
+    one-low l = λ c a m. text-low s c i a h n m l
+
+    pub one-high : 0x7E < getD s i 0 → OneByteSays s i (Octet.NotGrammar i)
+    one-high l = λ c a m. text-high s c i a h n m l
+
+    pub one-plain : 0x20 ≤ getD s i 0 → getD s i 0 ≤ 0x7E → OneByteSays s i (Octet.Byte (getD s i 0) (i + 1))
+    one-plain k l = record { runs = λ c a m. text-plain s c i a h n m k l; past = omega arith; within = omega arith }
 
 -- ---- hex pairs
 
@@ -281,7 +297,7 @@ module _ (s : List ℕ) (p first : ℕ) (entry : List ℕ) where
       unfolding scan
       opened = run-take scan s p begin dollar h (rw e)
 
-      empty : ran scan (p + 1) dollar (drop (p + 1) s) ≡ ended [] (p + 1) → PieceSays s p first entry entry (Piece.Closed (p + 1) 0)
+      empty : ran scan (p + 1) dollar (drop (p + 1) s) ≡ ended [] (p + 1) → PieceSays s p first entry entry (Piece.Closed 0 (p + 1))
       empty r = record {
         u = [];
         runs = opened ∙ r;
@@ -289,13 +305,13 @@ module _ (s : List ℕ) (p first : ℕ) (entry : List ℕ) where
         within = omega arith;
       }
 
-      pub part-end : length s ≤ p + 1 → PieceSays s p first entry entry (Piece.Closed (p + 1) 0)
+      pub part-end : length s ≤ p + 1 → PieceSays s p first entry entry (Piece.Closed 0 (p + 1))
       unfolding scan onDigit hexOf
       part-end g = empty (end-stop scan s (p + 1) dollar [] g refl)
 
       -- what a reader of the rest says, from the state c at i on
       pub part-rest : (c : St) (from i : ℕ) → p < from → Runs scan s dollar (p + 1) c i → (exit : List ℕ) (r : Piece) → StateSays s c from i first entry exit r → PieceSays s p first entry exit r
-      part-rest c from i l t exit (Piece.Closed q n) w = record {
+      part-rest c from i l t exit (Piece.Closed n q) w = record {
         u = w .u;
         runs = opened ∙ t ∙ w .runs;
         meant = record { counted = w .meant .counted; filled = w .meant .filled; room = omega (arith, w .meant .room); past = omega (arith, w .meant .past) };
@@ -317,6 +333,6 @@ module _ (s : List ℕ) (p first : ℕ) (entry : List ℕ) where
           unfolding scan
           part-pairs d = digit-goes s (p + 1) dollar (low []) (stops []) (rw (ne-eqb _ _ n, ne-eqb _ _ m)) d
 
-          pub part-bare : noDigit ≤ digitAt s (p + 1) → PieceSays s p first entry entry (Piece.Closed (p + 1) 0)
+          pub part-bare : noDigit ≤ digitAt s (p + 1) → PieceSays s p first entry entry (Piece.Closed 0 (p + 1))
           unfolding scan
           part-bare d = empty (run-stop scan s (p + 1) dollar [] g (rw (ne-eqb _ _ n, ne-eqb _ _ m) (digit-not s (p + 1) dollar (low []) (stops []) g d)))

@@ -155,7 +155,7 @@ module _ (s : List ℕ) (q at : ℕ) (entry : List ℕ) (g : 0x20 < q) (i : ℕ)
   pub three-cut : (p : ℕ) → Breaks s q i p → ThreeSays s q at entry entry (Part.NotGrammar p)
   three-cut p t = (λ base. f .goes base q g ∙ t .ends base, t .within)
 
-  pub three-last : (e : ℕ) → Closes s q i e → (exit : List ℕ) → exit ≡ sets entry at (take (e - i) (drop i s)) → ThreeSays s q at entry exit (Closed (e + 3) (e - i))
+  pub three-last : (e : ℕ) → Closes s q i e → (exit : List ℕ) → exit ≡ sets entry at (take (e - i) (drop i s)) → ThreeSays s q at entry exit (Closed (e - i) (e + 3))
   three-last e t exit w = record {
     value = take (e - i) (drop i s);
     runs = λ base. f .goes base q g ∙ t .ends base;

@@ -174,7 +174,7 @@ module _ {s : List ℕ} {q at : ℕ} {entry store : List ℕ} {i out bad : ℕ} 
           by base zero z = absurd (z refl)
           by base (suc b) z = refl
 
-      pub round-close : bad ≡ 0 → InnerSays s q at entry store (Closed (i + 1) (out - at))
+      pub round-close : bad ≡ 0 → InnerSays s q at entry store (Closed (out - at) (i + 1))
       unfolding scan
       round-close z = record {
         value = t .acc;
@@ -189,7 +189,7 @@ module _ {s : List ℕ} {q at : ℕ} {entry store : List ℕ} {i out bad : ℕ} 
 
 -- what is said of one run is said of an equal one
 pub says-as : (n at : ℕ) (entry exit : List ℕ) (R Q : ℕ → Ran (List ℕ)) → ((base : ℕ) → R base ≡ Q base) → (r : Part) → Says Q n at entry exit r → Says R n at entry exit r
-says-as n at entry exit R Q e (Closed taken bytes) t = record { value = t .value; runs = λ base. e base ∙ t .runs base; counted = t .counted; stored = t .stored; within = t .within; fewer = t .fewer }
+says-as n at entry exit R Q e (Closed bytes taken) t = record { value = t .value; runs = λ base. e base ∙ t .runs base; counted = t .counted; stored = t .stored; within = t .within; fewer = t .fewer }
 says-as n at entry exit R Q e (Part.BadEscape p) t = (λ base. e base ∙ t .0 base, t .1)
 says-as n at entry exit R Q e (Part.NotGrammar p) t = (λ base. e base ∙ t .0 base, t .1)
 
@@ -229,7 +229,7 @@ module _ (s : List ℕ) (at : ℕ) (entry : List ℕ) where
         unfolding scan
         to-two base = go scan base s (one q) (two q) 1 2 (omega arith) refl (simp (eq-eqb _ _ e1))
 
-        empty : ((base : ℕ) → scan (base + 2) (two q) (byteAt s 2) ≡ stops []) → OneSays s q at entry entry (Closed 2 0)
+        empty : ((base : ℕ) → scan (base + 2) (two q) (byteAt s 2) ≡ stops []) → OneSays s q at entry entry (Closed 0 2)
         empty f = record {
           value = [];
           runs = λ base. to-two base ∙ stops-by scan base s (two q) [] 2 (f base);
@@ -239,12 +239,12 @@ module _ (s : List ℕ) (at : ℕ) (entry : List ℕ) where
           fewer = omega arith;
         }
 
-        pub two-end : length s < 3 → OneSays s q at entry entry (Closed 2 0)
+        pub two-end : length s < 3 → OneSays s q at entry entry (Closed 0 2)
         unfolding scan
         two-end h = let n : over ≡ q → ⊥ = λ e. omega arith in empty (λ base. rw (byte-out s 2 (omega arith)) (simp (ne-eqb over q n)))
 
         module _ (h2 : 3 ≤ length s) where
-          pub two-other : (getD s 2 0 ≡ q → ⊥) → OneSays s q at entry entry (Closed 2 0)
+          pub two-other : (getD s 2 0 ≡ q → ⊥) → OneSays s q at entry entry (Closed 0 2)
           unfolding scan
           two-other n = empty (λ base. rw (byte-in s 2 (omega arith)) (simp (ne-eqb _ _ n)))
 

@@ -2,15 +2,16 @@
 ghost use mathlib.Core.Path.{_≡_};
 ghost use Prim.Native.Nat.{_+_, _≤_, _<_};
 ghost use lib.ListN.{length, getD};
+ghost use Rattle.meaning.specs.Letters.{ch};
 ghost use Rattle.machine.specs.Strings.{noDigit};
 ghost use Rattle.items.specs.Between.Places.{digitAt};
-ghost use Rattle.items.specs.Between.BinaryPart.{PairSays, OctetSays, PairsSays, TextSays, PieceSays};
+ghost use Rattle.items.specs.Between.BinaryPart.{PairSays, EscapeSays, OneByteSays, PairsSays, TextSays, PieceSays};
 use crate::hex_digit;
 use crate::store;
 
-// What a part comes to: the place after it and how many bytes it means, or the byte that no rule allows.
+// What a part comes to: how many bytes it means and the place after it, or the byte that no rule allows.
 pub enum Piece {
-    Closed { end: usize, bytes: usize },
+    Closed { bytes: usize, end: usize },
     NotGrammar(usize),
 }
 
@@ -21,9 +22,9 @@ pub enum Pair {
     NotGrammar(usize),
 }
 
-// The byte of an escape and the place after it, or the byte that no rule allows.
+// A byte of the quoted form and the place after it, or the byte that no rule allows.
 pub enum Octet {
-    Byte { next: usize, value: u8 },
+    Byte { value: u8, next: usize },
     NotGrammar(usize),
 }
 
@@ -68,8 +69,8 @@ fn pairs(text: &[u8], from: usize, store: &mut [u8], start: usize) -> Piece
             }
             Pair::End(p) => {
                 return Piece::Closed {
-                    end: p,
                     bytes: out - start,
+                    end: p,
                 };
             }
             Pair::Digit(p) => {
@@ -82,7 +83,7 @@ fn pairs(text: &[u8], from: usize, store: &mut [u8], start: usize) -> Piece
 // An escape of the quoted form, after its backslash.
 fn escaped(text: &[u8], at: usize) -> Octet
     requires { ⌜ at ≤ length (now text) ⌝ }
-    ensures { λ r. ⌜ OctetSays (now (text .entry)) at r ⌝ }
+    ensures { λ r. ⌜ EscapeSays (now (text .entry)) at r ⌝ }
 {
     if at >= text.len() {
         return Octet::NotGrammar(at);
@@ -98,56 +99,62 @@ fn escaped(text: &[u8], at: usize) -> Octet
             return Octet::NotGrammar(at + 2);
         }
         return Octet::Byte {
-            next: at + 3,
             value: 16 * h + l,
+            next: at + 3,
         };
     }
     let c = hex_digit::short(b);
     if c < 256 {
         return Octet::Byte {
-            next: at + 1,
             value: c as u8,
+            next: at + 1,
         };
     }
     Octet::NotGrammar(at)
 }
 
+// One byte of the quoted form, plain or an escape, where no quote closes it.
+fn one_byte(text: &[u8], at: usize) -> Octet
+    requires { ⌜ at < length (now text) ⌝ }
+    ensures { λ r. ⌜ OneByteSays (now (text .entry)) at r ⌝ }
+{
+    let b = text[at];
+    if b == b'\\' {
+        return escaped(text, at + 1);
+    }
+    if b < 0x20 {
+        return Octet::NotGrammar(at);
+    }
+    if b > 0x7E {
+        return Octet::NotGrammar(at);
+    }
+    Octet::Byte {
+        value: b,
+        next: at + 1,
+    }
+}
+
 // The quoted form, after its opening quote q.
 fn quoted(text: &[u8], from: usize, q: u8, store: &mut [u8], start: usize) -> Piece
-    requires { ⌜ (from ≤ length (now text)) × (start ≤ from) ⌝ }
+    requires { ⌜ (from ≤ length (now text)) × (start ≤ from) × (q ≡ ch "\\" → ⊥) ⌝ }
     ensures { λ r. ⌜ TextSays (now (text .entry)) q from start (now (store .entry)) (now (store .exit)) r ⌝ }
 {
     let mut i = from;
     let mut out = start;
     while i < text.len() {
-        let b = text[i];
-        if b == b'\\' {
-            match escaped(text, i + 1) {
-                Octet::NotGrammar(p) => {
-                    return Piece::NotGrammar(p);
-                }
-                Octet::Byte { next, value: v } => {
-                    store::put_byte(store, out, v);
-                    out = out + 1;
-                    i = next;
-                }
+        if text[i] == q {
+            return Piece::Closed {
+                bytes: out - start,
+                end: i + 1,
+            };
+        }
+        match one_byte(text, i) {
+            Octet::NotGrammar(p) => return Piece::NotGrammar(p),
+            Octet::Byte { value, next } => {
+                store::put_byte(store, out, value);
+                out = out + 1;
+                i = next;
             }
-        } else {
-            if b == q {
-                return Piece::Closed {
-                    end: i + 1,
-                    bytes: out - start,
-                };
-            }
-            if b < 0x20 {
-                return Piece::NotGrammar(i);
-            }
-            if b > 0x7E {
-                return Piece::NotGrammar(i);
-            }
-            store::put_byte(store, out, b);
-            out = out + 1;
-            i = i + 1;
         }
     }
     Piece::NotGrammar(i)
@@ -166,7 +173,7 @@ pub fn read_part(text: &[u8], at: usize, store: &mut [u8], start: usize) -> Piec
     }
     let i = at + 1;
     if i >= text.len() {
-        return Piece::Closed { end: i, bytes: 0 };
+        return Piece::Closed { bytes: 0, end: i };
     }
     let b = text[i];
     if b == b'"' {
@@ -178,5 +185,5 @@ pub fn read_part(text: &[u8], at: usize, store: &mut [u8], start: usize) -> Piec
     if hex_digit::hex(b) < 16 {
         return pairs(text, i, store, start);
     }
-    Piece::Closed { end: i, bytes: 0 }
+    Piece::Closed { bytes: 0, end: i }
 }

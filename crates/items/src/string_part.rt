@@ -8,25 +8,25 @@ ghost use Rattle.meaning.specs.Letters.{ch};
 ghost use Rattle.machine.specs.Strings.{lineByte};
 ghost use Rattle.items.specs.Between.StringPart.{EscapeSays, Halved, Grown, CharSays, gap, BlockSays, Passed, Earlier, InnerSays, OneSays, ThreeSays, PartSays, Begun, LinesSays};
 
-// What a part comes to: the bytes taken and the store bytes put; the backslash of the first bad escape; a byte that no
+// What a part comes to: the store bytes put and the bytes taken; the backslash of the first bad escape; a byte that no
 // rule allows.
 pub enum Part {
-    Closed { taken: usize, bytes: usize },
+    Closed { bytes: usize, taken: usize },
     BadEscape(usize),
     NotGrammar(usize),
 }
 
 // What one escape is: half of a pair or a unit of its own; a character; a bad one; or no escape.
 pub enum Escape {
-    Half { next: usize, unit: u32 },
-    Code { next: usize, character: u32 },
+    Half { unit: u32, next: usize },
+    Code { character: u32, next: usize },
     BadEscape(usize),
     NotGrammar(usize),
 }
 
 // What the escapes at a backslash come to: a character, a bad one, or a byte that no rule allows.
 pub enum Char {
-    Whole { next: usize, character: u32 },
+    Whole { character: u32, next: usize },
     BadEscape(usize),
     NotGrammar(usize),
 }
@@ -59,8 +59,8 @@ fn four(s: &[u8], at: usize) -> Escape
         return Escape::NotGrammar(at + 5);
     }
     Escape::Half {
-        next: at + 6,
         unit: 16 * (16 * (16 * a + b) + c) + d,
+        next: at + 6,
     }
 }
 
@@ -93,8 +93,8 @@ fn braces(s: &[u8], at: usize) -> Escape
         if s[p] == b'}' {
             if v < 0xD800 {
                 return Escape::Code {
-                    next: p + 1,
                     character: v,
+                    next: p + 1,
                 };
             }
             if v < 0xE000 {
@@ -102,8 +102,8 @@ fn braces(s: &[u8], at: usize) -> Escape
             }
             if v < 0x110000 {
                 return Escape::Code {
-                    next: p + 1,
                     character: v,
+                    next: p + 1,
                 };
             }
             return Escape::BadEscape(p + 1);
@@ -131,8 +131,8 @@ fn escape_at(s: &[u8], at: usize) -> Escape
         let c = hex_digit::short(b);
         if c < 256 {
             return Escape::Code {
-                next: p + 1,
                 character: c as u32,
+                next: p + 1,
             };
         }
         return Escape::NotGrammar(p);
@@ -160,14 +160,14 @@ fn second_half(s: &[u8], next: usize, w: u32) -> Char
     }
     match escape_at(s, next) {
         Escape::Code {
-            next: _,
             character: _,
+            next: _,
         } => Char::BadEscape(next),
         Escape::BadEscape(_) => Char::BadEscape(next),
         Escape::NotGrammar(p) => Char::NotGrammar(p),
         Escape::Half {
-            next: after,
             unit: l,
+            next: after,
         } => {
             if l < 0xDC00 {
                 return Char::BadEscape(next);
@@ -176,8 +176,8 @@ fn second_half(s: &[u8], next: usize, w: u32) -> Char
                 return Char::BadEscape(next);
             }
             Char::Whole {
-                next: after,
                 character: 0x10000 + (w - 0xD800) * 1024 + (l - 0xDC00),
+                next: after,
             }
         }
     }
@@ -189,14 +189,14 @@ fn unit(s: &[u8], next: usize, w: u32) -> Char
 {
     if w < 0xD800 {
         return Char::Whole {
-            next: next,
             character: w,
+            next: next,
         };
     }
     if 0xE000 <= w {
         return Char::Whole {
-            next: next,
             character: w,
+            next: next,
         };
     }
     if 0xDC00 <= w {
@@ -211,13 +211,13 @@ fn character(s: &[u8], at: usize) -> Char
     ensures { λ r. ⌜ CharSays (now (s .entry)) at r ⌝ }
 {
     match escape_at(s, at) {
-        Escape::Code { next, character: c } => Char::Whole {
-            next: next,
+        Escape::Code { character: c, next } => Char::Whole {
             character: c,
+            next: next,
         },
         Escape::BadEscape(next) => Char::BadEscape(next),
         Escape::NotGrammar(p) => Char::NotGrammar(p),
-        Escape::Half { next, unit: w } => unit(s, next, w),
+        Escape::Half { unit: w, next } => unit(s, next, w),
     }
 }
 
@@ -322,7 +322,7 @@ fn inner(s: &[u8], q: u8, store: &mut [u8], at: usize) -> Part
     loop {
         let e = plain_end(s, i, q);
         store::copy(s, i, e, store, out);
-        let o = out + (e - i);
+        out += e - i;
         if s.len() <= e {
             return Part::NotGrammar(e);
         }
@@ -335,19 +335,18 @@ fn inner(s: &[u8], q: u8, store: &mut [u8], at: usize) -> Part
                 return Part::BadEscape(bad);
             }
             return Part::Closed {
+                bytes: out - at,
                 taken: e + 1,
-                bytes: o - at,
             };
         }
         match character(s, e) {
             Char::NotGrammar(p) => return Part::NotGrammar(p),
             Char::BadEscape(next) => {
                 bad = earlier(bad, e);
-                out = o;
                 i = next;
             }
-            Char::Whole { next, character: c } => {
-                out = store::encode(c, store, o);
+            Char::Whole { character: c, next } => {
+                out = store::encode(c, store, out);
                 i = next;
             }
         }
@@ -432,8 +431,8 @@ fn multiline(s: &[u8], q: u8, store: &mut [u8], at: usize) -> Part
         Lines::Last(e) => {
             store::copy(s, from, e, store, at);
             Part::Closed {
-                taken: e + 3,
                 bytes: e - from,
+                taken: e + 3,
             }
         }
     }
@@ -451,10 +450,10 @@ fn quoted(s: &[u8], q: u8, store: &mut [u8], at: usize) -> Part
         return inner(s, q, store, at);
     }
     if s.len() < 3 {
-        return Part::Closed { taken: 2, bytes: 0 };
+        return Part::Closed { bytes: 0, taken: 2 };
     }
     if s[2] != q {
-        return Part::Closed { taken: 2, bytes: 0 };
+        return Part::Closed { bytes: 0, taken: 2 };
     }
     multiline(s, q, store, at)
 }

@@ -25,9 +25,20 @@ pub record Escaped (s : List ℕ) (p q v : ℕ) : Type 0 where
   pub past : p < q
   pub within : q ≤ length s
 
-abbrev pub OctetSays : List ℕ → ℕ → Octet → Type 0
-OctetSays s p (Octet.Byte q v) = Escaped s p q v
-OctetSays s p (Octet.NotGrammar q) = (c : ℕ) (a : List ℕ) → ran scan p (esc c a) (drop p s) ≡ broke (NotGrammar q)
+abbrev pub EscapeSays : List ℕ → ℕ → Octet → Type 0
+EscapeSays s p (Octet.Byte v q) = Escaped s p q v
+EscapeSays s p (Octet.NotGrammar q) = (c : ℕ) (a : List ℕ) → ran scan p (esc c a) (drop p s) ≡ broke (NotGrammar q)
+
+-- a byte of the quoted form where the quote c does not close it
+pub record OneByte (s : List ℕ) (p q v : ℕ) : Type 0 where
+  pub runs : (c : ℕ) (a : List ℕ) → (getD s p 0 ≡ c → ⊥) → Runs scan s (text c a) p (text c (a ++ (v ∷ []))) q
+  pub past : p < q
+  pub within : q ≤ length s
+
+abbrev pub OneByteSays : List ℕ → ℕ → Octet → Type 0
+OneByteSays s p (Octet.Byte v q) = OneByte s p q v
+OneByteSays s p (Octet.NotGrammar q) =
+    (c : ℕ) (a : List ℕ) → (getD s p 0 ≡ c → ⊥) → ran scan p (text c a) (drop p s) ≡ broke (NotGrammar q)
 
 -- from the state c at p the part closes, or breaks
 pub record Closing (s : List ℕ) (c : St) (from p start : ℕ) (entry exit : List ℕ) (q n : ℕ) : Type 0 where
@@ -37,7 +48,7 @@ pub record Closing (s : List ℕ) (c : St) (from p start : ℕ) (entry exit : Li
   pub within : q ≤ length s
 
 abbrev pub StateSays : List ℕ → St → ℕ → ℕ → ℕ → List ℕ → List ℕ → Piece → Type 0
-StateSays s c from p start entry exit (Piece.Closed q n) = Closing s c from p start entry exit q n
+StateSays s c from p start entry exit (Piece.Closed n q) = Closing s c from p start entry exit q n
 StateSays s c from p start entry exit (Piece.NotGrammar q) = ran scan p c (drop p s) ≡ broke (NotGrammar q)
 
 -- after the first digit of the first pair
@@ -50,5 +61,5 @@ TextSays s c p start entry exit r = StateSays s (text c []) p p start entry exit
 
 -- a whole part
 abbrev pub PieceSays : List ℕ → ℕ → ℕ → List ℕ → List ℕ → Piece → Type 0
-PieceSays s p start entry exit (Piece.Closed q n) = Ended scan begin s p start entry exit q n
+PieceSays s p start entry exit (Piece.Closed n q) = Ended scan begin s p start entry exit q n
 PieceSays s p start entry exit (Piece.NotGrammar q) = ran scan p begin (drop p s) ≡ broke (NotGrammar q)

@@ -85,8 +85,8 @@ pub record Broken (s : List ℕ) (at p : ℕ) : Type 0 where
   pub within : p ≤ length s
 
 abbrev pub EscapeSays : List ℕ → ℕ → Escape → Type 0
-EscapeSays s at (Half next w) = Halved s at next w
-EscapeSays s at (Code next c) = Coded s at next c
+EscapeSays s at (Half w next) = Halved s at next w
+EscapeSays s at (Code c next) = Coded s at next c
 EscapeSays s at (Escape.BadEscape next) = Spoilt s at next
 EscapeSays s at (Escape.NotGrammar p) = Broken s at p
 
@@ -118,7 +118,7 @@ pub record Stopped (s : List ℕ) (at p : ℕ) : Type 0 where
   pub within : p ≤ length s
 
 abbrev pub CharSays : List ℕ → ℕ → Char → Type 0
-CharSays s at (Whole next c) = Read s at next c
+CharSays s at (Whole c next) = Read s at next c
 CharSays s at (Char.BadEscape next) = Blamed s at next
 CharSays s at (Char.NotGrammar p) = Stopped s at p
 
@@ -154,7 +154,7 @@ pub record Held (R : ℕ → Ran (List ℕ)) (n at : ℕ) (entry exit : List ℕ
   pub fewer : bytes + 2 ≤ taken
 
 abbrev pub Says : (ℕ → Ran (List ℕ)) → ℕ → ℕ → List ℕ → List ℕ → Part → Type 0
-Says R n at entry exit (Closed taken bytes) = Held R n at entry exit taken bytes
+Says R n at entry exit (Closed bytes taken) = Held R n at entry exit taken bytes
 Says R n at entry exit (Part.BadEscape p) = ((base : ℕ) → R base ≡ broke (BadEscape (base + p))) × (p ≤ n)
 Says R n at entry exit (Part.NotGrammar p) = ((base : ℕ) → R base ≡ broke (NotGrammar (base + p))) × (p ≤ n)
 

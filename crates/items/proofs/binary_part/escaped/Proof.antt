@@ -53,11 +53,11 @@ returns-4 c = rw (c .before .before .before .digit .ensures, c .before .digit2 .
 short-requires : tie.Need-short-requires
 short-requires c κs = search needs
 
-add-t17 : tie.Need-add-t17
-add-t17 c = search needs
+add-t18 : tie.Need-add-t18
+add-t18 c = search needs
 
-cast-t18 : tie.Need-cast-t18
-cast-t18 c = search needs
+cast-t17 : tie.Need-cast-t17
+cast-t17 c = search needs
 
 returns-5 : tie.Need-returns-5
 returns-5 c = rw (c .before .short .ensures) (escape-short (c .before .before .before .before .before .before .args .text .now) (c .before .before .before .before .before .before .args .at) (c .before .before .before .before .if1 .left) (c .before .before .if2 .left) (rw (c .before .short .ensures) at (c .if5 .taken)))
@@ -79,12 +79,12 @@ escaped-spec =
     digit-requires-2
     add-t14
     returns-3
-    add-t11
     mul-t15
     add-t16
+    add-t11
     returns-4
     short-requires
-    add-t17
-    cast-t18
+    cast-t17
+    add-t18
     returns-5
     returns-6)

@@ -21,11 +21,11 @@ shared-slice-read-b c = search needs
 short-requires : tie.Need-short-requires
 short-requires c κs = search needs
 
-add-t12 : tie.Need-add-t12
-add-t12 c = search needs
+add-t13 : tie.Need-add-t13
+add-t13 c = search needs
 
-cast-t13 : tie.Need-cast-t13
-cast-t13 c = search needs
+cast-t12 : tie.Need-cast-t12
+cast-t12 c = search needs
 
 returns-2 : tie.Need-returns-2
 returns-2 c = short-says _ _ (c .before .before .before .before .before .before .pre .0) (c .before .before .before .before .before .before .pre .1) (c .before .before .before .before .if1 .left) (c .before .before .if2 .taken) (c .before .short .result) (c .before .short .ensures) (c .if3 .taken)
@@ -62,8 +62,8 @@ escape-at-spec =
     returns
     shared-slice-read-b
     short-requires
-    add-t12
-    cast-t13
+    cast-t12
+    add-t13
     returns-2
     returns-3
     add-u

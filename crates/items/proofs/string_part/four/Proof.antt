@@ -115,11 +115,11 @@ four-spec =
     cast-d
     add-t13
     returns-4
-    add-t8
     mul-t14
     add-t15
     mul-t16
     add-t17
     mul-t18
     add-t19
+    add-t8
     returns-5)

@@ -23,11 +23,11 @@ plain-end-requires c κs = let t = c .loop .inv .0 in t .within
 copy-requires : tie.Need-copy-requires Inv-loop μ-loop
 copy-requires c κs = let p = c .before .plain-end .ensures in (p .behind, p .within)
 
-sub-o : tie.Need-sub-o Inv-loop μ-loop
-sub-o c = let p = c .before .before .before .before .plain-end .ensures in omega (arith, p .behind)
+sub-out : tie.Need-sub-out Inv-loop μ-loop
+sub-out c = let p = c .before .before .before .before .plain-end .ensures in omega (arith, p .behind)
 
-add-o : tie.Need-add-o Inv-loop μ-loop
-add-o c = let p = c .before .before .before .before .plain-end .ensures in let t = c .before .before .before .before .before .loop .inv .0 in omega (arith, p .behind, p .within, t .room, c .before .before .before .before .before .before .before .before .pre .0)
+add-out : tie.Need-add-out Inv-loop μ-loop
+add-out c = let p = c .before .before .before .before .plain-end .ensures in let t = c .before .before .before .before .before .loop .inv .0 in omega (arith, p .behind, p .within, t .room, c .before .before .before .before .before .before .before .before .pre .0)
 
 same-length : tie.Need-same-length Inv-loop μ-loop
 same-length c = c .before .before .before .copy .kept .1 .1 .1 .0 ∙ c .before .before .before .before .before .before .loop .inv .1
@@ -53,8 +53,8 @@ returns-3 c = round-bad (round-plain (c .before .before .before .before .before 
 add-t23 : tie.Need-add-t23 Inv-loop μ-loop
 add-t23 c = omega arith
 
-sub-t24 : tie.Need-sub-t24 Inv-loop μ-loop
-sub-t24 c = let t = c .before .before .before .before .before .before .before .before .before .before .loop .inv .0 in omega (arith, t .counted)
+sub-t22 : tie.Need-sub-t22 Inv-loop μ-loop
+sub-t22 c = let t = c .before .before .before .before .before .before .before .before .before .before .loop .inv .0 in omega (arith, t .counted)
 
 same-length-4 : tie.Need-same-length-4 Inv-loop μ-loop
 same-length-4 c = c .before .before .before .before .before .before .before .copy .kept .1 .1 .1 .0 ∙ c .before .before .before .before .before .before .before .before .before .before .loop .inv .1
@@ -86,17 +86,17 @@ loop-less c = let u = (rw (c .before .before .next .given .1) at (c .before .bef
 loop-again : tie.Need-loop-again Inv-loop μ-loop
 loop-again c = (round-lone (round-plain (c .before .before .before .before .before .before .before .before .before .before .before .before .before .loop .inv .0) (c .before .before .before .before .before .before .before .before .before .before .before .before .plain-end .ensures) (c .before .before .before .before .before .before .before .before .before .before .copy .ensures)) (rw (c .before .before .next .given .1) at (c .before .before .before .before .character .ensures)) (c .earlier .ensures), c .before .before .before .before .before .before .before .before .before .before .copy .kept .1 .1 .1 .0 ∙ c .before .before .before .before .before .before .before .before .before .before .before .before .before .loop .inv .1)
 
-enum-known-next-2 : tie.Need-enum-known-next-2 Inv-loop μ-loop
-enum-known-next-2 c = search needs
+enum-known-c : tie.Need-enum-known-c Inv-loop μ-loop
+enum-known-c c = search needs
 
 encode-requires : tie.Need-encode-requires Inv-loop μ-loop
-encode-requires c κs = let u = (rw (c .before .before .next2 .given .1) at (c .before .before .before .before .character .ensures)) in let p = c .before .before .before .before .before .before .before .before .before .before .before .before .plain-end .ensures in let t = c .before .before .before .before .before .before .before .before .before .before .before .before .before .loop .inv .0 in (u .small, omega (arith, p .behind, u .within, u .room, t .room, c .before .before .before .before .before .before .before .before .before .before .before .before .before .before .before .before .pre .0))
+encode-requires c κs = let u = (rw (c .before .before .c .given .1) at (c .before .before .before .before .character .ensures)) in let p = c .before .before .before .before .before .before .before .before .before .before .before .before .plain-end .ensures in let t = c .before .before .before .before .before .before .before .before .before .before .before .before .before .loop .inv .0 in (u .small, omega (arith, p .behind, u .within, u .room, t .room, c .before .before .before .before .before .before .before .before .before .before .before .before .before .before .before .before .pre .0))
 
 loop-less-2 : tie.Need-loop-less-2 Inv-loop μ-loop
-loop-less-2 c = let u = (rw (c .before .before .before .before .before .next2 .given .1) at (c .before .before .before .before .before .before .before .character .ensures)) in let p = c .before .before .before .before .before .before .before .before .before .before .before .before .before .before .before .plain-end .ensures in omega (arith, u .past, u .within, p .behind)
+loop-less-2 c = let u = (rw (c .before .before .before .before .before .c .given .1) at (c .before .before .before .before .before .before .before .character .ensures)) in let p = c .before .before .before .before .before .before .before .before .before .before .before .before .before .before .before .plain-end .ensures in omega (arith, u .past, u .within, p .behind)
 
 loop-again-2 : tie.Need-loop-again-2 Inv-loop μ-loop
-loop-again-2 c = (round-char (round-plain (c .before .before .before .before .before .before .before .before .before .before .before .before .before .before .before .before .loop .inv .0) (c .before .before .before .before .before .before .before .before .before .before .before .before .before .before .before .plain-end .ensures) (c .before .before .before .before .before .before .before .before .before .before .before .before .before .copy .ensures)) (rw (c .before .before .before .before .before .next2 .given .1) at (c .before .before .before .before .before .before .before .character .ensures)) (c .before .before .encode .ensures .0) (c .before .before .encode .ensures .1), c .before .before .encode .kept .1 .0 ∙ c .before .before .before .before .before .before .before .before .before .before .before .before .before .copy .kept .1 .1 .1 .0 ∙ c .before .before .before .before .before .before .before .before .before .before .before .before .before .before .before .before .loop .inv .1)
+loop-again-2 c = (round-char (round-plain (c .before .before .before .before .before .before .before .before .before .before .before .before .before .before .before .before .loop .inv .0) (c .before .before .before .before .before .before .before .before .before .before .before .before .before .before .before .plain-end .ensures) (c .before .before .before .before .before .before .before .before .before .before .before .before .before .copy .ensures)) (rw (c .before .before .before .before .before .c .given .1) at (c .before .before .before .before .before .before .before .character .ensures)) (c .before .before .encode .ensures .0) (c .before .before .encode .ensures .1), c .before .before .encode .kept .1 .0 ∙ c .before .before .before .before .before .before .before .before .before .before .before .before .before .copy .kept .1 .1 .1 .0 ∙ c .before .before .before .before .before .before .before .before .before .before .before .before .before .before .before .before .loop .inv .1)
 
 pub inner-spec : {M : Type 1} → statement M
 inner-spec =
@@ -107,8 +107,8 @@ inner-spec =
     loop-holds
     plain-end-requires
     copy-requires
-    sub-o
-    add-o
+    sub-out
+    add-out
     same-length
     returns
     shared-slice-read-b
@@ -116,8 +116,8 @@ inner-spec =
     returns-2
     same-length-3
     returns-3
+    sub-t22
     add-t23
-    sub-t24
     same-length-4
     returns-4
     character-requires
@@ -128,7 +128,7 @@ inner-spec =
     earlier-requires
     loop-less
     loop-again
-    enum-known-next-2
+    enum-known-c
     encode-requires
     loop-less-2
     loop-again-2)

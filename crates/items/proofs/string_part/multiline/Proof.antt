@@ -25,11 +25,11 @@ enum-known-e c = search needs
 copy-requires : tie.Need-copy-requires
 copy-requires c κs = let t = (rw (c .before .before .e .given .1) at (c .before .before .before .before .lines-end .ensures)) in (t .behind, omega (arith, t .within))
 
-add-t13 : tie.Need-add-t13
-add-t13 c = let t = (rw (c .before .before .before .before .before .e .given .1) at (c .before .before .before .before .before .before .before .lines-end .ensures)) in omega (arith, t .within)
+add-t14 : tie.Need-add-t14
+add-t14 c = let t = (rw (c .before .before .before .before .before .e .given .1) at (c .before .before .before .before .before .before .before .lines-end .ensures)) in omega (arith, t .within)
 
-sub-t14 : tie.Need-sub-t14
-sub-t14 c = let t = (rw (c .before .before .before .before .before .e .given .1) at (c .before .before .before .before .before .before .before .lines-end .ensures)) in omega (arith, t .behind)
+sub-t13 : tie.Need-sub-t13
+sub-t13 c = let t = (rw (c .before .before .before .before .before .e .given .1) at (c .before .before .before .before .before .before .before .lines-end .ensures)) in omega (arith, t .behind)
 
 returns : tie.Need-returns
 returns c = three-cut _ (c .before .before .before .before .before .before .before .args .q) (c .before .before .before .before .before .before .before .args .at) (c .before .before .before .before .before .before .before .args .store .now) (c .before .before .before .before .before .before .before .pre .1) _ (c .before .before .before .before .lines-start .ensures) _ (rw (c .before .p .given .1) at (c .before .before .before .lines-end .ensures))
@@ -49,8 +49,8 @@ multiline-spec =
     enum-known-p
     enum-known-e
     copy-requires
-    add-t13
-    sub-t14
+    sub-t13
+    add-t14
     returns
     same-length
     returns-2)

@@ -25,14 +25,14 @@ enum-told-2 c = search needs
 enum-known-p : tie.Need-enum-known-p
 enum-known-p c = search needs
 
-enum-known-after : tie.Need-enum-known-after
-enum-known-after c = search needs
+enum-known-l : tie.Need-enum-known-l
+enum-known-l c = search needs
 
 returns-3 : tie.Need-returns-3
-returns-3 c = λ at t. wait-below _ _ _ _ t (c .before .before .before .before .before .before .before .before .before .pre .0) (c .before .before .before .before .before .before .before .before .before .pre .1) _ _ (rw (c .before .before .after .given .1) at (c .before .before .before .before .escape-at .ensures)) (c .if3 .taken)
+returns-3 c = λ at t. wait-below _ _ _ _ t (c .before .before .before .before .before .before .before .before .before .pre .0) (c .before .before .before .before .before .before .before .before .before .pre .1) _ _ (rw (c .before .before .l .given .1) at (c .before .before .before .before .escape-at .ensures)) (c .if3 .taken)
 
 returns-4 : tie.Need-returns-4
-returns-4 c = λ at t. wait-above _ _ _ _ t (c .before .before .before .before .before .before .before .before .before .before .pre .0) (c .before .before .before .before .before .before .before .before .before .before .pre .1) _ _ (rw (c .before .before .before .after .given .1) at (c .before .before .before .before .before .escape-at .ensures)) (c .if4 .taken)
+returns-4 c = λ at t. wait-above _ _ _ _ t (c .before .before .before .before .before .before .before .before .before .before .pre .0) (c .before .before .before .before .before .before .before .before .before .before .pre .1) _ _ (rw (c .before .before .before .l .given .1) at (c .before .before .before .before .before .escape-at .ensures)) (c .if4 .taken)
 
 sub-t14 : tie.Need-sub-t14
 sub-t14 c = search needs
@@ -56,7 +56,7 @@ returns-7 : tie.Need-returns-7
 returns-7 c = λ at t. wait-break _ _ _ _ t (c .before .before .before .before .before .before .before .before .pre .0) (c .before .before .before .before .before .before .before .before .pre .1) _ (rw (c .before .p .given .1) at (c .before .before .before .escape-at .ensures))
 
 returns-8 : tie.Need-returns-8
-returns-8 c = λ at t. wait-pair _ _ _ _ t (c .before .before .before .before .before .before .before .before .before .before .pre .0) (c .before .before .before .before .before .before .before .before .before .before .pre .1) _ _ (rw (c .before .before .before .after .given .1) at (c .before .before .before .before .before .escape-at .ensures)) (c .before .if3 .left) (c .if4 .left)
+returns-8 c = λ at t. wait-pair _ _ _ _ t (c .before .before .before .before .before .before .before .before .before .before .pre .0) (c .before .before .before .before .before .before .before .before .before .before .pre .1) _ _ (rw (c .before .before .before .l .given .1) at (c .before .before .before .before .before .escape-at .ensures)) (c .before .if3 .left) (c .if4 .left)
 
 pub second-half-spec : {M : Type 1} → statement M
 second-half-spec =
@@ -69,7 +69,7 @@ second-half-spec =
     enum-told
     enum-told-2
     enum-known-p
-    enum-known-after
+    enum-known-l
     returns-3
     returns-4
     sub-t14
