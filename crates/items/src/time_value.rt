@@ -49,8 +49,8 @@ pub struct Nanos {
 
 // A second's fraction in nanoseconds and the place after it, or the byte that no rule allows.
 pub enum Fraction {
-    Got(u64, usize),
-    Bad(usize),
+    Got { nanos: u64, at: usize },
+    NotGrammar(usize),
 }
 
 // A field of two digits.
@@ -315,27 +315,30 @@ fn second_part(s: &[u8], at: usize) -> Fraction
     ensures { λ r. ⌜ FractionSays (now (s .entry)) at r ⌝ }
 {
     if at >= s.len() {
-        return Fraction::Got(0, at);
+        return Fraction::Got { nanos: 0, at };
     }
     if s[at] != b'.' {
-        return Fraction::Got(0, at);
+        return Fraction::Got { nanos: 0, at };
     }
     let i = at + 1;
     if i >= s.len() {
-        return Fraction::Bad(i);
+        return Fraction::NotGrammar(i);
     }
     let b = s[i];
     if b < b'0' {
-        return Fraction::Bad(i);
+        return Fraction::NotGrammar(i);
     }
     if b > b'9' {
-        return Fraction::Bad(i);
+        return Fraction::NotGrammar(i);
     }
     let n = nano_digits(s, i);
     let v = n.v;
     let left = n.left;
     let next = n.at;
-    Fraction::Got(scaled(v, left), next)
+    Fraction::Got {
+        nanos: scaled(v, left),
+        at: next,
+    }
 }
 
 // After a second's digits.
@@ -344,8 +347,8 @@ fn after_second(s: &[u8], q: usize, w: When, hour: u8, minute: u8, second: u8, a
     ensures { λ r. ⌜ Reads (now (s .entry)) at (field q (Numeric.second (whenOf w) hour minute) 0 second) r ⌝ }
 {
     match second_part(s, at) {
-        Fraction::Bad(p) => Scanned::Refused(Refusal::NotGrammar(p)),
-        Fraction::Got(nanos, next) => {
+        Fraction::NotGrammar(p) => Scanned::Refused(Refusal::NotGrammar(p)),
+        Fraction::Got { nanos, at: next } => {
             let c = Clock {
                 hour,
                 minute,

@@ -9,7 +9,6 @@ use Rattle.machine.specs.Numeric.{field}
 use Rattle.items.specs.declared.Scanned.{Scanned}
 use Rattle.items.specs.declared.Scanned.the-variants.{Refused}
 use Rattle.items.specs.declared.time_value.Fraction.{Fraction}
-use Rattle.items.specs.declared.time_value.Fraction.the-variants.{Got, Bad}
 use Rattle.items.specs.Between.NumberOrTime.{Reads, Zoned}
 
 -- from a second's digits at `at` the clock has n nanoseconds, and the scanner goes on from the place `next`
@@ -19,5 +18,6 @@ pub record Fractioned (s : List ℕ) (at n next : ℕ) : Type 0 where
   pub reads : (q : ℕ) (w : S.When) (h m c : ℕ) (r : Scanned) → Zoned s q w (record { hour = h; minute = m; second = c; nanos = n }) next r → Reads s at (field q (S.second w h m) 0 c) r
 
 abbrev pub FractionSays : List ℕ → ℕ → Fraction → Type 0
-FractionSays s at (Got n next) = Fractioned s at n next
-FractionSays s at (Bad p) = (q : ℕ) (w : S.When) (h m c : ℕ) → Reads s at (field q (S.second w h m) 0 c) (Refused (NotGrammar p))
+FractionSays s at (Fraction.Got n next) = Fractioned s at n next
+FractionSays s at (Fraction.NotGrammar p) =
+    (q : ℕ) (w : S.When) (h m c : ℕ) → Reads s at (field q (S.second w h m) 0 c) (Refused (NotGrammar p))
