@@ -52,7 +52,8 @@ module _ (s : List ℕ) (p : ℕ) where
     unfolding onDigit
     digit-not i h = let d = digit-is i in let g : noDigit ≤ hexOf (getD s p 0) = omega arith in rw (le-ltb _ _ g)
 
-  pub digit-breaks : (c : St) (next : ℕ → St) → ((b : ℕ) → scan p c b ≡ onDigit (hexOf b) next (breaks (NotGrammar p))) → noDigit ≤ digitAt s p → ran scan p c (drop p s) ≡ broke (NotGrammar p)
+  pub digit-breaks : (c : St) (next : ℕ → St) → ((b : ℕ) → scan p c b ≡ onDigit (hexOf b) next (breaks (NotGrammar p))) → noDigit ≤ digitAt s p
+      → ran scan p c (drop p s) ≡ broke (NotGrammar p)
   unfolding onDigit hexOf
   digit-breaks c next e h = by (decLt p (length s))
     where
@@ -124,13 +125,16 @@ module _ (s : List ℕ) (p : ℕ) where
 
         pub escape-low : noDigit ≤ digitAt s (p + 2) → EscapeSays s p (Octet.NotGrammar (p + 2))
         unfolding scan
-        escape-low l = λ c a. after-high c a ∙ digit-breaks s (p + 2) (hexLow c a (digitAt s (p + 1))) (λ x. text c (a ++ ((16 * digitAt s (p + 1) + x) ∷ []))) (λ b. refl) l
+        escape-low l = λ c a. after-high c a ∙ digit-breaks s (p + 2) (hexLow c a (digitAt s (p + 1))) (λ x. text c (a ++ ((16 * digitAt s (p + 1) + x) ∷ [])))
+            (λ b. refl) l
 
         pub escape-hex : digitAt s (p + 2) < noDigit → EscapeSays s p (Octet.Byte (16 * digitAt s (p + 1) + digitAt s (p + 2)) (p + 3))
         unfolding scan
         escape-hex l = record {
-          runs = λ c a. after-high c a ∙ digit-goes s (p + 2) (hexLow c a (digitAt s (p + 1))) (λ x. text c (a ++ ((16 * digitAt s (p + 1) + x) ∷ []))) (breaks (NotGrammar (p + 2))) refl l
-              ∙ (let n : p + 2 + 1 ≡ p + 3 = omega arith in ap (λ (j : ℕ). ran scan j (text c (a ++ ((16 * digitAt s (p + 1) + digitAt s (p + 2)) ∷ []))) (drop j s)) n);
+          runs = λ c a. after-high c a ∙ digit-goes s (p + 2) (hexLow c a (digitAt s (p + 1))) (λ x. text c (a ++ ((16 * digitAt s (p + 1) + x) ∷ [])))
+              (breaks (NotGrammar (p + 2))) refl l
+              ∙ (let n : p + 2 + 1 ≡ p + 3 = omega arith in ap (λ (j : ℕ). ran scan j (text c (a ++ ((16 * digitAt s (p + 1) + digitAt s (p + 2)) ∷ [])))
+                  (drop j s)) n);
           past = omega arith;
           within = omega (arith, digit-in s (p + 2) l);
         }
@@ -138,7 +142,8 @@ module _ (s : List ℕ) (p : ℕ) where
 -- ---- the loops: the bytes so far, in the state of that many
 
 -- one byte more
-pub byte-more : (entry store u : List ℕ) (from out v : ℕ) → store ≡ sets entry from u → out ≡ from + length u → set store out v ≡ sets entry from (u ++ (v ∷ []))
+pub byte-more : (entry store u : List ℕ) (from out v : ℕ) → store ≡ sets entry from u → out ≡ from + length u → set store out v
+    ≡ sets entry from (u ++ (v ∷ []))
 byte-more entry store u from out v e h = rw (sets-app, ← e, ← h)
 
 pub record Filling (s : List ℕ) (c : St) (p : ℕ) (state : List ℕ → ℕ → St) (place : ℕ → ℕ) (from first : ℕ) (entry store : List ℕ) (i out : ℕ) : Type 0 where
@@ -149,12 +154,15 @@ pub record Filling (s : List ℕ) (c : St) (p : ℕ) (state : List ℕ → ℕ �
   pub room : from + length u ≤ i
   pub within : i ≤ length s
 
-pub filling : (s : List ℕ) (state : List ℕ → ℕ → St) (place : ℕ → ℕ) (p first : ℕ) (entry : List ℕ) → p ≤ length s → Filling s (state [] p) (place p) state place p first entry entry p first
+pub filling : (s : List ℕ) (state : List ℕ → ℕ → St) (place : ℕ → ℕ) (p first : ℕ) (entry : List ℕ) → p ≤ length s
+    → Filling s (state [] p) (place p) state place p first entry entry p first
 filling s state place p first entry h = record { u = []; runs = refl; filled = refl; placed = omega arith; room = omega arith; within = h }
 
-module _ {s : List ℕ} {c : St} {p : ℕ} {state : List ℕ → ℕ → St} {place : ℕ → ℕ} {from first : ℕ} {entry store : List ℕ} {i out : ℕ} (v : Filling s c p state place from first entry store i out) where
+module _ {s : List ℕ} {c : St} {p : ℕ} {state : List ℕ → ℕ → St} {place : ℕ → ℕ} {from first : ℕ} {entry store : List ℕ} {i out : ℕ}
+    (v : Filling s c p state place from first entry store i out) where
   -- a byte b, over the text from i to j
-  pub fill-more : (b j : ℕ) → i < j → j ≤ length s → Runs scan s (state (v .u) i) (place i) (state (v .u ++ (b ∷ [])) j) (place j) → Filling s c p state place from first entry (set store out b) j (out + 1)
+  pub fill-more : (b j : ℕ) → i < j → j ≤ length s → Runs scan s (state (v .u) i) (place i) (state (v .u ++ (b ∷ [])) j) (place j)
+      → Filling s c p state place from first entry (set store out b) j (out + 1)
   fill-more b j l h e = record {
     u = v .u ++ (b ∷ []);
     runs = v .runs ∙ e;
@@ -167,7 +175,8 @@ module _ {s : List ℕ} {c : St} {p : ℕ} {state : List ℕ → ℕ → St} {pl
   pub fill-wrong : (q : ℕ) → ran scan (place i) (state (v .u) i) (drop (place i) s) ≡ broke (NotGrammar q) → ran scan p c (drop p s) ≡ broke (NotGrammar q)
   fill-wrong q e = v .runs ∙ e
 
-  pub fill-closed : (q n : ℕ) → ran scan (place i) (state (v .u) i) (drop (place i) s) ≡ ended (v .u) q → i < q → q ≤ length s → n + first ≡ out → Closing s c from p first entry store q n
+  pub fill-closed : (q n : ℕ) → ran scan (place i) (state (v .u) i) (drop (place i) s) ≡ ended (v .u) q → i < q → q ≤ length s → n + first ≡ out
+      → Closing s c from p first entry store q n
   fill-closed q n e l h o = record {
     u = v .u;
     runs = v .runs ∙ e;
@@ -176,7 +185,8 @@ module _ {s : List ℕ} {c : St} {p : ℕ} {state : List ℕ → ℕ → St} {pl
   }
 
   -- the last byte b, and the part's end
-  pub fill-last : (b q n : ℕ) → ran scan (place i) (state (v .u) i) (drop (place i) s) ≡ ended (v .u ++ (b ∷ [])) q → i < q → q ≤ length s → n + first ≡ out + 1 → Closing s c from p first entry (set store out b) q n
+  pub fill-last : (b q n : ℕ) → ran scan (place i) (state (v .u) i) (drop (place i) s) ≡ ended (v .u ++ (b ∷ [])) q → i < q → q ≤ length s → n + first ≡ out + 1
+      → Closing s c from p first entry (set store out b) q n
   fill-last b q n e l h o = record {
     u = v .u ++ (b ∷ []);
     runs = v .runs ∙ e;
@@ -226,7 +236,8 @@ module _ (s : List ℕ) (q i : ℕ) (u : List ℕ) where
 
         pub text-high : 0x7E < getD s i 0 → ran scan i (text q u) (drop i s) ≡ broke (NotGrammar i)
         unfolding scan onText
-        text-high l = run-break scan s i (text q u) (NotGrammar i) h (let k : 0x20 ≤ getD s i 0 = omega arith in rw (ne-eqb _ _ n, ne-eqb _ _ m, le-ltb _ _ k, lt-leb _ _ l))
+        text-high l = run-break scan s i (text q u) (NotGrammar i) h (let k : 0x20 ≤ getD s i 0 = omega arith in
+            rw (ne-eqb _ _ n, ne-eqb _ _ m, le-ltb _ _ k, lt-leb _ _ l))
 
         pub text-plain : 0x20 ≤ getD s i 0 → getD s i 0 ≤ 0x7E → Runs scan s (text q u) i (text q (u ++ (getD s i 0 ∷ []))) (i + 1)
         unfolding scan onText
@@ -310,7 +321,8 @@ module _ (s : List ℕ) (p first : ℕ) (entry : List ℕ) where
       part-end g = empty (end-stop scan s (p + 1) dollar [] g refl)
 
       -- what a reader of the rest says, from the state c at i on
-      pub part-rest : (c : St) (from i : ℕ) → p < from → Runs scan s dollar (p + 1) c i → (exit : List ℕ) (r : Piece) → StateSays s c from i first entry exit r → PieceSays s p first entry exit r
+      pub part-rest : (c : St) (from i : ℕ) → p < from → Runs scan s dollar (p + 1) c i → (exit : List ℕ) (r : Piece) → StateSays s c from i first entry exit r
+          → PieceSays s p first entry exit r
       part-rest c from i l t exit (Piece.Closed n q) w = record {
         u = w .u;
         runs = opened ∙ t ∙ w .runs;

@@ -2,7 +2,8 @@
 pub mod PlacesLaws
 -- StoreLaws: bytes put into a store
 pub mod StoreLaws
--- StringPartStepLaws, StringPartEscapeLaws, StringPartCharLaws, StringPartQuotedLaws, StringPartLinesLaws: a string part, from single steps to the multiline part
+-- StringPartStepLaws, StringPartEscapeLaws, StringPartCharLaws, StringPartQuotedLaws, StringPartLinesLaws: a string part, from single steps to the multiline
+-- part
 pub mod StringPartStepLaws
 pub mod StringPartEscapeLaws
 pub mod StringPartCharLaws

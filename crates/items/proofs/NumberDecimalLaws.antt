@@ -48,7 +48,8 @@ module _ {s : List ℕ} (st : ℕ → ℕ → St) (step : (p f w b : ℕ) → Is
       let o : i ≤ j = span-low h in
       let c : f + (suc j - i) ≡ suc (f + (j - i)) = omega arith in
       span-on f h r (took (st (suc (f + (j - i))) (dig w (getD s j 0))) l (step j (f + (j - i)) w (getD s j 0) d)
-      (subst (λ (x : ℕ). Reads s x (st (suc (f + (j - i))) (dig w (getD s j 0))) r) (sym (add-one j)) (subst (λ (x : ℕ). Reads s (suc j) (st x (dig w (getD s j 0))) r) c k)))
+      (subst (λ (x : ℕ). Reads s x (st (suc (f + (j - i))) (dig w (getD s j 0))) r) (sym (add-one j))
+          (subst (λ (x : ℕ). Reads s (suc j) (st x (dig w (getD s j 0))) r) c k)))
 
 module _ (q : ℕ) (g : Bool) {s : List ℕ} where
   pub span-int : {i m j w : ℕ} → Span s i m j w → Onto s i (int q g m) j (int q g w)
@@ -85,7 +86,8 @@ module _ (q : ℕ) (g : Bool) (m f : ℕ) where
       go (inr n) = rw (none n, dg-none n)
 
   -- an exponent's digits, from after its sign
-  sign-digits : (z : Bool) {s : List ℕ} {i j w : ℕ} {r : Scanned} → i < length s → IsDigit (getD s i 0) → Span s i 0 j w → Edge s j → Closes j (scaled q g m f z w) r → Reads s i (expSign q g m f z) r
+  sign-digits : (z : Bool) {s : List ℕ} {i j w : ℕ} {r : Scanned} → i < length s → IsDigit (getD s i 0) → Span s i 0 j w → Edge s j
+      → Closes j (scaled q g m f z w) r → Reads s i (expSign q g m f z) r
   sign-digits z {s} {i} {j} {w} h d x e k =
       let b : byteAt s i ≡ getD s i 0 = byte-in s i h in
       same (expDigits q g m f z 0) (rw (b, dg-digit (getD s i 0) d)) (span-exp q g m f z x _ (halts (scaled q g m f z w) (rw (dg-none (edge-none e))) k))
@@ -94,12 +96,16 @@ module _ (s : List ℕ) (q : ℕ) (g : Bool) (a : Acc) (f : ℕ) (z : Bool) (k :
   pub raised-edge : Edge s k → From s a k (λ m. expSign q g m f z) (Refused (NotGrammar k))
   raised-edge e = record { reads = λ m i. breaks-at (rw (dg-none (edge-none e))) }
 
-  module _ (w : Power) (r : Scanned) (l : a .c < coefficientLimit) (y : a .z ≤ textLimit) (h : k < length s) (i : IsDigit (getD s k 0)) (p : Powered s k w) where
+  module _ (w : Power) (r : Scanned) (l : a .c < coefficientLimit) (y : a .z ≤ textLimit) (h : k < length s) (i : IsDigit (getD s k 0)) (p : Powered s k w)
+      where
     pub raised-dn : z ≡ true → Settles q g a 0 (f + w .e) (w .at) r → From s a k (λ m. expSign q g m f z) r
-    raised-dn n t = record { reads = λ m o. let d = p .says in rw n (sign-digits q g m f true h i (d .1) (p .edge) (closes-by _ _ (capped-dn q g m (a .c) (a .z) l y (a .over) (w .e) (d .0) f o (d .2)) (t .closes m o))) }
+    raised-dn n t = record { reads = λ m o. let d = p .says in rw n (sign-digits q g m f true h i (d .1) (p .edge)
+        (closes-by _ _ (capped-dn q g m (a .c) (a .z) l y (a .over) (w .e) (d .0) f o (d .2)) (t .closes m o))) }
 
     pub raised-up : z ≡ false → f ≤ textLimit → Settles q g a (w .e) f (w .at) r → From s a k (λ m. expSign q g m f z) r
-    raised-up n u t = record { reads = λ m o. let d = p .says in rw n (sign-digits q g m f false h i (d .1) (p .edge) (closes-by _ _ (ap (λ (x : ℕ). settle q g m (d .0) x) (add-zero f) ∙ capped-up q g m (a .c) (a .z) l y (a .over) (w .e) (d .0) f o (d .2) u) (t .closes m o))) }
+    raised-up n u t = record { reads = λ m o. let d = p .says in rw n (sign-digits q g m f false h i (d .1) (p .edge)
+        (closes-by _ _ (ap (λ (x : ℕ). settle q g m (d .0) x) (add-zero f) ∙ capped-up q g m (a .c) (a .z) l y (a .over) (w .e) (d .0) f o (d .2) u)
+        (t .closes m o))) }
 
 module _ (s : List ℕ) (q : ℕ) (g : Bool) (a : Acc) (f i : ℕ) (r : Scanned) where
   -- no exponent
@@ -107,7 +113,8 @@ module _ (s : List ℕ) (q : ℕ) (g : Bool) (a : Acc) (f i : ℕ) (r : Scanned)
   none-over h t = record { reads = λ m o. halts (settle q g m 0 f) (rw (byte-out s i h)) (t .closes m o) }
 
   pub none-other : i < length s → Edge s i → (getD s i 0 ≡ ch "e" → ⊥) → (getD s i 0 ≡ ch "E" → ⊥) → Settles q g a 0 f i r → From s a i (λ m. frac q g m f) r
-  none-other h e x y t = record { reads = λ m o. halts (settle q g m 0 f) (frac-other q g m f (num-class (byteAt s i)) (edge-none e) (rw (← byte-in s i h) at x) (rw (← byte-in s i h) at y)) (t .closes m o) }
+  none-other h e x y t = record { reads = λ m o. halts (settle q g m 0 f) (frac-other q g m f (num-class (byteAt s i)) (edge-none e) (rw (← byte-in s i h) at x)
+      (rw (← byte-in s i h) at y)) (t .closes m o) }
 
   pub after-e : i < length s → (getD s i 0 ≡ ch "e") ⊎ (getD s i 0 ≡ ch "E") → From s a (i + 1) (λ m. exp q g m f) r → From s a i (λ m. frac q g m f) r
   after-e h (inl e) t = record { reads = λ m o. took (exp q g m f) h (rw e) (t .reads m o) }
@@ -119,8 +126,10 @@ module _ (s : List ℕ) (q : ℕ) (g : Bool) (a : Acc) (f i : ℕ) (r : Scanned)
   pub e-minus : i < length s → getD s i 0 ≡ ch "-" → From s a (i + 1) (λ m. expSign q g m f true) r → From s a i (λ m. exp q g m f) r
   e-minus h e t = record { reads = λ m o. took (expSign q g m f true) h (rw e) (t .reads m o) }
 
-  pub e-bare : i < length s → (getD s i 0 ≡ ch "+" → ⊥) → (getD s i 0 ≡ ch "-" → ⊥) → From s a i (λ m. expSign q g m f false) r → From s a i (λ m. exp q g m f) r
-  e-bare h x y t = record { reads = λ m o. same (expSign q g m f false) (same-exp q g m f i (byteAt s i) (rw (← byte-in s i h) at x) (rw (← byte-in s i h) at y)) (t .reads m o) }
+  pub e-bare : i < length s → (getD s i 0 ≡ ch "+" → ⊥) → (getD s i 0 ≡ ch "-" → ⊥) → From s a i (λ m. expSign q g m f false) r
+      → From s a i (λ m. exp q g m f) r
+  e-bare h x y t = record { reads = λ m o. same (expSign q g m f false) (same-exp q g m f i (byteAt s i) (rw (← byte-in s i h) at x)
+      (rw (← byte-in s i h) at y)) (t .reads m o) }
 
 pub e-over : (s : List ℕ) (q : ℕ) (g : Bool) (a : Acc) (f i : ℕ) → length s ≤ i → From s a i (λ m. exp q g m f) (Refused (NotGrammar i))
 e-over s q g a f i h = record { reads = λ m o. breaks-at (rw (byte-out s i h)) }
@@ -128,14 +137,17 @@ e-over s q g a f i h = record { reads = λ m o. breaks-at (rw (byte-out s i h)) 
 -- ---- a fraction, and a whole number before it
 
 -- a fraction's digits
-pub fraction-on : (s : List ℕ) (q : ℕ) (g : Bool) (a : Acc) (i : ℕ) (w : Run) (d : Digited s i a w) (r : Scanned) → From s (w .acc) (w .at) (λ m. frac q g m (w .at - i)) r → From s a i (λ m. frac q g m 0) r
+pub fraction-on : (s : List ℕ) (q : ℕ) (g : Bool) (a : Acc) (i : ℕ) (w : Run) (d : Digited s i a w) (r : Scanned)
+    → From s (w .acc) (w .at) (λ m. frac q g m (w .at - i)) r → From s a i (λ m. frac q g m 0) r
 fraction-on s q g a i w d r t =
     record {
-      reads = λ m o. let k = d .holds m o in span-frac q g 0 (k .1) r (subst (λ (x : ℕ). Reads s (w .at) (frac q g (k .0) x) r) (sym (zero-add (w .at - i))) (t .reads (k .0) (k .2)));
+      reads = λ m o. let k = d .holds m o in span-frac q g 0 (k .1) r (subst (λ (x : ℕ). Reads s (w .at) (frac q g (k .0) x) r) (sym (zero-add (w .at - i)))
+          (t .reads (k .0) (k .2)));
     }
 
 -- a whole part's digits
-pub whole-on : (s : List ℕ) (q : ℕ) (g : Bool) (a : Acc) (i : ℕ) (w : Run) (d : Digited s i a w) (r : Scanned) → From s (w .acc) (w .at) (λ m. int q g m) r → From s a i (λ m. int q g m) r
+pub whole-on : (s : List ℕ) (q : ℕ) (g : Bool) (a : Acc) (i : ℕ) (w : Run) (d : Digited s i a w) (r : Scanned) → From s (w .acc) (w .at) (λ m. int q g m) r
+    → From s a i (λ m. int q g m) r
 whole-on s q g a i w d r t = record { reads = λ m o. let k = d .holds m o in span-int q g (k .1) r (t .reads (k .0) (k .2)) }
 
 pub int-other : (q : ℕ) (g : Bool) (m : ℕ) {b : ℕ} {c : S.Num} → NumIs b c → NoDigit b → (b ≡ ch "." → ⊥) → S.onInt q g m b c ≡ S.onFrac q g m 0 b c
@@ -152,7 +164,8 @@ module _ (s : List ℕ) (q : ℕ) (g : Bool) (a : Acc) (i : ℕ) (r : Scanned) w
   no-point-end h t = record { reads = λ m o. same (frac q g m 0) (rw (byte-out s i h)) (t .reads m o) }
 
   pub no-point : i < length s → Edge s i → (getD s i 0 ≡ ch "." → ⊥) → From s a i (λ m. frac q g m 0) r → From s a i (λ m. int q g m) r
-  no-point h e x t = record { reads = λ m o. same (frac q g m 0) (int-other q g m (num-class (byteAt s i)) (edge-none e) (rw (← byte-in s i h) at x)) (t .reads m o) }
+  no-point h e x t = record { reads = λ m o. same (frac q g m 0) (int-other q g m (num-class (byteAt s i)) (edge-none e) (rw (← byte-in s i h) at x))
+      (t .reads m o) }
 
   pub with-point : i < length s → getD s i 0 ≡ ch "." → From s a (i + 1) (λ m. frac q g m 0) r → From s a i (λ m. int q g m) r
   with-point h e t = record { reads = λ m o. took (frac q g m 0) h (rw e) (t .reads m o) }
@@ -185,7 +198,8 @@ module _ (s : List ℕ) (q : ℕ) (g : Bool) (i : ℕ) where
   nought-is : settle q g 0 0 0 ≡ stops (Meaning.number (Finite g 0 (pos 0)))
   nought-is = settle-to (G.Finite.nought refl) q
 
-  nought-done : {b : ℕ} {c : S.Num} → NumIs b c → (b ≡ ch "." → ⊥) → (b ≡ ch "e" → ⊥) → (b ≡ ch "E" → ⊥) → (b ≡ ch "x" → ⊥) → (b ≡ ch "X" → ⊥) → S.onNought q g c ≡ settle q g 0 0 0
+  nought-done : {b : ℕ} {c : S.Num} → NumIs b c → (b ≡ ch "." → ⊥) → (b ≡ ch "e" → ⊥) → (b ≡ ch "E" → ⊥) → (b ≡ ch "x" → ⊥) → (b ≡ ch "X" → ⊥)
+      → S.onNought q g c ≡ settle q g 0 0 0
   nought-done (NumIs.digit i) p e f x y = refl
   nought-done NumIs.point p e f x y = absurd (p refl)
   nought-done (NumIs.eIs G.E.small) p e f x y = absurd (e refl)
@@ -202,5 +216,6 @@ module _ (s : List ℕ) (q : ℕ) (g : Bool) (i : ℕ) where
   pub nought-over : length s ≤ i → (r : Scanned) → r ≡ Item (Item.Number (Finite g 0 (pos 0))) i → Reads s i (nought q g) r
   nought-over h = ends-nought (rw (byte-out s i h))
 
-  pub nought-ends : i < length s → (getD s i 0 ≡ ch "." → ⊥) → (getD s i 0 ≡ ch "e" → ⊥) → (getD s i 0 ≡ ch "E" → ⊥) → (getD s i 0 ≡ ch "x" → ⊥) → (getD s i 0 ≡ ch "X" → ⊥) → (r : Scanned) → r ≡ Item (Item.Number (Finite g 0 (pos 0))) i → Reads s i (nought q g) r
+  pub nought-ends : i < length s → (getD s i 0 ≡ ch "." → ⊥) → (getD s i 0 ≡ ch "e" → ⊥) → (getD s i 0 ≡ ch "E" → ⊥) → (getD s i 0 ≡ ch "x" → ⊥)
+      → (getD s i 0 ≡ ch "X" → ⊥) → (r : Scanned) → r ≡ Item (Item.Number (Finite g 0 (pos 0))) i → Reads s i (nought q g) r
   nought-ends h p e f x y = let b = byte-in s i h in ends-nought (rw b (nought-done (num-class (getD s i 0)) p e f x y))

@@ -25,7 +25,8 @@ pub grows : (c i k : ℕ) → i ≤ k → c * 10 ^ i ≤ c * 10 ^ k
 grows c i k h = mul-le-mul-left c (pow-le-pow-right {n = 10} (omega arith) h)
 
 pub none-shifted : (c k : ℕ) → c ≡ 0 → Shifted (c * 10 ^ k) (Fits 0)
-none-shifted c k e = let f : c * 10 ^ k ≡ 0 = ap (λ (x : ℕ). x * 10 ^ k) e ∙ zero-mul (10 ^ k) in subst (λ (x : ℕ). Shifted x (Fits 0)) (sym f) (Shifted.fits (omega arith))
+none-shifted c k e = let f : c * 10 ^ k ≡ 0 = ap (λ (x : ℕ). x * 10 ^ k) e ∙ zero-mul (10 ^ k) in
+    subst (λ (x : ℕ). Shifted x (Fits 0)) (sym f) (Shifted.fits (omega arith))
 
 pub over-shifted : (c k i v : ℕ) → i < k → v ≡ c * 10 ^ i → 1844674407370955161 < v → Shifted (c * 10 ^ k) Over
 over-shifted c k i v l e h = Shifted.over (omega (arith, grows c (i + 1) k (omega arith), tenfold c i))
@@ -68,12 +69,14 @@ module _ (m c z b : ℕ) (l : ch "0" ≤ b) (u : b ≤ ch "9") (n : b ≡ ch "0"
 -- ---- digits
 
 pub span-next : (s : List ℕ) (i m j w b : ℕ) → b ≡ getD s j 0 → Span s i m j w → j < length s → ch "0" ≤ b → b ≤ ch "9" → Span s i m (j + 1) (dig w b)
-span-next s i m j w b e h k l u = subst (λ (x : ℕ). Span s i m x (dig w b)) (sym (add-one j)) (subst (λ (x : ℕ). Span s i m (suc j) (dig w x)) (sym e) (Span.next h k (omega arith)))
+span-next s i m j w b e h k l u = subst (λ (x : ℕ). Span s i m x (dig w b)) (sym (add-one j))
+    (subst (λ (x : ℕ). Span s i m (suc j) (dig w x)) (sym e) (Span.next h k (omega arith)))
 
 abbrev pub Loop : List ℕ → ℕ → Acc → Acc → ℕ → Type 0
 Loop s from a x i = (m : ℕ) → Holds m a → (w : ℕ) × Span s from m i w × Holds w x
 
-pub loop-next : (s : List ℕ) (from : ℕ) (a x y : Acc) (i b : ℕ) → b ≡ getD s i 0 → Loop s from a x i → i < length s → ch "0" ≤ b → b ≤ ch "9" → ((m : ℕ) → Holds m x → Holds (dig m b) y) → Loop s from a y (i + 1)
+pub loop-next : (s : List ℕ) (from : ℕ) (a x y : Acc) (i b : ℕ) → b ≡ getD s i 0 → Loop s from a x i → i < length s → ch "0" ≤ b → b ≤ ch "9"
+    → ((m : ℕ) → Holds m x → Holds (dig m b) y) → Loop s from a y (i + 1)
 loop-next s from a x y i b e h k l u f = λ m q. let r = h m q in (dig (r .0) b, span-next s from m i (r .0) b e (r .1) k l u, f (r .0) (r .2))
 
 -- ---- an exponent's digits
@@ -89,7 +92,8 @@ capped-high w e b h (inr q) = inr (h, omega arith)
 abbrev pub Rises : List ℕ → ℕ → ℕ → ℕ → Type 0
 Rises s from e i = (w : ℕ) × Span s from 0 i w × Capped w e
 
-pub rises-next : (s : List ℕ) (from e d i b : ℕ) → b ≡ getD s i 0 → Rises s from e i → i < length s → ch "0" ≤ b → b ≤ ch "9" → ((w : ℕ) → Capped w e → Capped (dig w b) d) → Rises s from d (i + 1)
+pub rises-next : (s : List ℕ) (from e d i b : ℕ) → b ≡ getD s i 0 → Rises s from e i → i < length s → ch "0" ≤ b → b ≤ ch "9"
+    → ((w : ℕ) → Capped w e → Capped (dig w b) d) → Rises s from d (i + 1)
 rises-next s from e d i b q h k l u f = (dig (h .0) b, span-next s from 0 i (h .0) b q (h .1) k l u, f (h .0) (h .2))
 
 -- ---- zeros at the end
@@ -97,7 +101,8 @@ rises-next s from e d i b q h k l u f = (dig (h .0) b, span-next s from 0 i (h .
 pub fewer : (v c z : ℕ) → 0 < c → c % 10 ≡ 0 → v ≡ c * 10 ^ z → v ≡ c / 10 * 10 ^ (z + 1)
 fewer v c z h e f =
     let d : c ≡ c / 10 * 10 = omega (arith, div-add-mod' c 10) in
-    f ∙ ap (λ (x : ℕ). x * 10 ^ z) d ∙ mul-assoc (c / 10) 10 (10 ^ z) ∙ ap (λ (x : ℕ). c / 10 * x) (omega (arith, pow-suc 10 z, ap (λ (x : ℕ). 10 ^ x) (add-one z)))
+    f ∙ ap (λ (x : ℕ). x * 10 ^ z) d ∙ mul-assoc (c / 10) 10 (10 ^ z) ∙ ap (λ (x : ℕ). c / 10 * x)
+        (omega (arith, pow-suc 10 z, ap (λ (x : ℕ). 10 ^ x) (add-one z)))
 
 pub few-zeros : (v c z : ℕ) → v < 2 ^ 64 → 0 < c → v ≡ c * 10 ^ z → z < 20
 few-zeros v c z l h e = go (leb 20 z) refl

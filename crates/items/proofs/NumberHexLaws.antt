@@ -55,19 +55,25 @@ value b = a0 (ltb b (ch "0")) refl
     f1 h true e = let u = ltb-true b (ch "a") e in no-hex b (λ i. omega arith) (λ i. omega arith) (λ i. omega arith)
     f1 h false e = f2 (ltb-false b (ch "a") e) (leb b (ch "f")) refl
 
-    e2 : ch "A" ≤ b → (x : Bool) → leb b (ch "F") ≡ x → HexValue b (cond x (b - ch "A" + 10) (cond (ltb b (ch "a")) noDigit (cond (leb b (ch "f")) (b - ch "a" + 10) noDigit)))
+    e2 : ch "A" ≤ b → (x : Bool) → leb b (ch "F") ≡ x → HexValue b (cond x (b - ch "A" + 10)
+        (cond (ltb b (ch "a")) noDigit (cond (leb b (ch "f")) (b - ch "a" + 10) noDigit)))
     e2 h true e = let u = leb-true b (ch "F") e in HexValue.digit (Hexdig.upper (record { low = h; high = u })) (omega arith)
     e2 h false e = f1 (leb-false b (ch "F") e) (ltb b (ch "a")) refl
 
-    e1 : ch "9" < b → (x : Bool) → ltb b (ch "A") ≡ x → HexValue b (cond x noDigit (cond (leb b (ch "F")) (b - ch "A" + 10) (cond (ltb b (ch "a")) noDigit (cond (leb b (ch "f")) (b - ch "a" + 10) noDigit))))
+    e1 : ch "9" < b → (x : Bool) → ltb b (ch "A") ≡ x → HexValue b (cond x noDigit
+        (cond (leb b (ch "F")) (b - ch "A" + 10) (cond (ltb b (ch "a")) noDigit (cond (leb b (ch "f")) (b - ch "a" + 10) noDigit))))
     e1 h true e = let u = ltb-true b (ch "A") e in no-hex b (λ i. omega arith) (λ i. omega arith) (λ i. omega arith)
     e1 h false e = e2 (ltb-false b (ch "A") e) (leb b (ch "F")) refl
 
-    a1 : ch "0" ≤ b → (x : Bool) → leb b (ch "9") ≡ x → HexValue b (cond x (b - ch "0") (cond (ltb b (ch "A")) noDigit (cond (leb b (ch "F")) (b - ch "A" + 10) (cond (ltb b (ch "a")) noDigit (cond (leb b (ch "f")) (b - ch "a" + 10) noDigit)))))
+    a1 : ch "0" ≤ b → (x : Bool) → leb b (ch "9") ≡ x → HexValue b (cond x (b - ch "0")
+        (cond (ltb b (ch "A")) noDigit (cond (leb b (ch "F")) (b - ch "A" + 10) (cond (ltb b (ch "a")) noDigit
+        (cond (leb b (ch "f")) (b - ch "a" + 10) noDigit)))))
     a1 h true e = let u = leb-true b (ch "9") e in HexValue.digit (Hexdig.decimal (record { low = h; high = u })) (omega arith)
     a1 h false e = e1 (leb-false b (ch "9") e) (ltb b (ch "A")) refl
 
-    a0 : (x : Bool) → ltb b (ch "0") ≡ x → HexValue b (cond x noDigit (cond (leb b (ch "9")) (b - ch "0") (cond (ltb b (ch "A")) noDigit (cond (leb b (ch "F")) (b - ch "A" + 10) (cond (ltb b (ch "a")) noDigit (cond (leb b (ch "f")) (b - ch "a" + 10) noDigit))))))
+    a0 : (x : Bool) → ltb b (ch "0") ≡ x → HexValue b (cond x noDigit (cond (leb b (ch "9")) (b - ch "0")
+        (cond (ltb b (ch "A")) noDigit (cond (leb b (ch "F")) (b - ch "A" + 10) (cond (ltb b (ch "a")) noDigit
+        (cond (leb b (ch "f")) (b - ch "a" + 10) noDigit))))))
     a0 true e = let u = ltb-true b (ch "0") e in no-hex b (λ i. omega arith) (λ i. omega arith) (λ i. omega arith)
     a0 false e = a1 (ltb-false b (ch "0") e) (leb b (ch "9")) refl
 
@@ -105,7 +111,8 @@ module _ (s : List ℕ) (from v : ℕ) (o : Bool) (i d : ℕ) (k : HexLoop s fro
       go false e = omega arith
 
   pub hex-more : d < 16 → v ≤ 1152921504606846975 → HexLoop s from (16 * v + d) o (i + 1)
-  hex-more l u = record { low = omega (arith, k .low); high = omega arith; says = (16 * k .says .0 + d, more l, go o (k .large) (k .says .2)); large = λ e. absurd (omega (arith, k .large e)) }
+  hex-more l u = record { low = omega (arith, k .low); high = omega arith; says = (16 * k .says .0 + d, more l, go o (k .large) (k .says .2)); large = λ e.
+      absurd (omega (arith, k .large e)) }
     where
       go : (o : Bool) → (o ≡ true → 1152921504606846975 < v) → Kept (k .says .0) v o → Kept (16 * k .says .0 + d) (16 * v + d) o
       go true f e = absurd (omega (arith, f refl))

@@ -25,7 +25,8 @@ ran-within [] p st m q e = go (scan p st textEnd) e
     go (breaks r) f = let z : _≡_ {A = ℕ} 0 1 = cc in absurd (omega arith)
 ran-within (b ∷ t) p st m q e = go (λ s f. ran-within t (suc p) s m q f) (scan p st b) e
   where
-    go : ((s : St) → ran scan (suc p) s t ≡ ended m q → (suc p ≤ q) × (q ≤ suc p + length t)) → (o : Res) → goesOn scan p (λ s. ran scan (suc p) s t) o ≡ ended m q → (p ≤ q) × (q ≤ p + suc (length t))
+    go : ((s : St) → ran scan (suc p) s t ≡ ended m q → (suc p ≤ q) × (q ≤ suc p + length t)) → (o : Res) → goesOn scan p (λ s. ran scan (suc p) s t) o
+        ≡ ended m q → (p ≤ q) × (q ≤ p + suc (length t))
     go k (takes s) f = let r = k s f in (omega (arith, r .0), omega (arith, r .1))
     go k (stops v) f = let z : p ≡ q = cc in (omega arith, omega arith)
     go k (breaks r) f = let z : _≡_ {A = ℕ} 0 1 = cc in absurd (omega arith)
@@ -58,5 +59,6 @@ tells-item (Tells.item {m = m} k) = (m, k, refl)
 pub numeric-says : (s : List ℕ) (p : ℕ) → p < length s → (r : Scanned) → Reads s p begin r → NumericSays s p r
 numeric-says s p h (Item i q) k =
     let e = tells-item (k .tells) in
-    record { m = e .0; means = e .1; runs = e .2; past = begin-past (drop p s) p (e .0) q (e .2); within = omega (arith, ran-within (drop p s) p begin (e .0) q (e .2) .1, length-drop p s) }
+    record { m = e .0; means = e .1; runs = e .2; past = begin-past (drop p s) p (e .0) q (e .2); within =
+        omega (arith, ran-within (drop p s) p begin (e .0) q (e .2) .1, length-drop p s) }
 numeric-says s p h (Refused e) k = tells-refused (k .tells)

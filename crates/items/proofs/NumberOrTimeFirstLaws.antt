@@ -43,13 +43,16 @@ unfolding ran wordScan
 word-ran n [] i [] = refl
 word-ran n [] i (a ∷ l) = go (eqb textEnd a)
   where
-    go : (x : Bool) → goesOn scan i (λ s. unended) (cond x (takes (word l n)) (breaks (NotGrammar i))) ≡ withNumber n (goesOn wordScan i (λ s. unended) (cond x (takes l) (breaks (NotGrammar i))))
+    go : (x : Bool) → goesOn scan i (λ s. unended) (cond x (takes (word l n)) (breaks (NotGrammar i)))
+        ≡ withNumber n (goesOn wordScan i (λ s. unended) (cond x (takes l) (breaks (NotGrammar i))))
     go true = refl
     go false = refl
 word-ran n (b ∷ t) i [] = refl
 word-ran n (b ∷ t) i (a ∷ l) = go (word-ran n t (suc i) l) (eqb b a)
   where
-    go : ran scan (suc i) (word l n) t ≡ withNumber n (ran wordScan (suc i) l t) → (x : Bool) → goesOn scan i (λ s. ran scan (suc i) s t) (cond x (takes (word l n)) (breaks (NotGrammar i))) ≡ withNumber n (goesOn wordScan i (λ s. ran wordScan (suc i) s t) (cond x (takes l) (breaks (NotGrammar i))))
+    go : ran scan (suc i) (word l n) t ≡ withNumber n (ran wordScan (suc i) l t) → (x : Bool)
+        → goesOn scan i (λ s. ran scan (suc i) s t) (cond x (takes (word l n)) (breaks (NotGrammar i)))
+        ≡ withNumber n (goesOn wordScan i (λ s. ran wordScan (suc i) s t) (cond x (takes l) (breaks (NotGrammar i))))
     go e true = e
     go e false = refl
 
@@ -81,7 +84,8 @@ module _ (s : List ℕ) (q : ℕ) (g : Bool) (i : ℕ) where
   sign-none FstIs.other n p y z = refl
 
   module _ (h : i < length s) where
-    pub sign-other : Edge s i → (getD s i 0 ≡ ch "." → ⊥) → (getD s i 0 ≡ ch "N" → ⊥) → (getD s i 0 ≡ ch "I" → ⊥) → Reads s i (sign q g) (Refused (NotGrammar i))
+    pub sign-other : Edge s i → (getD s i 0 ≡ ch "." → ⊥) → (getD s i 0 ≡ ch "N" → ⊥) → (getD s i 0 ≡ ch "I" → ⊥)
+        → Reads s i (sign q g) (Refused (NotGrammar i))
     sign-other e p n j = let b = byte-in s i h in breaks-at (sign-none (fst-class (byteAt s i)) (edge-none e) (rw (← b) at p) (rw (← b) at n) (rw (← b) at j))
 
     pub sign-nought : (r : Scanned) → getD s i 0 ≡ ch "0" → Reads s (i + 1) (nought q g) r → Reads s i (sign q g) r
@@ -96,7 +100,8 @@ module _ (s : List ℕ) (q : ℕ) (g : Bool) (i : ℕ) where
     pub sign-infinity : (r : Scanned) → getD s i 0 ≡ ch "I" → Reads s (i + 1) (word (letters "nfinity") (Infinite g)) r → Reads s i (sign q g) r
     sign-infinity r e k = took (word (letters "nfinity") (Infinite g)) h (rw e) k
 
-    pub sign-digit : (a : Acc) → a .c ≡ 0 → a .over ≡ false → (r : Scanned) → ch "1" ≤ getD s i 0 → getD s i 0 ≤ ch "9" → From s a i (λ m. int q g m) r → Reads s i (sign q g) r
+    pub sign-digit : (a : Acc) → a .c ≡ 0 → a .over ≡ false → (r : Scanned) → ch "1" ≤ getD s i 0 → getD s i 0 ≤ ch "9" → From s a i (λ m. int q g m) r
+        → Reads s i (sign q g) r
     sign-digit a c o r l u t =
         let b = byte-in s i h in
         same (int q g 0) (rw (b, fst-digit (getD s i 0) (record { low = l; high = u }), num-digit (getD s i 0) (omega arith))) (t .reads 0 (holds-none a c o))

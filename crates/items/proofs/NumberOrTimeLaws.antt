@@ -54,7 +54,8 @@ ran-end : (s : List ℕ) (i : ℕ) (st : St) → length s ≤ i → ran scan i s
 unfolding ran
 ran-end s i st h = rw (drop-of-length-le s h)
 
-ran-at : (s : List ℕ) (i : ℕ) (st : St) → i < length s → ran scan i st (drop i s) ≡ goesOn scan i (λ t. ran scan (suc i) t (drop (suc i) s)) (scan i st (getD s i 0))
+ran-at : (s : List ℕ) (i : ℕ) (st : St) → i < length s → ran scan i st (drop i s)
+    ≡ goesOn scan i (λ t. ran scan (suc i) t (drop (suc i) s)) (scan i st (getD s i 0))
 unfolding ran
 ran-at s i st h = rw (drop-cons s i 0)
 

@@ -20,7 +20,8 @@ use Rattle.machine.specs.Numeric.{St, scan, dig, begin, int, both, field, hexMa
 use Rattle.machine.proofs.Runs.{NoDigit}
 use Rattle.machine.proofs.Numeric.Rows.{NumIs, num-class, num-digit, fst-digit}
 use Rattle.items.specs.Between.Places.{byteAt}
-use Rattle.items.specs.Between.NumberOrTime.{Reads, IsDigit, Edge, Holds, Span, PlainSays, TimelySays, Ready, Onto, lenOf, First, FewSays, LeadSays, Marks, Plainly}
+use Rattle.items.specs.Between.NumberOrTime.{Reads, IsDigit, Edge, Holds, Span, PlainSays, TimelySays, Ready, Onto, lenOf, First, FewSays, LeadSays,
+    Marks, Plainly}
 use Rattle.items.specs.declared.number.Acc.{Acc}
 use Rattle.items.specs.declared.number.Plain.{Plain}
 use Rattle.items.specs.declared.number_or_time.Few.{Few}
@@ -55,7 +56,8 @@ begin-digit q b i = go (eqb b (ch "0")) refl
     go true e = let f : b ≡ ch "0" = eqb-true b (ch "0") e in rw f
     go false e = let f = eqb-false b (ch "0") e in rw (fst-digit b (omega arith)) (ap (λ (x : ℕ). takes (both q d1 false x)) (zero-add (b - ch "0")))
 
-pub among-start : (s : List ℕ) (q : ℕ) (a x : Acc) → q < length s → IsDigit (getD s q 0) → a .z ≡ 0 → x .z ≤ a .z + 1 → Holds 0 a → ((m : ℕ) → Holds m a → Holds (dig m (getD s q 0)) x) → Among s q x (getD s q 0 - ch "0") 1 (q + 1)
+pub among-start : (s : List ℕ) (q : ℕ) (a x : Acc) → q < length s → IsDigit (getD s q 0) → a .z ≡ 0 → x .z ≤ a .z + 1 → Holds 0 a
+    → ((m : ℕ) → Holds m a → Holds (dig m (getD s q 0)) x) → Among s q x (getD s q 0 - ch "0") 1 (q + 1)
 among-start s q a x h i zero-z z o f = record {
   some = omega arith;
   most = omega arith;
@@ -81,7 +83,8 @@ step (suc (suc zero)) k h p q z v b i = rw (num-digit b i)
 step (suc (suc (suc zero))) k h p q z v b i = rw (num-digit b i)
 step (suc (suc (suc (suc n)))) k h p q z v b i = absurd (omega arith)
 
-pub among-next : (s : List ℕ) (q : ℕ) (x y : Acc) (v n i : ℕ) → Among s q x v n i → n < 4 → i < length s → ch "0" ≤ getD s i 0 → getD s i 0 ≤ ch "9" → y .z ≤ x .z + 1 → ((m : ℕ) → Holds m x → Holds (dig m (getD s i 0)) y) → Among s q y (10 * v + (getD s i 0 - ch "0")) (n + 1) (i + 1)
+pub among-next : (s : List ℕ) (q : ℕ) (x y : Acc) (v n i : ℕ) → Among s q x v n i → n < 4 → i < length s → ch "0" ≤ getD s i 0 → getD s i 0 ≤ ch "9"
+    → y .z ≤ x .z + 1 → ((m : ℕ) → Holds m x → Holds (dig m (getD s i 0)) y) → Among s q y (10 * v + (getD s i 0 - ch "0")) (n + 1) (i + 1)
 among-next s q x y v n i a h k l u z f = record {
   some = omega arith;
   most = omega arith;
@@ -91,7 +94,8 @@ among-next s q x y v n i a h k l u z f = record {
   none = λ o. absurd (omega (arith, a .some));
   zeros = omega (arith, a .zeros);
   first = λ r t. a .first r (took (both q (lenOf (n + 1)) (eqb (getD s q 0) (ch "0")) (dig v (getD s i 0))) k
-      (subst (λ (j : ℕ). scan i (both q (lenOf n) (eqb (getD s q 0) (ch "0")) v) (getD s i 0) ≡ takes (both q (lenOf j) (eqb (getD s q 0) (ch "0")) (dig v (getD s i 0)))) (sym (add-one n))
+      (subst (λ (j : ℕ). scan i (both q (lenOf n) (eqb (getD s q 0) (ch "0")) v) (getD s i 0)
+          ≡ takes (both q (lenOf j) (eqb (getD s q 0) (ch "0")) (dig v (getD s i 0)))) (sym (add-one n))
       (step n (a .some) h i q (eqb (getD s q 0) (ch "0")) v (getD s i 0) (omega arith))) t);
   holds = f v (a .holds);
 }
@@ -161,10 +165,13 @@ ended-run n b h (inr i) = i
 
 apart : (n b : ℕ) → 1 ≤ n → n ≤ 4 → (n ≡ 4) ⊎ NoDigit b → (n ≡ 2 → b ≡ ch ":" → ⊥) → (n ≡ 4 → b ≡ ch "-" → ⊥) → Apart (lenOf n) b
 apart zero b l u e x y = absurd (omega arith)
-apart (suc zero) b l u e x y = record { digit = λ k. ended-run 1 b (omega arith) e; colon = λ k. let z : _≡_ {A = ℕ} 0 1 = cc in absurd (omega arith); dash = λ k. absurd (d1-4 k) }
+apart (suc zero) b l u e x y = record { digit = λ k. ended-run 1 b (omega arith) e; colon = λ k. let z : _≡_ {A = ℕ} 0 1 = cc in absurd (omega arith); dash =
+    λ k. absurd (d1-4 k) }
 apart (suc (suc zero)) b l u e x y = record { digit = λ k. ended-run 2 b (omega arith) e; colon = λ k. x refl; dash = λ k. absurd (d2-4 k) }
-apart (suc (suc (suc zero))) b l u e x y = record { digit = λ k. ended-run 3 b (omega arith) e; colon = λ k. let z : _≡_ {A = ℕ} 0 1 = cc in absurd (omega arith); dash = λ k. absurd (d3-4 k) }
-apart (suc (suc (suc (suc n)))) b l u e x y = record { digit = λ k. absurd (k refl); colon = λ k. let z : _≡_ {A = ℕ} 0 1 = cc in absurd (omega arith); dash = λ k. y (omega arith) }
+apart (suc (suc (suc zero))) b l u e x y = record { digit = λ k. ended-run 3 b (omega arith) e; colon = λ k. let z : _≡_ {A = ℕ} 0 1 = cc in
+    absurd (omega arith); dash = λ k. absurd (d3-4 k) }
+apart (suc (suc (suc (suc n)))) b l u e x y = record { digit = λ k. absurd (k refl); colon = λ k. let z : _≡_ {A = ℕ} 0 1 = cc in absurd (omega arith); dash =
+    λ k. y (omega arith) }
 
 not-number : (n : ℕ) → 1 < n → (p q v b : ℕ) (c : S.Num) → S.asNumber p q (lenOf n) true v b c ≡ breaks (NotGrammar p)
 not-number zero h p q v b c = absurd (omega arith)
@@ -192,9 +199,11 @@ module _ (s : List ℕ) (q : ℕ) (w : Few) (f : FewSays s q w) (o : Follows s q
   off = apart (w .n) (byteAt s (w .at)) (f .some) (f .most) edged (o .colon) (o .dash)
 
   whole : eqb (getD s q 0) (ch "0") ≡ false → Onto s q begin (w .at) (int q false (w .v))
-  whole e = λ r k. f .first r (rw e (same (int q false (w .v)) (as-number (lenOf (w .n)) false (w .at) q (w .v) (num-class (byteAt s (w .at))) off ∙ plain (lenOf (w .n))) k))
+  whole e = λ r k. f .first r (rw e (same (int q false (w .v)) (as-number (lenOf (w .n)) false (w .at) q (w .v) (num-class (byteAt s (w .at))) off ∙ plain
+      (lenOf (w .n))) k))
     where
-      plain : (k : Len) → S.asNumber (w .at) q k false (w .v) (byteAt s (w .at)) (numOf (byteAt s (w .at))) ≡ scan (w .at) (int q false (w .v)) (byteAt s (w .at))
+      plain : (k : Len) → S.asNumber (w .at) q k false (w .v) (byteAt s (w .at)) (numOf (byteAt s (w .at)))
+          ≡ scan (w .at) (int q false (w .v)) (byteAt s (w .at))
       plain d1 = refl
       plain d2 = refl
       plain d3 = refl
@@ -205,12 +214,15 @@ module _ (s : List ℕ) (q : ℕ) (w : Few) (f : FewSays s q w) (o : Follows s q
       let v : w .v ≡ 0 = f .none e d in
       let j : Apart d1 (byteAt s (w .at)) = subst (λ (n : ℕ). Apart (lenOf n) (byteAt s (w .at))) e off in
       f .first r (rw (eq-eqb (getD s q 0) (ch "0") d, e)
-      (same (int q false (w .v)) (as-number d1 true (w .at) q (w .v) (num-class (byteAt s (w .at))) j ∙ as-nought q (num-class (byteAt s (w .at))) (j .digit d1-4) (o .small-x e d) (o .large-x e d) ∙ ap (λ (x : ℕ). S.onInt q false x (byteAt s (w .at)) (numOf (byteAt s (w .at)))) (sym v)) k))
+      (same (int q false (w .v)) (as-number d1 true (w .at) q (w .v) (num-class (byteAt s (w .at))) j
+          ∙ as-nought q (num-class (byteAt s (w .at))) (j .digit d1-4) (o .small-x e d) (o .large-x e d)
+          ∙ ap (λ (x : ℕ). S.onInt q false x (byteAt s (w .at)) (numOf (byteAt s (w .at)))) (sym v)) k))
 
   nothing : getD s q 0 ≡ ch "0" → 1 < w .n → Reads s q begin (Refused (NotGrammar (w .at)))
   nothing d h =
       f .first _ (rw (eq-eqb (getD s q 0) (ch "0") d)
-      (breaks-at (as-number (lenOf (w .n)) true (w .at) q (w .v) (num-class (byteAt s (w .at))) off ∙ not-number (w .n) h (w .at) q (w .v) (byteAt s (w .at)) (numOf (byteAt s (w .at))))))
+      (breaks-at (as-number (lenOf (w .n)) true (w .at) q (w .v) (num-class (byteAt s (w .at))) off
+          ∙ not-number (w .n) h (w .at) q (w .v) (byteAt s (w .at)) (numOf (byteAt s (w .at))))))
 
   module _ (short : length s ≤ textLimit) where
     ready : Ready s (w .acc) 0 (w .at)
@@ -265,7 +277,8 @@ module _ (s : List ℕ) (q : ℕ) (w : Few) (f : FewSays s q w) (h : w .at < len
   pub lead-dash : r ≡ Mark.Dash → LeadSays s q (Lead.Year (w .v) (w .at + 1))
   lead-dash e = let g = go m e in (omega arith, g .0, g .1)
     where
-      go : {r : MarkOf.Mark} → Marks (w .n) (getD s q 0) (getD s (w .at) 0) r → r ≡ Mark.Dash → (w .v < 10000) × Onto s q begin (w .at + 1) (field q (month (w .v)) 2 0)
+      go : {r : MarkOf.Mark} → Marks (w .n) (getD s q 0) (getD s (w .at) 0) r → r ≡ Mark.Dash → (w .v < 10000) × Onto s q begin
+          (w .at + 1) (field q (month (w .v)) 2 0)
       go (Marks.colon a b) e = let z : _≡_ {A = ℕ} 0 1 = cc in absurd (omega arith)
       go (Marks.dash a b) e = let l : w .v < 10 ^ 4 = rw a at (f .small) in (omega arith, λ r k. from 4 a r (took (field q (month (w .v)) 2 0) h (rw b) k))
       go (Marks.letter a b c) e = let z : _≡_ {A = ℕ} 0 1 = cc in absurd (omega arith)
@@ -322,7 +335,8 @@ module _ (s : List ℕ) (q : ℕ) (n0 : getD s q 0 ≡ ch "0" → ⊥) where
   reaches (Span.next h l d) zero e = absurd (omega (arith, span-low h))
   reaches (Span.next {j = j} {w = w} h l d) (suc n) e = λ r k.
       let f : j ≡ q + n = omega arith in
-      reaches h n f r (took (after (suc n) q (dig w (getD s j 0))) l (grows n j q w (getD s j 0) d (λ z. let g : j ≡ q = omega arith in ((λ x. n0 (ap (λ (y : ℕ). getD s y 0) (sym g) ∙ x)), g, span-none h g)))
+      reaches h n f r (took (after (suc n) q (dig w (getD s j 0))) l (grows n j q w (getD s j 0) d
+          (λ z. let g : j ≡ q = omega arith in ((λ x. n0 (ap (λ (y : ℕ). getD s y 0) (sym g) ∙ x)), g, span-none h g)))
       (subst (λ (x : ℕ). Reads s x (after (suc n) q (dig w (getD s j 0))) r) (sym (add-one j)) k))
 
   module _ (w : Plain) (p : PlainSays s q 0 w) (d : IsDigit (getD s q 0)) (m : q < length s) (t : TimelySays s (w .at) false) where
@@ -354,18 +368,22 @@ module _ (s : List ℕ) (q : ℕ) (n0 : getD s q 0 ≡ ch "0" → ⊥) where
         go (inr x) = absurd (omega (arith, small n e h))
 
     -- the byte after up to four digits makes a number of them
-    turned : (n : ℕ) → w .at ≡ q + n → 1 ≤ n → n ≤ 4 → (r : Scanned) → Reads s (w .at) (int q false (w .v)) r → Reads s (w .at) (both q (lenOf n) false (w .v)) r
+    turned : (n : ℕ) → w .at ≡ q + n → 1 ≤ n → n ≤ 4 → (r : Scanned) → Reads s (w .at) (int q false (w .v)) r
+        → Reads s (w .at) (both q (lenOf n) false (w .v)) r
     turned n e l h r k =
-        same (int q false (w .v)) (as-number (lenOf n) false (w .at) q (w .v) (num-class (byteAt s (w .at))) (apart n (byteAt s (w .at)) l h (inr (ended n e h)) (λ x y. t .0 y) (λ x y. t .1 y)) ∙ plain (lenOf n)) k
+        same (int q false (w .v)) (as-number (lenOf n) false (w .at) q (w .v) (num-class (byteAt s (w .at)))
+            (apart n (byteAt s (w .at)) l h (inr (ended n e h)) (λ x y. t .0 y) (λ x y. t .1 y)) ∙ plain (lenOf n)) k
       where
-        plain : (k : Len) → S.asNumber (w .at) q k false (w .v) (byteAt s (w .at)) (numOf (byteAt s (w .at))) ≡ scan (w .at) (int q false (w .v)) (byteAt s (w .at))
+        plain : (k : Len) → S.asNumber (w .at) q k false (w .v) (byteAt s (w .at)) (numOf (byteAt s (w .at)))
+            ≡ scan (w .at) (int q false (w .v)) (byteAt s (w .at))
         plain d1 = refl
         plain d2 = refl
         plain d3 = refl
         plain d4 = refl
 
     pub plain-leads : Onto s q begin (w .at) (int q false (w .v))
-    plain-leads = λ r k. let e : w .at ≡ q + (w .at - q) = omega (arith, p .low) in reaches (p .span) (w .at - q) e r (go (w .at - q) e (omega (arith, some)) r k)
+    plain-leads = λ r k. let e : w .at ≡ q + (w .at - q) = omega (arith, p .low) in
+        reaches (p .span) (w .at - q) e r (go (w .at - q) e (omega (arith, some)) r k)
       where
         go : (n : ℕ) → w .at ≡ q + n → 1 ≤ n → (r : Scanned) → Reads s (w .at) (int q false (w .v)) r → Reads s (w .at) (after n q (w .v)) r
         go zero e h r k = absurd (omega arith)
@@ -376,7 +394,8 @@ module _ (s : List ℕ) (q : ℕ) (n0 : getD s q 0 ≡ ch "0" → ⊥) where
         go (suc (suc (suc (suc (suc n))))) e h r k = k
 
     pub plain-small : w .v < 10 ^ w .at
-    plain-small = omega (arith, span-small 0 (p .span) (omega arith), pow-le-pow-right {n = 10} (omega arith) {i = 0 + (w .at - q)} {j = w .at} (omega (arith, p .low)))
+    plain-small = omega (arith, span-small 0 (p .span) (omega arith), pow-le-pow-right {n = 10} (omega arith) {i = 0 + (w .at - q)} {j = w .at}
+        (omega (arith, p .low)))
 
 pub timely-over : (s : List ℕ) (at : ℕ) → length s ≤ at → TimelySays s at false
 timely-over s at h = let e = byte-out s at h in ((λ f. omega arith), (λ f. omega arith))

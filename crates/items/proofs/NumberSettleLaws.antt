@@ -101,7 +101,8 @@ module _ (q : ℕ) (g : Bool) (a : Acc) (up dn at : ℕ) where
   refuses : ((m : ℕ) → Holds m a → settle q g m up dn ≡ breaks (BadNumber q)) → Settles q g a up dn at (Refused (BadNumber q))
   refuses f = record { closes = λ m k. rw (f m k) (record { tells = Tells.refused }) }
 
-  gives : (c : ℕ) (p p′ : ℤ) (r : Scanned) → r ≡ Item (Item.Number (Finite g c p′)) at → p′ ≡ p → ((m : ℕ) → Holds m a → settle q g m up dn ≡ finite g c p) → Settles q g a up dn at r
+  gives : (c : ℕ) (p p′ : ℤ) (r : Scanned) → r ≡ Item (Item.Number (Finite g c p′)) at → p′ ≡ p → ((m : ℕ) → Holds m a → settle q g m up dn ≡ finite g c p)
+      → Settles q g a up dn at r
   gives c p p′ r i e f = record { closes = λ m k. rw (f m k, i, e) (record { tells = Tells.item Means.number }) }
 
   pub settles-over : a .over ≡ true → Settles q g a up dn at (Refused (BadNumber q))
@@ -118,14 +119,17 @@ module _ (q : ℕ) (g : Bool) (a : Acc) (up dn at : ℕ) where
       fits : (o : Res) → ranged q g (a .c) (a .z + up) dn ≡ o → (m : ℕ) → Holds m a → settle q g m up dn ≡ o
       fits o h m k = of-fits q g m up dn (a .c) (a .z) n l (held m k) ∙ h
 
-      pub settles-up : (r : Scanned) (p : ℤ) → r ≡ Item (Item.Number (Finite g (a .c) p)) at → dn ≤ a .z + up → a .z + up - dn ≤ powerLimit → p ≡ pos (a .z + up - dn) → Settles q g a up dn at r
+      pub settles-up : (r : Scanned) (p : ℤ) → r ≡ Item (Item.Number (Finite g (a .c) p)) at → dn ≤ a .z + up → a .z + up - dn ≤ powerLimit → p
+          ≡ pos (a .z + up - dn) → Settles q g a up dn at r
       settles-up r p i h k f = gives (a .c) (pos (a .z + up - dn)) p r i f (fits _ (in-up q g (a .c) (a .z + up) dn h k))
 
       pub settles-high : dn ≤ a .z + up → powerLimit < a .z + up - dn → Settles q g a up dn at (Refused (BadNumber q))
       settles-high h k = refuses (fits _ (out-up q g (a .c) (a .z + up) dn h k))
 
-      pub settles-dn : (r : Scanned) (p : ℤ) → r ≡ Item (Item.Number (Finite g (a .c) p)) at → a .z + up < dn → dn - (a .z + up) ≤ powerLimit → p ≡ negℤ (pos (dn - (a .z + up))) → Settles q g a up dn at r
-      settles-dn r p i h k f = gives (a .c) (negsuc (dn - (a .z + up) - 1)) p r i (f ∙ neg-suc (dn - (a .z + up)) (omega arith)) (fits _ (in-dn q g (a .c) (a .z + up) dn h k))
+      pub settles-dn : (r : Scanned) (p : ℤ) → r ≡ Item (Item.Number (Finite g (a .c) p)) at → a .z + up < dn → dn - (a .z + up) ≤ powerLimit → p
+          ≡ negℤ (pos (dn - (a .z + up))) → Settles q g a up dn at r
+      settles-dn r p i h k f = gives (a .c) (negsuc (dn - (a .z + up) - 1)) p r i (f ∙ neg-suc (dn - (a .z + up)) (omega arith))
+          (fits _ (in-dn q g (a .c) (a .z + up) dn h k))
 
       pub settles-low : a .z + up < dn → powerLimit < dn - (a .z + up) → Settles q g a up dn at (Refused (BadNumber q))
       settles-low h k = refuses (fits _ (out-dn q g (a .c) (a .z + up) dn h k))
@@ -140,7 +144,8 @@ module _ (q : ℕ) (g : Bool) (m c z : ℕ) (l : c < coefficientLimit) (small : 
       go : (c ≡ 0) ⊎ (c % 10 ≡ 0 → ⊥) → settle q g m e dn ≡ settle q g m w dn
       go (inl n) = of-none q g m e dn c z n h ∙ sym (of-none q g m w dn c z n h)
       go (inr n) = let y : (c ≡ 0 → ⊥) = λ x. n (omega arith) in
-          of-fits q g m e dn c z y l h ∙ out-up q g c (z + e) dn (omega arith) (omega arith) ∙ sym (out-up q g c (z + w) dn (omega arith) (omega arith)) ∙ sym (of-fits q g m w dn c z y l h)
+          of-fits q g m e dn c z y l h ∙ out-up q g c (z + e) dn (omega arith) (omega arith) ∙ sym (out-up q g c (z + w) dn (omega arith) (omega arith))
+              ∙ sym (of-fits q g m w dn c z y l h)
 
   far-dn : (o : Bool) (e w : ℕ) → Held m c o z → 1000000000 ≤ e → 1000000000 ≤ w → settle q g m 0 e ≡ settle q g m 0 w
   far-dn true e w h i j = of-over q g m 0 e c z h ∙ sym (of-over q g m 0 w c z h)
@@ -149,7 +154,8 @@ module _ (q : ℕ) (g : Bool) (m c z : ℕ) (l : c < coefficientLimit) (small : 
       go : (c ≡ 0) ⊎ (c % 10 ≡ 0 → ⊥) → settle q g m 0 e ≡ settle q g m 0 w
       go (inl n) = of-none q g m 0 e c z n h ∙ sym (of-none q g m 0 w c z n h)
       go (inr n) = let y : (c ≡ 0 → ⊥) = λ x. n (omega arith) in
-          of-fits q g m 0 e c z y l h ∙ out-dn q g c (z + 0) e (omega arith) (omega arith) ∙ sym (out-dn q g c (z + 0) w (omega arith) (omega arith)) ∙ sym (of-fits q g m 0 w c z y l h)
+          of-fits q g m 0 e c z y l h ∙ out-dn q g c (z + 0) e (omega arith) (omega arith) ∙ sym (out-dn q g c (z + 0) w (omega arith) (omega arith))
+              ∙ sym (of-fits q g m 0 w c z y l h)
 
   pub capped-up : (o : Bool) (e w f : ℕ) → Held m c o z → Capped w e → f ≤ textLimit → settle q g m w f ≡ settle q g m e f
   capped-up o e w f h (inl k) i = ap (λ (x : ℕ). settle q g m x f) (sym k)

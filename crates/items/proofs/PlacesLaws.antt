@@ -43,7 +43,8 @@ module _ {S M : Type 0} (scan : ℕ → S → ℕ → Out S M) where
 
   module _ (base : ℕ) (s : List ℕ) where
     step : (c : S) (i : ℕ) → ranFrom scan base s c i ≡ goesOn scan (base + i) (after (base + i) (drop i s)) (scan (base + i) c (byteAt s i))
-    step c i = one-step (base + i) c (drop i s) ∙ ap (λ (b : ℕ). goesOn scan (base + i) (after (base + i) (drop i s)) (scan (base + i) c b)) (getD-drop i s 0 over ∙ ap (λ (n : ℕ). getD s n over) (add-zero i))
+    step c i = one-step (base + i) c (drop i s) ∙ ap (λ (b : ℕ). goesOn scan (base + i) (after (base + i) (drop i s)) (scan (base + i) c b))
+        (getD-drop i s 0 over ∙ ap (λ (n : ℕ). getD s n over) (add-zero i))
 
     -- by the byte at i, or the text's end
     pub goes-by : (c d : S) (i j : ℕ) → i < length s → j ≡ i + 1 → scan (base + i) c (byteAt s i) ≡ takes d → Goes scan base s c i d j

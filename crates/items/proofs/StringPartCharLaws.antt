@@ -20,7 +20,11 @@ use Rattle.items.proofs.PlacesLaws.{go, moves, alike, like, end}
 use Rattle.items.proofs.StringPartEscapeLaws.{encode-four}
 
 -- a high surrogate whose next byte is no backslash: what comes is as after a bad escape
-unpaired : (base : ℕ) (s : List ℕ) (i : ℕ) → i < length s → (getD s i 0 ≡ ch "\\" → ⊥) → (q : ℕ) (bad : S.Bad) (a w : ℕ) (acc : List ℕ) → Goes scan base s (body (mk q bad (half a w) acc)) i (body (mk q (first bad a) whole acc)) i
+unpaired : (base : ℕ) (s : List ℕ) (i : ℕ) → i < length s
+    →
+    (getD s i 0
+    ≡ ch
+    "\\" → ⊥) → (q : ℕ) (bad : S.Bad) (a w : ℕ) (acc : List ℕ) → Goes scan base s (body (mk q bad (half a w) acc)) i (body (mk q (first bad a) whole acc)) i
 unfolding scan onBody
 unpaired base s i l ne q bad a w acc = by (eqb (getD s i 0) q) refl
   where
@@ -33,7 +37,8 @@ unpaired base s i l ne q bad a w acc = by (eqb (getD s i 0) q) refl
 
 module _ (s : List ℕ) (at : ℕ) where
   pub char-code : (next c : ℕ) → Coded s at next c → Read s at next c
-  char-code next c t = record { goes = λ base q bad acc. t .goes base (mk q bad whole acc); room = t .room; past = t .past; within = t .within; small = t .small }
+  char-code next c t = record { goes = λ base q bad acc. t .goes base (mk q bad whole acc); room = t .room; past = t .past; within = t .within; small =
+      t .small }
 
   pub char-odd : (next : ℕ) → Spoilt s at next → Blamed s at next
   char-odd next t = record { goes = λ base q bad acc. t .goes base (mk q bad whole acc); past = t .past; within = t .within }
@@ -42,9 +47,11 @@ module _ (s : List ℕ) (at : ℕ) where
   char-break p t = record { ends = λ base q small bad acc. t .ends base (mk q bad whole acc); within = t .within }
 
   module _ (next w : ℕ) (t : Halved s at next w) where
-    alone-goes : (base q : ℕ) (bad : S.Bad) (acc : List ℕ) (d : Ctx) → alone (mk q bad whole acc) (base + at) w ≡ d → Goes scan base s (body (mk q bad whole acc)) at (body d) next
+    alone-goes : (base q : ℕ) (bad : S.Bad) (acc : List ℕ) (d : Ctx) → alone (mk q bad whole acc) (base + at) w ≡ d
+        → Goes scan base s (body (mk q bad whole acc)) at (body d) next
     unfolding unit
-    alone-goes base q bad acc d e = moves scan base s (body (mk q bad whole acc)) (body (unit (mk q bad whole acc) (base + at) w whole)) (body d) at next (t .goes base (mk q bad whole acc)) (ap body e)
+    alone-goes base q bad acc d e = moves scan base s (body (mk q bad whole acc)) (body (unit (mk q bad whole acc) (base + at) w whole)) (body d) at next
+        (t .goes base (mk q bad whole acc)) (ap body e)
 
     read : ((a q : ℕ) (bad : S.Bad) (acc : List ℕ) → alone (mk q bad whole acc) a w ≡ mk q bad whole (acc ++ encode w)) → Read s at next w
     read f = record {
@@ -80,21 +87,24 @@ module _ (s : List ℕ) (at : ℕ) where
       pub wait-end : length s ≤ next → Stopped s at next
       unfolding scan onBody plainByte
       wait-end l = record {
-        ends = λ base q small bad acc. waits base q bad acc ∙ end scan base s (body (mk q bad (half (base + at) w) acc)) (NotGrammar (base + next)) next l (let n : over ≡ q → ⊥ = λ e. omega arith in simp (ne-eqb over q n));
+        ends = λ base q small bad acc. waits base q bad acc ∙ end scan base s (body (mk q bad (half (base + at) w) acc)) (NotGrammar (base + next)) next l
+            (let n : over ≡ q → ⊥ = λ e. omega arith in simp (ne-eqb over q n));
         within = t .within;
       }
 
       pub wait-break : (p : ℕ) → Broken s next p → Stopped s at p
       wait-break p u = record { ends = λ base q small bad acc. waits base q bad acc ∙ u .ends base (mk q bad (half (base + at) w) acc); within = u .within }
 
-      blamed : ((base q : ℕ) (bad : S.Bad) (acc : List ℕ) → Goes scan base s (body (mk q bad (half (base + at) w) acc)) next (body (mk q (first bad (base + at)) whole acc)) next) → Blamed s at next
+      blamed : ((base q : ℕ) (bad : S.Bad) (acc : List ℕ) → Goes scan base s (body (mk q bad (half (base + at) w) acc)) next
+          (body (mk q (first bad (base + at)) whole acc)) next) → Blamed s at next
       blamed f = record { goes = λ base q bad acc. waits base q bad acc ∙ f base q bad acc; past = omega (arith, t .six); within = t .within }
 
       pub wait-other : next < length s → (getD s next 0 ≡ ch "\\" → ⊥) → Blamed s at next
       wait-other l ne = blamed (λ base q bad acc. unpaired base s next l ne q bad (base + at) w acc)
 
       pub wait-code : (n c : ℕ) → Coded s next n c → Blamed s at next
-      wait-code n c u = blamed (λ base q bad acc. u .goes base (mk q bad (half (base + at) w) acc) ∙ sym (u .goes base (mk q (first bad (base + at)) whole acc)))
+      wait-code n c u = blamed (λ base q bad acc. u .goes base (mk q bad (half (base + at) w) acc)
+          ∙ sym (u .goes base (mk q (first bad (base + at)) whole acc)))
 
       pub wait-odd : (n : ℕ) → Spoilt s next n → Blamed s at next
       wait-odd n u = blamed (λ base q bad acc. u .goes base (mk q bad (half (base + at) w) acc) ∙ sym (u .goes base (mk q (first bad (base + at)) whole acc)))
@@ -102,16 +112,21 @@ module _ (s : List ℕ) (at : ℕ) where
       module _ (n l : ℕ) (u : Halved s next n l) where
         pub wait-below : l < 0xDC00 → Blamed s at next
         unfolding unit alone
-        wait-below f = blamed (λ base q bad acc. (simp (lt-ltb _ _ f) at (u .goes base (mk q bad (half (base + at) w) acc))) ∙ sym (simp (lt-ltb _ _ f) at (u .goes base (mk q (first bad (base + at)) whole acc))))
+        wait-below f = blamed (λ base q bad acc. (simp (lt-ltb _ _ f) at (u .goes base (mk q bad (half (base + at) w) acc)))
+            ∙ sym (simp (lt-ltb _ _ f) at (u .goes base (mk q (first bad (base + at)) whole acc))))
 
         pub wait-above : 0xE000 ≤ l → Blamed s at next
         unfolding unit alone
-        wait-above f = let e : 0xDC00 ≤ l = omega arith in blamed (λ base q bad acc. (simp (le-ltb _ _ e, le-ltb _ _ f) at (u .goes base (mk q bad (half (base + at) w) acc))) ∙ sym (simp (le-ltb _ _ e, le-ltb _ _ f) at (u .goes base (mk q (first bad (base + at)) whole acc))))
+        wait-above f = let e : 0xDC00 ≤ l = omega arith in blamed (λ base q bad acc.
+            (simp (le-ltb _ _ e, le-ltb _ _ f) at (u .goes base (mk q bad (half (base + at) w) acc)))
+            ∙ sym (simp (le-ltb _ _ e, le-ltb _ _ f) at (u .goes base (mk q (first bad (base + at)) whole acc))))
 
         pub wait-pair : 0xDC00 ≤ l → l < 0xE000 → Read s at n (joined w l)
         unfolding unit
         wait-pair e f = record {
-          goes = λ base q bad acc. waits base q bad acc ∙ moves scan base s (body (mk q bad (half (base + at) w) acc)) (body (unit (mk q bad (half (base + at) w) acc) (base + next) l (half (base + at) w))) (body (mk q bad whole (acc ++ encode (joined w l)))) next n (u .goes base (mk q bad (half (base + at) w) acc)) (simp (le-ltb _ _ e, lt-ltb _ _ f));
+          goes = λ base q bad acc. waits base q bad acc ∙ moves scan base s (body (mk q bad (half (base + at) w) acc))
+              (body (unit (mk q bad (half (base + at) w) acc) (base + next) l (half (base + at) w))) (body (mk q bad whole (acc ++ encode (joined w l)))) next n
+              (u .goes base (mk q bad (half (base + at) w) acc)) (simp (le-ltb _ _ e, lt-ltb _ _ f));
           room = omega (arith, encode-four (joined w l), t .six, u .six);
           past = omega (arith, t .six, u .six);
           within = u .within;

@@ -90,7 +90,8 @@ module _ (s : List ℕ) (at : ℕ) (pre : (at + 2 < length s) × (getD s at 0 �
             module _ (lc : c < 16) where
               to3 : (base : ℕ) (k : Ctx) → Goes scan base s (body k) at (hex k (base + at) 0 (16 * (16 * a + b) + c)) (at + 5)
               unfolding hexed
-              to3 base k = to2 base k ∙ dig base s k (base + at) 1 (16 * a + b) (at + 4) (at + 5) (16 * (16 * a + b) + c) (omega arith) (omega arith) (omega arith)
+              to3 base k = to2 base k ∙ dig base s k (base + at) 1 (16 * a + b) (at + 4) (at + 5) (16 * (16 * a + b) + c) (omega arith) (omega arith)
+                  (omega arith)
 
               module _ (d : ℕ) (ed : d ≡ digitAt s (at + 5)) where
                 pub four3 : 16 ≤ d → Broken s at (at + 5)
@@ -102,7 +103,8 @@ module _ (s : List ℕ) (at : ℕ) (pre : (at + 2 < length s) × (getD s at 0 �
                 pub four4 : d < 16 → Halved s at (at + 6) (16 * (16 * (16 * a + b) + c) + d)
                 unfolding hexed
                 four4 ld = record {
-                  goes = λ base k. to3 base k ∙ dig base s k (base + at) 0 (16 * (16 * a + b) + c) (at + 5) (at + 6) (16 * (16 * (16 * a + b) + c) + d) (omega arith) (omega arith) (omega arith);
+                  goes = λ base k. to3 base k ∙ dig base s k (base + at) 0 (16 * (16 * a + b) + c) (at + 5) (at + 6) (16 * (16 * (16 * a + b) + c) + d)
+                      (omega arith) (omega arith) (omega arith);
                   six = refl;
                   within = omega (arith, digit-in s (at + 5) (omega arith));
                   small = omega arith;
@@ -179,7 +181,8 @@ module _ (s : List ℕ) (at p v : ℕ) (t : Braced s at p v) where
 
       coded : v ≤ 0x10FFFF → ((k : Ctx) (a : ℕ) → inBraces k a v ≡ give k (encode v)) → Coded s at (p + 1) v
       coded l f = record {
-        goes = λ base k. moves scan base s (body k) (body (inBraces k (base + at) (t .w))) (body (give k (encode v))) at (p + 1) (shut base k) (ap (λ (n : ℕ). body (inBraces k (base + at) n)) (like-small v (t .w) (t .like) l) ∙ ap body (f k (base + at)));
+        goes = λ base k. moves scan base s (body k) (body (inBraces k (base + at) (t .w))) (body (give k (encode v))) at (p + 1) (shut base k)
+            (ap (λ (n : ℕ). body (inBraces k (base + at) n)) (like-small v (t .w) (t .like) l) ∙ ap body (f k (base + at)));
         room = omega (arith, encode-four v, t .far);
         past = omega (arith, t .far);
         within = omega arith;
@@ -188,7 +191,8 @@ module _ (s : List ℕ) (at p v : ℕ) (t : Braced s at p v) where
 
       spoils : ((k : Ctx) (a : ℕ) → inBraces k a (t .w) ≡ blame k a) → Spoilt s at (p + 1)
       spoils f = record {
-        goes = λ base k. moves scan base s (body k) (body (inBraces k (base + at) (t .w))) (body (blame k (base + at))) at (p + 1) (shut base k) (ap body (f k (base + at)));
+        goes = λ base k. moves scan base s (body k) (body (inBraces k (base + at) (t .w))) (body (blame k (base + at))) at (p + 1) (shut base k)
+            (ap body (f k (base + at)));
         past = omega (arith, t .far);
         within = omega arith;
       }

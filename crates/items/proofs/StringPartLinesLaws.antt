@@ -32,7 +32,8 @@ module _ (s : List ℕ) (l : 2 < length s) where
   module _ (h : 3 < length s) where
     pub from-lf : getD s 3 0 ≡ ch "\n" → Begun s 4
     unfolding scan
-    from-lf e = record { goes = λ base q g. go scan base s (lines0 q) (lines q 0 []) 3 4 h refl (simp (eq-eqb _ _ e)); within = omega arith; past = omega arith }
+    from-lf e = record { goes = λ base q g. go scan base s (lines0 q) (lines q 0 []) 3 4 h refl (simp (eq-eqb _ _ e)); within = omega arith; past =
+        omega arith }
 
     module _ (n : getD s 3 0 ≡ ch "\n" → ⊥) where
       pub from-other : (getD s 3 0 ≡ ch "\r" → ⊥) → Begun s 3
@@ -46,19 +47,23 @@ module _ (s : List ℕ) (l : 2 < length s) where
 
         kept-cr : (base q : ℕ) → 0x20 < q → Goes scan base s (lines q 0 []) 3 (lines q 0 (letters "\r")) 4
         unfolding scan onLines lineByte
-        kept-cr base q g = go scan base s (lines q 0 []) (lines q 0 (letters "\r")) 3 4 h refl (rw e (let m : ch "\r" ≡ q → ⊥ = λ x. omega arith in simp (ne-eqb (ch "\r") q m)))
+        kept-cr base q g = go scan base s (lines q 0 []) (lines q 0 (letters "\r")) 3 4 h refl
+            (rw e (let m : ch "\r" ≡ q → ⊥ = λ x. omega arith in simp (ne-eqb (ch "\r") q m)))
 
         pub from-crlf : 4 < length s → getD s 4 0 ≡ ch "\n" → Begun s 5
         unfolding scan
-        from-crlf z f = record { goes = λ base q g. to-cr base q ∙ go scan base s (linesCR q) (lines q 0 []) 4 5 z refl (simp (eq-eqb _ _ f)); within = omega arith; past = omega arith }
+        from-crlf z f = record { goes = λ base q g. to-cr base q ∙ go scan base s (linesCR q) (lines q 0 []) 4 5 z refl (simp (eq-eqb _ _ f)); within =
+            omega arith; past = omega arith }
 
         pub from-cr-end : length s ≤ 4 → Begun s 3
         unfolding scan
-        from-cr-end z = begun3 (λ base q g. to-cr base q ∙ alike scan base s (linesCR q) (lines q 0 (letters "\r")) 4 (rw (byte-out s 4 z)) ∙ sym (kept-cr base q g))
+        from-cr-end z = begun3 (λ base q g. to-cr base q ∙ alike scan base s (linesCR q) (lines q 0 (letters "\r")) 4 (rw (byte-out s 4 z))
+            ∙ sym (kept-cr base q g))
 
         pub from-cr : 4 < length s → (getD s 4 0 ≡ ch "\n" → ⊥) → Begun s 3
         unfolding scan
-        from-cr z f = begun3 (λ base q g. to-cr base q ∙ like scan base s (linesCR q) (lines q 0 (letters "\r")) 4 z (simp (ne-eqb _ _ f)) ∙ sym (kept-cr base q g))
+        from-cr z f = begun3 (λ base q g. to-cr base q ∙ like scan base s (linesCR q) (lines q 0 (letters "\r")) 4 z (simp (ne-eqb _ _ f))
+            ∙ sym (kept-cr base q g))
 
 -- ---- the next three quotes
 
@@ -81,13 +86,15 @@ pub record Lining (s : List ℕ) (q i j n : ℕ) : Type 0 where
 
 module _ (s : List ℕ) (q from : ℕ) where
   pub lining-start : from ≤ length s → Lining s q from from 0
-  lining-start h = let z : from - from ≡ 0 = omega arith in record { acc = []; goes = λ base. refl; all = rw z; few = omega arith; behind = omega arith; within = h }
+  lining-start h = let z : from - from ≡ 0 = omega arith in record { acc = []; goes = λ base. refl; all = rw z; few = omega arith; behind = omega arith; within
+      = h }
 
   module _ (i n : ℕ) (t : Lining s q from i n) where
     pub lining-end : q < over → length s ≤ i → Breaks s q from i
     unfolding scan onLines lineByte
     lining-end small h = record {
-      ends = λ base. t .goes base ∙ end scan base s (lines q n (t .acc)) (NotGrammar (base + i)) i h (let m : over ≡ q → ⊥ = λ e. omega arith in simp (ne-eqb over q m));
+      ends = λ base. t .goes base ∙ end scan base s (lines q n (t .acc)) (NotGrammar (base + i)) i h
+          (let m : over ≡ q → ⊥ = λ e. omega arith in simp (ne-eqb over q m));
       within = t .within;
     }
 
@@ -110,14 +117,17 @@ module _ (s : List ℕ) (q from : ℕ) where
       module _ (m : getD s i 0 ≡ q → ⊥) where
         pub lining-cut : lineByte (getD s i 0) ≡ false → Breaks s q from i
         unfolding scan onLines
-        lining-cut e = record { ends = λ base. t .goes base ∙ halt scan base s (lines q n (t .acc)) (NotGrammar (base + i)) i h (simp (ne-eqb _ _ m, e)); within = t .within }
+        lining-cut e = record { ends = λ base. t .goes base ∙ halt scan base s (lines q n (t .acc)) (NotGrammar (base + i)) i h (simp (ne-eqb _ _ m, e)); within
+            = t .within }
 
         pub lining-other : lineByte (getD s i 0) ≡ true → Lining s q from (i + 1) 0
         unfolding scan onLines
         lining-other e = record {
           acc = t .acc ++ (replicate n q ++ (getD s i 0 ∷ []));
-          goes = λ base. t .goes base ∙ go scan base s (lines q n (t .acc)) (lines q 0 (t .acc ++ (replicate n q ++ (getD s i 0 ∷ [])))) i (i + 1) h refl (simp (ne-eqb _ _ m, e));
-          all = append-nil (t .acc ++ (replicate n q ++ (getD s i 0 ∷ []))) ∙ sym (append-assoc (t .acc) (replicate n q) (getD s i 0 ∷ [])) ∙ ap (λ (a : List ℕ). a ++ (getD s i 0 ∷ [])) (t .all) ∙ sym further;
+          goes = λ base. t .goes base ∙ go scan base s (lines q n (t .acc)) (lines q 0 (t .acc ++ (replicate n q ++ (getD s i 0 ∷ [])))) i (i + 1) h refl
+              (simp (ne-eqb _ _ m, e));
+          all = append-nil (t .acc ++ (replicate n q ++ (getD s i 0 ∷ []))) ∙ sym (append-assoc (t .acc) (replicate n q) (getD s i 0 ∷ []))
+              ∙ ap (λ (a : List ℕ). a ++ (getD s i 0 ∷ [])) (t .all) ∙ sym further;
           few = omega arith;
           behind = omega (arith, t .behind);
           within = omega arith;
@@ -128,8 +138,10 @@ module _ (s : List ℕ) (q from : ℕ) where
         unfolding scan onLines
         lining-quote m = record {
           acc = t .acc;
-          goes = λ base. t .goes base ∙ go scan base s (lines q n (t .acc)) (lines q (n + 1) (t .acc)) i (i + 1) h refl (simp (eq-eqb _ _ e, ne-eqb _ _ m, add-one));
-          all = rw (add-one n, one-more) (sym (append-assoc (t .acc) (replicate n q) (q ∷ [])) ∙ ap (λ (a : List ℕ). a ++ (q ∷ [])) (t .all) ∙ ap (λ (b : ℕ). take (i - from) (drop from s) ++ (b ∷ [])) (sym e) ∙ sym further);
+          goes = λ base. t .goes base ∙ go scan base s (lines q n (t .acc)) (lines q (n + 1) (t .acc)) i (i + 1) h refl
+              (simp (eq-eqb _ _ e, ne-eqb _ _ m, add-one));
+          all = rw (add-one n, one-more) (sym (append-assoc (t .acc) (replicate n q) (q ∷ [])) ∙ ap (λ (a : List ℕ). a ++ (q ∷ [])) (t .all)
+              ∙ ap (λ (b : ℕ). take (i - from) (drop from s) ++ (b ∷ [])) (sym e) ∙ sym further);
           few = omega (arith, t .few, m);
           behind = omega (arith, t .behind);
           within = omega arith;
@@ -142,9 +154,11 @@ module _ (s : List ℕ) (q from : ℕ) where
             let a : length (t .acc) ≡ i - 2 - from = omega (arith, k) in
             let b : i - 2 + 3 ≡ i + 1 = omega (arith, k) in
             let le : i - 2 - from ≤ i - from = omega arith in
-            let x : t .acc ≡ take (i - 2 - from) (drop from s) = sym (take-at (t .acc) (replicate n q) (i - 2 - from) a) ∙ ap (λ (y : List ℕ). take (i - 2 - from) y) (t .all) ∙ take-take (i - 2 - from) (i - from) (drop from s) le in
+            let x : t .acc ≡ take (i - 2 - from) (drop from s) = sym (take-at (t .acc) (replicate n q) (i - 2 - from) a)
+                ∙ ap (λ (y : List ℕ). take (i - 2 - from) y) (t .all) ∙ take-take (i - 2 - from) (i - from) (drop from s) le in
             record {
-              ends = λ base. rw (b, ← x) (t .goes base ∙ go scan base s (lines q n (t .acc)) (done (mk q fine whole (t .acc))) i (i + 1) h refl (simp (eq-eqb _ _ e, eq-eqb _ _ m)) ∙ stops-by scan base s (done (mk q fine whole (t .acc))) (t .acc) (i + 1) refl);
+              ends = λ base. rw (b, ← x) (t .goes base ∙ go scan base s (lines q n (t .acc)) (done (mk q fine whole (t .acc))) i (i + 1) h refl
+                  (simp (eq-eqb _ _ e, eq-eqb _ _ m)) ∙ stops-by scan base s (done (mk q fine whole (t .acc))) (t .acc) (i + 1) refl);
               behind = omega (arith, k);
               within = omega arith;
             }
@@ -155,7 +169,8 @@ module _ (s : List ℕ) (q at : ℕ) (entry : List ℕ) (g : 0x20 < q) (i : ℕ)
   pub three-cut : (p : ℕ) → Breaks s q i p → ThreeSays s q at entry entry (Part.NotGrammar p)
   three-cut p t = (λ base. f .goes base q g ∙ t .ends base, t .within)
 
-  pub three-last : (e : ℕ) → Closes s q i e → (exit : List ℕ) → exit ≡ sets entry at (take (e - i) (drop i s)) → ThreeSays s q at entry exit (Closed (e - i) (e + 3))
+  pub three-last : (e : ℕ) → Closes s q i e → (exit : List ℕ) → exit ≡ sets entry at (take (e - i) (drop i s))
+      → ThreeSays s q at entry exit (Closed (e - i) (e + 3))
   three-last e t exit w = record {
     value = take (e - i) (drop i s);
     runs = λ base. f .goes base q g ∙ t .ends base;

@@ -67,7 +67,8 @@ module _ (s : List ℕ) (q from : ℕ) where
         let m : from + (at - from) ≡ at = omega (arith, t .behind) in
         let k : at - from < length (drop from s) = simp length-drop (omega (arith, t .behind)) in
         record {
-          goes = λ base bad acc. t .goes base bad acc ∙ go scan base s (body (mk q bad whole (acc ++ take (at - from) (drop from s)))) (body (mk q bad whole (acc ++ take (at + 1 - from) (drop from s)))) at (at + 1) h refl
+          goes = λ base bad acc. t .goes base bad acc ∙ go scan base s (body (mk q bad whole (acc ++ take (at - from) (drop from s))))
+              (body (mk q bad whole (acc ++ take (at + 1 - from) (drop from s)))) at (at + 1) h refl
               (simp (ne-eqb _ _ a, ne-eqb _ _ b, le-ltb _ _ c, lt-ltb _ _ d) (rw (n, take-suc (drop from s) (at - from) 0 k, getD-drop, m, append-assoc)));
           behind = omega (arith, t .behind);
           within = omega arith;
@@ -106,7 +107,8 @@ pub record Round (s : List ℕ) (q at : ℕ) (entry store : List ℕ) (i out bad
   pub low : bad ≤ i
 
 pub round-start : (s : List ℕ) (q at : ℕ) (entry : List ℕ) → 0 < length s → Round s q at entry entry 1 at 0
-round-start s q at entry h = record { acc = []; goes = λ base. refl; stored = refl; counted = omega arith; room = omega arith; past = omega arith; within = omega arith; low = omega arith }
+round-start s q at entry h = record { acc = []; goes = λ base. refl; stored = refl; counted = omega arith; room = omega arith; past = omega arith; within =
+    omega arith; low = omega arith }
 
 module _ {s : List ℕ} {q at : ℕ} {entry store : List ℕ} {i out bad : ℕ} (t : Round s q at entry store i out bad) where
   pub round-plain : {e : ℕ} → Passed s q i e → {new : List ℕ} → new ≡ sets store out (take (e - i) (drop i s)) → Round s q at entry new e (out + (e - i)) bad
@@ -128,12 +130,14 @@ module _ {s : List ℕ} {q at : ℕ} {entry store : List ℕ} {i out bad : ℕ} 
 
   pub round-end : q < over → length s ≤ i → InnerSays s q at entry store (Part.NotGrammar i)
   unfolding scan onBody plainByte
-  round-end small h = (λ base. t .goes base ∙ end scan base s (body (mk q (marked base bad) whole (t .acc))) (NotGrammar (base + i)) i h (let n : over ≡ q → ⊥ = λ e. omega arith in simp (ne-eqb over q n)), t .within)
+  round-end small h = (λ base. t .goes base ∙ end scan base s (body (mk q (marked base bad) whole (t .acc))) (NotGrammar (base + i)) i h
+      (let n : over ≡ q → ⊥ = λ e. omega arith in simp (ne-eqb over q n)), t .within)
 
   pub round-lone : {next : ℕ} → Blamed s i next → {b : ℕ} → Earlier bad i b → Round s q at entry store next out b
   round-lone {next} u e = record {
     acc = t .acc;
-    goes = λ base. t .goes base ∙ u .goes base q (marked base bad) (t .acc) ∙ ap (λ (x : S.Bad). ranFrom scan base s (body (mk q x whole (t .acc))) next) (sym (e .marks base (t .past)));
+    goes = λ base. t .goes base ∙ u .goes base q (marked base bad) (t .acc) ∙ ap (λ (x : S.Bad). ranFrom scan base s (body (mk q x whole (t .acc))) next)
+        (sym (e .marks base (t .past)));
     stored = t .stored;
     counted = t .counted;
     room = omega (arith, t .room, u .past);
@@ -142,7 +146,8 @@ module _ {s : List ℕ} {q at : ℕ} {entry store : List ℕ} {i out bad : ℕ} 
     low = e .low next (omega (arith, t .low, u .past)) (omega (arith, u .past));
   }
 
-  pub round-char : {next c : ℕ} → Read s i next c → {o : ℕ} → o ≡ out + length (encode c) → {new : List ℕ} → new ≡ sets store out (encode c) → Round s q at entry new next o bad
+  pub round-char : {next c : ℕ} → Read s i next c → {o : ℕ} → o ≡ out + length (encode c) → {new : List ℕ} → new ≡ sets store out (encode c)
+      → Round s q at entry new next o bad
   round-char {c = c} u f w = record {
     acc = t .acc ++ encode c;
     goes = λ base. t .goes base ∙ u .goes base q (marked base bad) (t .acc);
@@ -159,16 +164,19 @@ module _ {s : List ℕ} {q at : ℕ} {entry store : List ℕ} {i out bad : ℕ} 
     unfolding scan onBody plain
     round-wrong e m =
         let f : plainByte (getD s i 0) ≡ false = simp (byte-in s i h, ne-eqb _ _ n, ne-eqb _ _ m) at e in
-        (λ base. t .goes base ∙ halt scan base s (body (mk q (marked base bad) whole (t .acc))) (NotGrammar (base + i)) i h (simp (ne-eqb _ _ n, ne-eqb _ _ m, f)), t .within)
+        (λ base. t .goes base ∙ halt scan base s (body (mk q (marked base bad) whole (t .acc))) (NotGrammar (base + i)) i h
+            (simp (ne-eqb _ _ n, ne-eqb _ _ m, f)), t .within)
 
     module _ (e : getD s i 0 ≡ q) where
       shut : (base : ℕ) → Goes scan base s (body (mk q fine whole [])) 1 (done (mk q (marked base bad) whole (t .acc))) (i + 1)
       unfolding scan onBody
-      shut base = t .goes base ∙ go scan base s (body (mk q (marked base bad) whole (t .acc))) (done (mk q (marked base bad) whole (t .acc))) i (i + 1) h refl (simp (ne-eqb _ _ n, eq-eqb _ _ e))
+      shut base = t .goes base ∙ go scan base s (body (mk q (marked base bad) whole (t .acc))) (done (mk q (marked base bad) whole (t .acc))) i (i + 1) h refl
+          (simp (ne-eqb _ _ n, eq-eqb _ _ e))
 
       pub round-bad : (bad ≡ 0 → ⊥) → InnerSays s q at entry store (Part.BadEscape bad)
       unfolding scan
-      round-bad z = (λ base. shut base ∙ breaks-by scan base s (done (mk q (marked base bad) whole (t .acc))) (BadEscape (base + bad)) (i + 1) (by base bad z), omega (arith, t .low, t .within))
+      round-bad z = (λ base. shut base ∙ breaks-by scan base s (done (mk q (marked base bad) whole (t .acc))) (BadEscape (base + bad)) (i + 1) (by base bad z),
+          omega (arith, t .low, t .within))
         where
           by : (base b : ℕ) → (b ≡ 0 → ⊥) → S.close (t .acc) (marked base b) ≡ breaks (BadEscape (base + b))
           by base zero z = absurd (z refl)
@@ -188,8 +196,10 @@ module _ {s : List ℕ} {q at : ℕ} {entry store : List ℕ} {i out bad : ℕ} 
 -- ---- how a part opens
 
 -- what is said of one run is said of an equal one
-pub says-as : (n at : ℕ) (entry exit : List ℕ) (R Q : ℕ → Ran (List ℕ)) → ((base : ℕ) → R base ≡ Q base) → (r : Part) → Says Q n at entry exit r → Says R n at entry exit r
-says-as n at entry exit R Q e (Closed bytes taken) t = record { value = t .value; runs = λ base. e base ∙ t .runs base; counted = t .counted; stored = t .stored; within = t .within; fewer = t .fewer }
+pub says-as : (n at : ℕ) (entry exit : List ℕ) (R Q : ℕ → Ran (List ℕ)) → ((base : ℕ) → R base ≡ Q base) → (r : Part) → Says Q n at entry exit r
+    → Says R n at entry exit r
+says-as n at entry exit R Q e (Closed bytes taken) t = record { value = t .value; runs = λ base. e base ∙ t .runs base; counted = t .counted; stored =
+    t .stored; within = t .within; fewer = t .fewer }
 says-as n at entry exit R Q e (Part.BadEscape p) t = (λ base. e base ∙ t .0 base, t .1)
 says-as n at entry exit R Q e (Part.NotGrammar p) t = (λ base. e base ∙ t .0 base, t .1)
 
@@ -209,20 +219,25 @@ module _ (s : List ℕ) (at : ℕ) (entry : List ℕ) where
     opens : (q : ℕ) → getD s 0 0 ≡ q → (q ≡ ch "\"") ⊎ (q ≡ ch "'") → (base : ℕ) → Goes scan base s start 0 (one q) 1
     unfolding scan
     opens q e (inl f) base = go scan base s start (one q) 0 1 (omega arith) refl (simp (eq-eqb _ _ (e ∙ f)) (cc))
-    opens q e (inr f) base = go scan base s start (one q) 0 1 (omega arith) refl (let n : getD s 0 0 ≡ ch "\"" → ⊥ = λ x. omega arith in simp (ne-eqb _ _ n, eq-eqb _ _ (e ∙ f)) (cc))
+    opens q e (inr f) base = go scan base s start (one q) 0 1 (omega arith) refl
+        (let n : getD s 0 0 ≡ ch "\"" → ⊥ = λ x. omega arith in simp (ne-eqb _ _ n, eq-eqb _ _ (e ∙ f)) (cc))
 
-    pub says-opened : (q : ℕ) → getD s 0 0 ≡ q → (q ≡ ch "\"") ⊎ (q ≡ ch "'") → (exit : List ℕ) (r : Part) → OneSays s q at entry exit r → PartSays s at entry exit r
-    says-opened q e f exit r t = says-as (length s) at entry exit (λ base. ran scan base begin s) (λ base. ranFrom scan base s (one q) 1) (λ base. at-zero base ∙ opens q e f base) r t
+    pub says-opened : (q : ℕ) → getD s 0 0 ≡ q → (q ≡ ch "\"") ⊎ (q ≡ ch "'") → (exit : List ℕ) (r : Part) → OneSays s q at entry exit r
+        → PartSays s at entry exit r
+    says-opened q e f exit r t = says-as (length s) at entry exit (λ base. ran scan base begin s) (λ base. ranFrom scan base s (one q) 1)
+        (λ base. at-zero base ∙ opens q e f base) r t
 
   module _ (q : ℕ) (small : q < over) (h0 : 0 < length s) where
     pub one-end : length s < 2 → OneSays s q at entry entry (Part.NotGrammar 1)
     unfolding scan onBody plainByte
-    one-end h = (λ base. end scan base s (one q) (NotGrammar (base + 1)) 1 (omega arith) (let n : over ≡ q → ⊥ = λ e. omega arith in simp (ne-eqb over q n)), omega arith)
+    one-end h = (λ base. end scan base s (one q) (NotGrammar (base + 1)) 1 (omega arith) (let n : over ≡ q → ⊥ = λ e. omega arith in simp (ne-eqb over q n)),
+        omega arith)
 
     module _ (h1 : 2 ≤ length s) where
       pub one-body : (getD s 1 0 ≡ q → ⊥) → (exit : List ℕ) (r : Part) → InnerSays s q at entry exit r → OneSays s q at entry exit r
       unfolding scan
-      one-body n exit r t = says-as (length s) at entry exit (λ base. ranFrom scan base s (one q) 1) (λ base. ranFrom scan base s (body (mk q fine whole [])) 1) (λ base. like scan base s (one q) (body (mk q fine whole [])) 1 (omega arith) (simp (ne-eqb _ _ n))) r t
+      one-body n exit r t = says-as (length s) at entry exit (λ base. ranFrom scan base s (one q) 1) (λ base. ranFrom scan base s (body (mk q fine whole [])) 1)
+          (λ base. like scan base s (one q) (body (mk q fine whole [])) 1 (omega arith) (simp (ne-eqb _ _ n))) r t
 
       module _ (e1 : getD s 1 0 ≡ q) where
         to-two : (base : ℕ) → Goes scan base s (one q) 1 (two q) 2
@@ -250,4 +265,5 @@ module _ (s : List ℕ) (at : ℕ) (entry : List ℕ) where
 
           pub two-three : getD s 2 0 ≡ q → (exit : List ℕ) (r : Part) → ThreeSays s q at entry exit r → OneSays s q at entry exit r
           unfolding scan
-          two-three e exit r t = says-as (length s) at entry exit (λ base. ranFrom scan base s (one q) 1) (λ base. ranFrom scan base s (lines0 q) 3) (λ base. to-two base ∙ go scan base s (two q) (lines0 q) 2 3 (omega arith) refl (simp (eq-eqb _ _ e))) r t
+          two-three e exit r t = says-as (length s) at entry exit (λ base. ranFrom scan base s (one q) 1) (λ base. ranFrom scan base s (lines0 q) 3)
+              (λ base. to-two base ∙ go scan base s (two q) (lines0 q) 2 3 (omega arith) refl (simp (eq-eqb _ _ e))) r t

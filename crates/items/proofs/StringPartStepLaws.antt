@@ -28,15 +28,19 @@ module _ (base : ℕ) (s : List ℕ) where
     -- a digit
     pub dig : (n v p j w : ℕ) → digitAt s p < 16 → j ≡ p + 1 → w ≡ 16 * v + digitAt s p → Goes scan base s (hex k a n v) p (hexed k a n w) j
     unfolding scan onHex
-    dig n v p j w h e x = goes-by scan base s (hex k a n v) (hexed k a n w) p j (digit-in s p h) e (rw (lt-ltb _ _ h) (ap (λ (y : ℕ). takes (hexed k a n y)) (sym x)))
+    dig n v p j w h e x = goes-by scan base s (hex k a n v) (hexed k a n w) p j (digit-in s p h) e
+        (rw (lt-ltb _ _ h) (ap (λ (y : ℕ). takes (hexed k a n y)) (sym x)))
 
     pub dig0 : (p j w : ℕ) → digitAt s p < 16 → j ≡ p + 1 → w ≡ digitAt s p → Goes scan base s (brace0 k a) p (brace k a w) j
     unfolding scan onBrace
-    dig0 p j w h e x = goes-by scan base s (brace0 k a) (brace k a w) p j (digit-in s p h) e (rw (lt-ltb _ _ h) (ap (λ (y : ℕ). takes (brace k a y)) (let z : 16 * 0 + digitAt s p ≡ w = omega arith in z)))
+    dig0 p j w h e x = goes-by scan base s (brace0 k a) (brace k a w) p j (digit-in s p h) e
+        (rw (lt-ltb _ _ h) (ap (λ (y : ℕ). takes (brace k a y)) (let z : 16 * 0 + digitAt s p ≡ w = omega arith in z)))
 
-    pub dig1 : (v p j w : ℕ) → (byteAt s p ≡ ch "}" → ⊥) → digitAt s p < 16 → j ≡ p + 1 → w ≡ 16 * v + digitAt s p → Goes scan base s (brace k a v) p (brace k a w) j
+    pub dig1 : (v p j w : ℕ) → (byteAt s p ≡ ch "}" → ⊥) → digitAt s p < 16 → j ≡ p + 1 → w ≡ 16 * v + digitAt s p
+        → Goes scan base s (brace k a v) p (brace k a w) j
     unfolding scan onBrace
-    dig1 v p j w ne h e x = goes-by scan base s (brace k a v) (brace k a w) p j (digit-in s p h) e (rw (ne-eqb _ _ ne) (rw (lt-ltb _ _ h) (ap (λ (y : ℕ). takes (brace k a y)) (sym x))))
+    dig1 v p j w ne h e x = goes-by scan base s (brace k a v) (brace k a w) p j (digit-in s p h) e
+        (rw (ne-eqb _ _ ne) (rw (lt-ltb _ _ h) (ap (λ (y : ℕ). takes (brace k a y)) (sym x))))
 
     -- no digit
     module _ (p : ℕ) (g : 16 ≤ digitAt s p) where
@@ -66,11 +70,13 @@ module _ (base : ℕ) (s : List ℕ) where
       module _ (ne : getD s (at + 1) 0 ≡ ch "u" → ⊥) (c : ℕ) (e : c ≡ shortOf (getD s (at + 1) 0)) where
         pub esc-short : c < 256 → Goes scan base s (body k) at (body (give k (encode c))) (at + 1 + 1)
         unfolding scan onShort
-        esc-short l = to-esc ∙ go scan base s (esc k (base + at)) (body (give k (encode c))) (at + 1) (at + 1 + 1) h1 refl (rw (ne-eqb _ _ ne) (rw (← e) (rw (lt-ltb _ _ l))))
+        esc-short l = to-esc ∙ go scan base s (esc k (base + at)) (body (give k (encode c))) (at + 1) (at + 1 + 1) h1 refl
+            (rw (ne-eqb _ _ ne) (rw (← e) (rw (lt-ltb _ _ l))))
 
         pub esc-none : 256 ≤ c → ranFrom scan base s (body k) at ≡ broke (NotGrammar (base + (at + 1)))
         unfolding scan onShort
-        esc-none l = to-esc ∙ halt scan base s (esc k (base + at)) (NotGrammar (base + (at + 1))) (at + 1) h1 (rw (ne-eqb _ _ ne) (rw (← e) (rw (le-ltb _ _ l))))
+        esc-none l = to-esc ∙ halt scan base s (esc k (base + at)) (NotGrammar (base + (at + 1))) (at + 1) h1
+            (rw (ne-eqb _ _ ne) (rw (← e) (rw (le-ltb _ _ l))))
 
       module _ (e1 : getD s (at + 1) 0 ≡ ch "u") where
         to-uni : Goes scan base s (body k) at (uni k (base + at)) (at + 2)

@@ -62,7 +62,8 @@ module _ (s : List ℕ) (i : ℕ) where
     pub bad-second : Edge s (i + 1) → TwoSays s i (Field.NotGrammar (i + 1))
     bad-second e q l = one-digit s q l 1 0 i h (omega arith) _ (no-more s q l 0 (dig 0 (getD s i 0)) (i + 1) e)
 
-    pub got-two : i + 1 < length s → ch "0" ≤ getD s (i + 1) 0 → getD s (i + 1) 0 ≤ ch "9" → TwoSays s i (Got (10 * (getD s i 0 - ch "0") + (getD s (i + 1) 0 - ch "0")) (i + 1 + 1))
+    pub got-two : i + 1 < length s → ch "0" ≤ getD s (i + 1) 0 → getD s (i + 1) 0 ≤ ch "9"
+        → TwoSays s i (Got (10 * (getD s i 0 - ch "0") + (getD s (i + 1) 0 - ch "0")) (i + 1 + 1))
     got-two k c d = (
       omega arith,
       omega arith,
@@ -151,32 +152,41 @@ module _ (q : ℕ) (c : Clock) (at : ℕ) (y : Bool) (f : y ≡ clockTest c) whe
   abbrev clockOf : ℕ
   clockOf = timeOfDay (c .hour) (c .minute) (c .second) (c .nanos)
 
-  pub time-good : y ≡ true → (n : ℕ) → n ≡ clockOf → (r : Scanned) → r ≡ Item (Item.Time (LocalTime n)) at → Closes at (clockDone q S.alone (c .hour) (c .minute) (c .second) (c .nanos)) r
+  pub time-good : y ≡ true → (n : ℕ) → n ≡ clockOf → (r : Scanned) → r ≡ Item (Item.Time (LocalTime n)) at
+      → Closes at (clockDone q S.alone (c .hour) (c .minute) (c .second) (c .nanos)) r
   time-good g n k r j = test-yes q at (clockTest c) (LocalTime clockOf) r (sym f ∙ g) (j ∙ ap (λ (z : ℕ). Item (Item.Time (LocalTime z)) at) k)
 
   pub time-bad : y ≡ false → Closes at (clockDone q S.alone (c .hour) (c .minute) (c .second) (c .nanos)) (Refused (BadTime q))
   time-bad g = test-no q at (clockTest c) (LocalTime clockOf) (sym f ∙ g)
 
   module _ (d : Date) (x : Bool) (e : x ≡ okDate d) where
-    pub stamp-good : x ≡ true → y ≡ true → (n : ℕ) → n ≡ clockOf → (r : Scanned) → r ≡ Item (Item.Time (LocalDateTime d n)) at → Closes at (clockDone q (S.on d) (c .hour) (c .minute) (c .second) (c .nanos)) r
-    stamp-good g h n k r j = test-yes q at (okDate d && clockTest c) (LocalDateTime d clockOf) r (both-true (okDate d) (clockTest c) (sym e ∙ g) (sym f ∙ h)) (j ∙ ap (λ (z : ℕ). Item (Item.Time (LocalDateTime d z)) at) k)
+    pub stamp-good : x ≡ true → y ≡ true → (n : ℕ) → n ≡ clockOf → (r : Scanned) → r ≡ Item (Item.Time (LocalDateTime d n)) at
+        → Closes at (clockDone q (S.on d) (c .hour) (c .minute) (c .second) (c .nanos)) r
+    stamp-good g h n k r j = test-yes q at (okDate d && clockTest c) (LocalDateTime d clockOf) r (both-true (okDate d) (clockTest c) (sym e ∙ g) (sym f ∙ h))
+        (j ∙ ap (λ (z : ℕ). Item (Item.Time (LocalDateTime d z)) at) k)
 
     pub stamp-clock : y ≡ false → Closes at (clockDone q (S.on d) (c .hour) (c .minute) (c .second) (c .nanos)) (Refused (BadTime q))
     stamp-clock h = test-no q at (okDate d && clockTest c) (LocalDateTime d clockOf) (second-false (okDate d) (clockTest c) (sym f ∙ h))
 
     module _ (o : ℤ) where
-      pub offset-good : x ≡ true → y ≡ true → (n : ℕ) → n ≡ clockOf → (p : ℤ) → p ≡ o → (r : Scanned) → r ≡ Item (Item.Time (OffsetDateTime d n p)) at → Closes at (tested q (okDate d && clockTest c) (OffsetDateTime d clockOf o)) r
-      offset-good g h n k p v r j = test-yes q at (okDate d && clockTest c) (OffsetDateTime d clockOf o) r (both-true (okDate d) (clockTest c) (sym e ∙ g) (sym f ∙ h)) (j ∙ ap (λ (z : ℤ). Item (Item.Time (OffsetDateTime d n z)) at) v ∙ ap (λ (z : ℕ). Item (Item.Time (OffsetDateTime d z o)) at) k)
+      pub offset-good : x ≡ true → y ≡ true → (n : ℕ) → n ≡ clockOf → (p : ℤ) → p ≡ o → (r : Scanned) → r ≡ Item (Item.Time (OffsetDateTime d n p)) at
+          → Closes at (tested q (okDate d && clockTest c) (OffsetDateTime d clockOf o)) r
+      offset-good g h n k p v r j = test-yes q at (okDate d && clockTest c) (OffsetDateTime d clockOf o) r
+          (both-true (okDate d) (clockTest c) (sym e ∙ g) (sym f ∙ h)) (j ∙ ap (λ (z : ℤ). Item (Item.Time (OffsetDateTime d n z)) at) v
+          ∙ ap (λ (z : ℕ). Item (Item.Time (OffsetDateTime d z o)) at) k)
 
       pub offset-clock : y ≡ false → Closes at (tested q (okDate d && clockTest c) (OffsetDateTime d clockOf o)) (Refused (BadTime q))
       offset-clock h = test-no q at (okDate d && clockTest c) (OffsetDateTime d clockOf o) (second-false (okDate d) (clockTest c) (sym f ∙ h))
 
 module _ (q : ℕ) (c : Clock) (at : ℕ) (d : Date) (x : Bool) (e : x ≡ okDate d) (g : x ≡ false) where
   pub stamp-date : Closes at (clockDone q (S.on d) (c .hour) (c .minute) (c .second) (c .nanos)) (Refused (BadTime q))
-  stamp-date = test-no q at (okDate d && clockTest c) (LocalDateTime d (timeOfDay (c .hour) (c .minute) (c .second) (c .nanos))) (first-false (okDate d) (clockTest c) (sym e ∙ g))
+  stamp-date = test-no q at (okDate d && clockTest c) (LocalDateTime d (timeOfDay (c .hour) (c .minute) (c .second) (c .nanos)))
+      (first-false (okDate d) (clockTest c) (sym e ∙ g))
 
-  pub offset-date : (o : ℤ) → Closes at (tested q (okDate d && clockTest c) (OffsetDateTime d (timeOfDay (c .hour) (c .minute) (c .second) (c .nanos)) o)) (Refused (BadTime q))
-  offset-date o = test-no q at (okDate d && clockTest c) (OffsetDateTime d (timeOfDay (c .hour) (c .minute) (c .second) (c .nanos)) o) (first-false (okDate d) (clockTest c) (sym e ∙ g))
+  pub offset-date : (o : ℤ) → Closes at (tested q (okDate d && clockTest c) (OffsetDateTime d (timeOfDay (c .hour) (c .minute) (c .second) (c .nanos)) o))
+      (Refused (BadTime q))
+  offset-date o = test-no q at (okDate d && clockTest c) (OffsetDateTime d (timeOfDay (c .hour) (c .minute) (c .second) (c .nanos)) o)
+      (first-false (okDate d) (clockTest c) (sym e ∙ g))
 
 -- ---- an offset
 
@@ -208,12 +218,16 @@ module _ (s : List ℕ) (q : ℕ) (d : Date) (c : Clock) (g : Bool) (h i : ℕ) 
     ends r x = two-got s i b u m at j .2 q minuteAt r (halts (tested q offsetTest offsetTime) refl x)
 
     pub offset-hour : 23 < h → Reads s i (field q minuteAt 2 0) (Refused (BadTime q))
-    offset-hour l = ends _ (test-no q at offsetTest offsetTime (second-false (okDate d && clockTest c) (leb h 23 && leb m 59) (first-false (leb h 23) (leb m 59) (lt-leb h 23 l))))
+    offset-hour l = ends _ (test-no q at offsetTest offsetTime (second-false (okDate d && clockTest c) (leb h 23 && leb m 59)
+        (first-false (leb h 23) (leb m 59) (lt-leb h 23 l))))
 
     pub offset-minute : 59 < m → Reads s i (field q minuteAt 2 0) (Refused (BadTime q))
-    offset-minute l = ends _ (test-no q at offsetTest offsetTime (second-false (okDate d && clockTest c) (leb h 23 && leb m 59) (second-false (leb h 23) (leb m 59) (lt-leb m 59 l))))
+    offset-minute l = ends _ (test-no q at offsetTest offsetTime (second-false (okDate d && clockTest c) (leb h 23 && leb m 59)
+        (second-false (leb h 23) (leb m 59) (lt-leb m 59 l))))
 
-    pub offset-ends : h ≤ 23 → m ≤ 59 → (o : ℤ) → o ≡ signed g (h * 60 + m) → (r : Scanned) → Closes at (tested q (okDate d && clockTest c) (OffsetDateTime d (timeOfDay (c .hour) (c .minute) (c .second) (c .nanos)) o)) r → Reads s i (field q minuteAt 2 0) r
+    pub offset-ends : h ≤ 23 → m ≤ 59 → (o : ℤ) → o ≡ signed g (h * 60 + m) → (r : Scanned)
+        → Closes at (tested q (okDate d && clockTest c) (OffsetDateTime d (timeOfDay (c .hour) (c .minute) (c .second) (c .nanos)) o)) r
+        → Reads s i (field q minuteAt 2 0) r
     offset-ends l n o v r x = ends r (closes-by _ _ (same-test (okDate d && clockTest c) (leb h 23) (leb m 59) (le-leb h 23 l) (le-leb m 59 n)) (rw v at x))
       where
         same-test : (a b c : Bool) → b ≡ true → c ≡ true → tested q (a && (b && c)) offsetTime ≡ tested q a offsetTime
@@ -223,7 +237,8 @@ module _ (s : List ℕ) (q : ℕ) (d : Date) (c : Clock) (g : Bool) (h i : ℕ) 
 -- ---- after a clock
 
 module _ (q : ℕ) (d : Date) (h m s n : ℕ) where
-  zone-other : {b : ℕ} {k : S.Sec} → SecIs b k → (b ≡ ch "Z" → ⊥) → (b ≡ ch "+" → ⊥) → (b ≡ ch "-" → ⊥) → onZone q (S.on d) h m s n k ≡ clockDone q (S.on d) h m s n
+  zone-other : {b : ℕ} {k : S.Sec} → SecIs b k → (b ≡ ch "Z" → ⊥) → (b ≡ ch "+" → ⊥) → (b ≡ ch "-" → ⊥) → onZone q (S.on d) h m s n k
+      ≡ clockDone q (S.on d) h m s n
   zone-other (SecIs.digit i) x y z = refl
   zone-other SecIs.point x y z = refl
   zone-other (SecIs.zIs G.Zulu.letter) x y z = absurd (x refl)
@@ -242,19 +257,23 @@ module _ (s : List ℕ) (q : ℕ) (d : Date) (c : Clock) (at : ℕ) (r : Scanned
     pub zone-none : (getD s at 0 ≡ ch "Z" → ⊥) → (getD s at 0 ≡ ch "+" → ⊥) → (getD s at 0 ≡ ch "-" → ⊥) → Stamped → Zoned s q (S.on d) c at r
     zone-none x y z k st e =
         let p = byte-in s at h in
-        halts _ (e ∙ zone-other q d (c .hour) (c .minute) (c .second) (c .nanos) (sec-class (byteAt s at)) (λ j. x (sym p ∙ j)) (λ j. y (sym p ∙ j)) (λ j. z (sym p ∙ j))) k
+        halts _ (e ∙ zone-other q d (c .hour) (c .minute) (c .second) (c .nanos) (sec-class (byteAt s at)) (λ j. x (sym p ∙ j)) (λ j. y (sym p ∙ j))
+            (λ j. z (sym p ∙ j))) k
 
     zone-takes : (t : St) (st : St) → scan at st (byteAt s at) ≡ takes t → Reads s (at + 1) t r → Reads s at st r
     zone-takes t st e k = took t h (ap (scan at st) (sym (byte-in s at h)) ∙ e) k
 
-    pub zone-zulu : getD s at 0 ≡ ch "Z" → (o : ℤ) → o ≡ pos 0 → Closes (at + 1) (tested q (okDate d && clockTest c) (OffsetDateTime d (timeOfDay (c .hour) (c .minute) (c .second) (c .nanos)) o)) r → Zoned s q (S.on d) c at r
+    pub zone-zulu : getD s at 0 ≡ ch "Z" → (o : ℤ) → o ≡ pos 0 → Closes (at + 1)
+        (tested q (okDate d && clockTest c) (OffsetDateTime d (timeOfDay (c .hour) (c .minute) (c .second) (c .nanos)) o)) r → Zoned s q (S.on d) c at r
     zone-zulu b o v x st e =
         zone-takes (zulu q d (c .hour) (c .minute) (c .second) (c .nanos)) st (e ∙ rw (byte-in s at h, b)) (halts _ refl (rw v at x))
 
-    pub zone-plus : getD s at 0 ≡ ch "+" → Reads s (at + 1) (field q (S.offsetHour d (c .hour) (c .minute) (c .second) (c .nanos) false) 2 0) r → Zoned s q (S.on d) c at r
+    pub zone-plus : getD s at 0 ≡ ch "+" → Reads s (at + 1) (field q (S.offsetHour d (c .hour) (c .minute) (c .second) (c .nanos) false) 2 0) r
+        → Zoned s q (S.on d) c at r
     zone-plus b k st e = zone-takes _ st (e ∙ rw (byte-in s at h, b)) k
 
-    pub zone-minus : getD s at 0 ≡ ch "-" → Reads s (at + 1) (field q (S.offsetHour d (c .hour) (c .minute) (c .second) (c .nanos) true) 2 0) r → Zoned s q (S.on d) c at r
+    pub zone-minus : getD s at 0 ≡ ch "-" → Reads s (at + 1) (field q (S.offsetHour d (c .hour) (c .minute) (c .second) (c .nanos) true) 2 0) r
+        → Zoned s q (S.on d) c at r
     zone-minus b k st e = zone-takes _ st (e ∙ rw (byte-in s at h, b)) k
 
 module _ (s : List ℕ) (q : ℕ) (w : When) (c : Clock) (at : ℕ) (r : Scanned) where
@@ -287,12 +306,14 @@ module _ (s : List ℕ) (from v left i : ℕ) (k : NanoLoop s from v left i) whe
           within = omega arith;
           few = omega (arith, k .few);
           small = smaller (left - 1) (subst (λ (x : ℕ). (v + 1) * 10 ^ x ≤ Limits.second) e (k .small));
-          goes = λ q w x m c r t. k .goes q w x m c r (subst (λ (y : ℕ). Reads s i (nanos q w x m c y v) r) (sym e) (took (nanos q w x m c (left - 1) (dig v (getD s i 0))) h (rw (sec-digit (getD s i 0) (omega arith))) t));
+          goes = λ q w x m c r t. k .goes q w x m c r (subst (λ (y : ℕ). Reads s i (nanos q w x m c y v) r) (sym e)
+              (took (nanos q w x m c (left - 1) (dig v (getD s i 0))) h (rw (sec-digit (getD s i 0) (omega arith))) t));
         }
       where
         smaller : (j : ℕ) → (v + 1) * 10 ^ suc j ≤ Limits.second → (10 * v + (getD s i 0 - ch "0") + 1) * 10 ^ j ≤ Limits.second
         smaller j u =
-            let p : (v + 1) * 10 ^ suc j ≡ (v + 1) * 10 * 10 ^ j = ap (λ (x : ℕ). (v + 1) * x) (omega (arith, pow-suc 10 j)) ∙ sym (mul-assoc (v + 1) 10 (10 ^ j)) in
+            let p : (v + 1) * 10 ^ suc j ≡ (v + 1) * 10 * 10 ^ j = ap (λ (x : ℕ). (v + 1) * x) (omega (arith, pow-suc 10 j))
+                ∙ sym (mul-assoc (v + 1) 10 (10 ^ j)) in
             let o : 10 * v + (getD s i 0 - ch "0") + 1 ≤ (v + 1) * 10 = omega arith in
             omega (arith, mul-le-mul-right (10 ^ j) o)
 
@@ -303,7 +324,8 @@ module _ (s : List ℕ) (from v left i : ℕ) (k : NanoLoop s from v left i) whe
           within = omega arith;
           few = k .few;
           small = k .small;
-          goes = λ q w x m c r t. k .goes q w x m c r (subst (λ (y : ℕ). Reads s i (nanos q w x m c y v) r) (sym e) (took (nanos q w x m c zero v) h (rw (sec-digit (getD s i 0) (omega arith))) (subst (λ (y : ℕ). Reads s (i + 1) (nanos q w x m c y v) r) e t)));
+          goes = λ q w x m c r t. k .goes q w x m c r (subst (λ (y : ℕ). Reads s i (nanos q w x m c y v) r) (sym e)
+              (took (nanos q w x m c zero v) h (rw (sec-digit (getD s i 0) (omega arith))) (subst (λ (y : ℕ). Reads s (i + 1) (nanos q w x m c y v) r) e t)));
         }
 
   pub nano-says : Edge s i → NanosSays s from (record { v = v; left = left; at = i })
@@ -336,11 +358,13 @@ module _ (s : List ℕ) (q : ℕ) (w : S.When) (h m c at : ℕ) where
   abbrev secondAt : St
   secondAt = field q (S.second w h m) 0 c
 
-  second-end : (r : Scanned) → length s ≤ at → ((st : St) → scan at st (byteAt s at) ≡ onZone q w h m c 0 (secOf (byteAt s at)) → Reads s at st r) → Reads s at secondAt r
+  second-end : (r : Scanned) → length s ≤ at → ((st : St) → scan at st (byteAt s at) ≡ onZone q w h m c 0 (secOf (byteAt s at)) → Reads s at st r)
+      → Reads s at secondAt r
   second-end r l k = k secondAt (rw (byte-out s at l))
 
   module _ (l : at < length s) where
-    second-none : (r : Scanned) → (getD s at 0 ≡ ch "." → ⊥) → ((st : St) → scan at st (byteAt s at) ≡ onZone q w h m c 0 (secOf (byteAt s at)) → Reads s at st r) → Reads s at secondAt r
+    second-none : (r : Scanned) → (getD s at 0 ≡ ch "." → ⊥) → ((st : St) → scan at st (byteAt s at) ≡ onZone q w h m c 0 (secOf (byteAt s at))
+        → Reads s at st r) → Reads s at secondAt r
     second-none r x k = let p = byte-in s at l in k secondAt (sec-other q w h m c (sec-class (byteAt s at)) (λ j. x (sym p ∙ j)))
 
     second-point : (r : Scanned) → getD s at 0 ≡ ch "." → Reads s (at + 1) (secPoint q w h m c) r → Reads s at secondAt r
@@ -360,7 +384,8 @@ module _ (s : List ℕ) (at : ℕ) where
       pub part-bare : Edge s (at + 1) → (q : ℕ) (w : S.When) (h m c : ℕ) → Reads s at (field q (S.second w h m) 0 c) (Refused (NotGrammar (at + 1)))
       part-bare d = λ q w h m c. second-point s q w h m c at l _ e (breaks-at (rw (dg-none (edge-none d))))
 
-      pub part-nanos : at + 1 < length s → ch "0" ≤ getD s (at + 1) 0 → getD s (at + 1) 0 ≤ ch "9" → (n : Nanos) → NanosSays s (at + 1) n → (x : ℕ) → x ≡ n .v * 10 ^ n .left → Fractioned s at x (n .at)
+      pub part-nanos : at + 1 < length s → ch "0" ≤ getD s (at + 1) 0 → getD s (at + 1) 0 ≤ ch "9" → (n : Nanos) → NanosSays s (at + 1) n → (x : ℕ) → x
+          ≡ n .v * 10 ^ n .left → Fractioned s at x (n .at)
       part-nanos u a b n p x y =
           let o = byte-in s (at + 1) u in
           let d : IsDigit (getD s (at + 1) 0) = omega arith in
@@ -368,8 +393,10 @@ module _ (s : List ℕ) (at : ℕ) where
             within = p .within;
             small = omega (arith, y, part-small (n .v) (n .left) (p .small));
             reads = λ q w h m c r k.
-                second-point s q w h m c at l r e (same (nanos q w h m c fractionDigits 0) (rw (o, dg-digit (getD s (at + 1) 0) d, sec-digit (getD s (at + 1) 0) d))
-                (p .goes q w h m c r (k (nanos q w h m c (n .left) (n .v)) (nano-other q w h m c (n .left) (n .v) (sec-class (byteAt s (n .at))) (edge-none (p .edge)) ∙ ap (λ (z : ℕ). onZone q w h m c z (secOf (byteAt s (n .at)))) (sym y)))));
+                second-point s q w h m c at l r e (same (nanos q w h m c fractionDigits 0)
+                    (rw (o, dg-digit (getD s (at + 1) 0) d, sec-digit (getD s (at + 1) 0) d))
+                (p .goes q w h m c r (k (nanos q w h m c (n .left) (n .v)) (nano-other q w h m c (n .left) (n .v) (sec-class (byteAt s (n .at)))
+                    (edge-none (p .edge)) ∙ ap (λ (z : ℕ). onZone q w h m c z (secOf (byteAt s (n .at)))) (sym y)))));
           }
 
 -- ---- after an hour, after a date, after a year
@@ -414,7 +441,8 @@ module _ (s : List ℕ) (q : ℕ) (d : Date) (i : ℕ) (r : Scanned) where
   spaced-done e k = halts (dateDone q d) (rw (dg-none (edge-none e))) k
 
   pub spaced-clock : i < length s → ch "0" ≤ getD s i 0 → getD s i 0 ≤ ch "9" → Reads s i (field q (S.hour d) 2 0) r → Reads s i (spaced q d) r
-  spaced-clock h a b k = let p = byte-in s i h in let o : IsDigit (getD s i 0) = omega arith in same (field q (S.hour d) 2 0) (rw (p, dg-digit (getD s i 0) o)) k
+  spaced-clock h a b k = let p = byte-in s i h in let o : IsDigit (getD s i 0) = omega arith in
+      same (field q (S.hour d) 2 0) (rw (p, dg-digit (getD s i 0) o)) k
 
   abbrev dayAt : St
   dayAt = field q (S.day (d .year) (d .month)) 0 (d .day)

@@ -15,7 +15,8 @@ use Rattle.items.specs.declared.binary_part.Piece.{Piece}
 
 -- after a pair
 abbrev pub PairSays : List ℕ → ℕ → Pair → Type 0
-PairSays s p (Pair.Digit q) = ((a : List ℕ) → Runs scan s (pairs a) p (low a (digitAt s q)) (q + 1)) × (q < length s) × (p ≤ q) × (digitAt s q < noDigit)
+PairSays s p (Pair.Digit q) = ((a : List ℕ) → Runs scan s (pairs a) p (low a (digitAt s q)) (q + 1)) × (q < length s)
+    × (p ≤ q) × (digitAt s q < noDigit)
 PairSays s p (Pair.End q) = ((a : List ℕ) → ran scan p (pairs a) (drop p s) ≡ ended a q) × (q ≡ p)
 PairSays s p (Pair.NotGrammar q) = (a : List ℕ) → ran scan p (pairs a) (drop p s) ≡ broke (NotGrammar q)
 

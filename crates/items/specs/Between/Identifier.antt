@@ -15,6 +15,7 @@ sortIs Sort.Neither = Names.neither
 
 -- the letters and digits of an identifier from p on end at q
 pub record NameEnds (text : List ℕ) (p q : ℕ) : Type 0 where
-  pub goes : (a : List ℕ) → ran Names.scan p (Names.name a) (drop p text) ≡ ran Names.scan q (Names.name (a ++ take (q - p) (drop p text))) (drop q text)
+  pub goes : (a : List ℕ) → ran Names.scan p (Names.name a) (drop p text)
+      ≡ ran Names.scan q (Names.name (a ++ take (q - p) (drop p text))) (drop q text)
   pub onward : Onward text p q
   pub stopped : q < length text → Names.classOf (getD text q 0) ≡ Names.neither

@@ -1,5 +1,5 @@
--- What the readers of a number or a time value promise: how the machine's scanner goes on from the place and the state that each
--- stands for. Assumes nothing.
+-- What the readers of a number or a time value promise: how the machine's scanner goes on from the place and the state
+-- that each stands for. Assumes nothing.
 use Prim.Native.Nat.{ℕ, zero, suc, _+_, _*_, _-_, _≤_, _<_, _%_, _^_}
 use mathlib.Core.Path.{_≡_}
 use mathlib.Core.Bool.{Bool, true, false}
@@ -241,7 +241,8 @@ pub data Marks (n d b : ℕ) : MarkOf.Mark → Type 0 where
   colon : n ≡ 2 → b ≡ ch ":" → Marks n d b Mark.Colon
   dash : n ≡ 4 → b ≡ ch "-" → Marks n d b Mark.Dash
   letter : n ≡ 1 → d ≡ ch "0" → (b ≡ ch "x") ⊎ (b ≡ ch "X") → Marks n d b Mark.X
-  other : (n ≡ 2 → b ≡ ch ":" → ⊥) → (n ≡ 4 → b ≡ ch "-" → ⊥) → (n ≡ 1 → d ≡ ch "0" → b ≡ ch "x" → ⊥) → (n ≡ 1 → d ≡ ch "0" → b ≡ ch "X" → ⊥) → Marks n d b Mark.Other
+  other : (n ≡ 2 → b ≡ ch ":" → ⊥) → (n ≡ 4 → b ≡ ch "-" → ⊥) → (n ≡ 1 → d ≡ ch "0" → b ≡ ch "x" → ⊥)
+      → (n ≡ 1 → d ≡ ch "0" → b ≡ ch "X" → ⊥) → Marks n d b Mark.Other
 
 -- digits that are no time: a number, unless a 0 goes before others
 pub data Plainly (d n : ℕ) (x : Acc) (at : ℕ) : LeadOf.Lead → Type 0 where
@@ -260,8 +261,10 @@ abbrev pub Leads : Slot → ℕ → (ℕ → Slot) → Type 0
 Leads l mark to = (p q v b : ℕ) → S.onFull p q l v b ≡ S.only p mark (field q (to v) 2 0) b
 
 abbrev pub ThenSays : List ℕ → ℕ → ℕ → Field → Type 0
-ThenSays s i mark (Got v j) = (j ≤ length s) × (v < 100) × ((q : ℕ) (l : Slot) (to : ℕ → Slot) → Leads l mark to → Onto s i (field q l 2 0) j (field q (to v) 2 0))
-ThenSays s i mark (Field.NotGrammar p) = (q : ℕ) (l : Slot) (to : ℕ → Slot) → Leads l mark to → Reads s i (field q l 2 0) (Refused (NotGrammar p))
+ThenSays s i mark (Got v j) = (j ≤ length s) × (v < 100) × ((q : ℕ) (l : Slot) (to : ℕ → Slot) → Leads l mark to
+    → Onto s i (field q l 2 0) j (field q (to v) 2 0))
+ThenSays s i mark (Field.NotGrammar p) = (q : ℕ) (l : Slot) (to : ℕ → Slot) → Leads l mark to
+    → Reads s i (field q l 2 0) (Refused (NotGrammar p))
 
 -- what stands before a time of day, as the scanner has it
 abbrev pub whenOf : When → S.When
@@ -278,7 +281,8 @@ clockTest c = S.okClock (c .hour) (c .minute) (c .second)
 
 -- what the scanner does after a clock, whatever state has read it
 abbrev pub Zoned : List ℕ → ℕ → S.When → Clock → ℕ → Scanned → Type 0
-Zoned s q w c at r = (st : St) → scan at st (byteAt s at) ≡ S.onZone q w (c .hour) (c .minute) (c .second) (c .nanos) (S.secOf (byteAt s at)) → Reads s at st r
+Zoned s q w c at r = (st : St) → scan at st (byteAt s at) ≡ S.onZone q w (c .hour) (c .minute) (c .second) (c .nanos)
+    (S.secOf (byteAt s at)) → Reads s at st r
 
 -- a fraction's digits so far, of which `left` more would count: less than a second
 pub record NanosSays (s : List ℕ) (from : ℕ) (r : Nanos) : Type 0 where
@@ -286,4 +290,5 @@ pub record NanosSays (s : List ℕ) (from : ℕ) (r : Nanos) : Type 0 where
   pub few : r .left ≤ fractionDigits
   pub small : (r .v + 1) * 10 ^ r .left ≤ Limits.second
   pub edge : Edge s (r .at)
-  pub goes : (q : ℕ) (w : S.When) (h m c : ℕ) → Onto s from (S.nanos q w h m c fractionDigits 0) (r .at) (S.nanos q w h m c (r .left) (r .v))
+  pub goes : (q : ℕ) (w : S.When) (h m c : ℕ) → Onto s from (S.nanos q w h m c fractionDigits 0) (r .at)
+      (S.nanos q w h m c (r .left) (r .v))

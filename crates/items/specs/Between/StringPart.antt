@@ -1,5 +1,5 @@
--- What the functions that read a string part promise, against the machine's scanner. Places count from the opening quote; `base` is any
--- place where the part may stand in a text. Assumes nothing.
+-- What the functions that read a string part promise, against the machine's scanner. Places count from the opening
+-- quote; `base` is any place where the part may stand in a text. Assumes nothing.
 use mathlib.Core.Path.{_≡_}
 use Prim.Native.Nat.{ℕ, zero, suc, _+_, _*_, _-_, _≤_, _<_}
 use mathlib.Core.Bool.{Bool, true, false, cond}
@@ -12,7 +12,8 @@ use Rattle.meaning.specs.declared.Refusal.the-variants.{NotGrammar, BadEscape}
 use Rattle.meaning.specs.Letters.{ch}
 use Rattle.machine.specs.Scan.{over, Ran, ended, broke, ran}
 use Rattle.machine.specs.Strings as S
-use Rattle.machine.specs.Strings.{Ctx, mk, give, blame, first, fine, spoilt, whole, unit, one, lines0, lines, body, begin, scan, plainByte}
+use Rattle.machine.specs.Strings.{Ctx, mk, give, blame, first, fine, spoilt, whole, unit, one, lines0, lines, body,
+    begin, scan, plainByte}
 use Rattle.items.specs.Between.Places.{byteAt, ranFrom, Goes}
 use Rattle.items.specs.declared.string_part.Escape.{Escape}
 use Rattle.items.specs.declared.string_part.Escape.the-variants.{Half, Code}
@@ -31,7 +32,8 @@ plain q b = cond (eqb b (ch "\\")) false (cond (eqb b q) false (plainByte b))
 
 -- the bytes from i to j are plain, and what stands at j is not
 pub record Passed (s : List ℕ) (q i j : ℕ) : Type 0 where
-  pub goes : (base : ℕ) (bad : S.Bad) (acc : List ℕ) → Goes scan base s (body (mk q bad whole acc)) i (body (mk q bad whole (acc ++ take (j - i) (drop i s)))) j
+  pub goes : (base : ℕ) (bad : S.Bad) (acc : List ℕ) → Goes scan base s (body (mk q bad whole acc)) i
+      (body (mk q bad whole (acc ++ take (j - i) (drop i s)))) j
   pub behind : i ≤ j
   pub within : j ≤ length s
   pub stopped : plain q (byteAt s j) ≡ false
@@ -100,7 +102,8 @@ Grown v d r = (w : ℕ) → Like v w → Like r (16 * w + d)
 
 -- an escape, or a pair of them, where no high surrogate waits: the character c
 pub record Read (s : List ℕ) (at next c : ℕ) : Type 0 where
-  pub goes : (base q : ℕ) (bad : S.Bad) (acc : List ℕ) → Goes scan base s (body (mk q bad whole acc)) at (body (mk q bad whole (acc ++ encode c))) next
+  pub goes : (base q : ℕ) (bad : S.Bad) (acc : List ℕ) → Goes scan base s (body (mk q bad whole acc)) at
+      (body (mk q bad whole (acc ++ encode c))) next
   pub room : at + length (encode c) ≤ next
   pub past : at < next
   pub within : next ≤ length s
@@ -108,13 +111,15 @@ pub record Read (s : List ℕ) (at next c : ℕ) : Type 0 where
 
 -- the same: a bad one
 pub record Blamed (s : List ℕ) (at next : ℕ) : Type 0 where
-  pub goes : (base q : ℕ) (bad : S.Bad) (acc : List ℕ) → Goes scan base s (body (mk q bad whole acc)) at (body (mk q (first bad (base + at)) whole acc)) next
+  pub goes : (base q : ℕ) (bad : S.Bad) (acc : List ℕ) → Goes scan base s (body (mk q bad whole acc)) at
+      (body (mk q (first bad (base + at)) whole acc)) next
   pub past : at < next
   pub within : next ≤ length s
 
 -- the same: it breaks at p
 pub record Stopped (s : List ℕ) (at p : ℕ) : Type 0 where
-  pub ends : (base q : ℕ) → q < over → (bad : S.Bad) (acc : List ℕ) → ranFrom scan base s (body (mk q bad whole acc)) at ≡ broke (NotGrammar (base + p))
+  pub ends : (base q : ℕ) → q < over → (bad : S.Bad) (acc : List ℕ) → ranFrom scan base s (body (mk q bad whole acc)) at
+      ≡ broke (NotGrammar (base + p))
   pub within : p ≤ length s
 
 abbrev pub CharSays : List ℕ → ℕ → Char → Type 0
@@ -143,8 +148,8 @@ pub record Limited (from to len at r : ℕ) : Type 0 where
 
 -- ---- parts
 
--- The part ends before the place `taken`, of n bytes; its value is in the store from `at` on, as far as there is room. R: what the scanner
--- comes to.
+-- The part ends before the place `taken`, of n bytes; its value is in the store from `at` on, as far as there is room.
+-- R: what the scanner comes to.
 pub record Held (R : ℕ → Ran (List ℕ)) (n at : ℕ) (entry exit : List ℕ) (taken bytes : ℕ) : Type 0 where
   pub value : List ℕ
   pub runs : (base : ℕ) → R base ≡ ended value (base + taken)

@@ -24,7 +24,8 @@ add-t13 : tie.Need-add-t13
 add-t13 c = search needs
 
 returns-2 : tie.Need-returns-2
-returns-2 c = escape-high (c .before .before .before .before .before .before .args .text .now) (c .before .before .before .before .before .before .args .at) (c .before .before .before .before .if1 .left) (c .before .before .if2 .taken) (rw (c .before .digit .ensures) at (c .if3 .taken))
+returns-2 c = escape-high (c .before .before .before .before .before .before .args .text .now) (c .before .before .before .before .before .before .args .at)
+    (c .before .before .before .before .if1 .left) (c .before .before .if2 .taken) (rw (c .before .digit .ensures) at (c .if3 .taken))
 
 add-digit-2 : tie.Need-add-digit-2
 add-digit-2 c = search needs
@@ -36,7 +37,10 @@ add-t14 : tie.Need-add-t14
 add-t14 c = search needs
 
 returns-3 : tie.Need-returns-3
-returns-3 c = escape-low (c .before .before .before .before .before .before .before .before .args .text .now) (c .before .before .before .before .before .before .before .before .args .at) (c .before .before .before .before .before .before .if1 .left) (c .before .before .before .before .if2 .taken) (rw (c .before .before .before .digit .ensures) at (c .before .before .if3 .left)) (rw (c .before .digit2 .ensures) at (c .if4 .taken))
+returns-3 c = escape-low (c .before .before .before .before .before .before .before .before .args .text .now)
+    (c .before .before .before .before .before .before .before .before .args .at) (c .before .before .before .before .before .before .if1 .left)
+    (c .before .before .before .before .if2 .taken) (rw (c .before .before .before .digit .ensures) at (c .before .before .if3 .left))
+    (rw (c .before .digit2 .ensures) at (c .if4 .taken))
 
 add-t11 : tie.Need-add-t11
 add-t11 c = search needs
@@ -48,7 +52,11 @@ add-t16 : tie.Need-add-t16
 add-t16 c = search needs
 
 returns-4 : tie.Need-returns-4
-returns-4 c = rw (c .before .before .before .digit .ensures, c .before .digit2 .ensures) (escape-hex (c .before .before .before .before .before .before .before .before .args .text .now) (c .before .before .before .before .before .before .before .before .args .at) (c .before .before .before .before .before .before .if1 .left) (c .before .before .before .before .if2 .taken) (rw (c .before .before .before .digit .ensures) at (c .before .before .if3 .left)) (rw (c .before .digit2 .ensures) at (c .if4 .left)))
+returns-4 c = rw (c .before .before .before .digit .ensures, c .before .digit2 .ensures)
+    (escape-hex (c .before .before .before .before .before .before .before .before .args .text .now)
+    (c .before .before .before .before .before .before .before .before .args .at) (c .before .before .before .before .before .before .if1 .left)
+    (c .before .before .before .before .if2 .taken) (rw (c .before .before .before .digit .ensures) at (c .before .before .if3 .left))
+    (rw (c .before .digit2 .ensures) at (c .if4 .left)))
 
 short-requires : tie.Need-short-requires
 short-requires c κs = search needs
@@ -60,10 +68,13 @@ cast-t17 : tie.Need-cast-t17
 cast-t17 c = search needs
 
 returns-5 : tie.Need-returns-5
-returns-5 c = rw (c .before .short .ensures) (escape-short (c .before .before .before .before .before .before .args .text .now) (c .before .before .before .before .before .before .args .at) (c .before .before .before .before .if1 .left) (c .before .before .if2 .left) (rw (c .before .short .ensures) at (c .if5 .taken)))
+returns-5 c = rw (c .before .short .ensures) (escape-short (c .before .before .before .before .before .before .args .text .now)
+    (c .before .before .before .before .before .before .args .at) (c .before .before .before .before .if1 .left) (c .before .before .if2 .left)
+    (rw (c .before .short .ensures) at (c .if5 .taken)))
 
 returns-6 : tie.Need-returns-6
-returns-6 c = escape-wrong (c .before .before .before .before .before .before .args .text .now) (c .before .before .before .before .before .before .args .at) (c .before .before .before .before .if1 .left) (c .before .before .if2 .left) (rw (c .before .short .ensures) at (c .if5 .left))
+returns-6 c = escape-wrong (c .before .before .before .before .before .before .args .text .now) (c .before .before .before .before .before .before .args .at)
+    (c .before .before .before .before .if1 .left) (c .before .before .if2 .left) (rw (c .before .short .ensures) at (c .if5 .left))
 
 pub escaped-spec : {M : Type 1} → statement M
 escaped-spec =

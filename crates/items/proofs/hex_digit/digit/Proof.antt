@@ -16,7 +16,8 @@ hex-requires : tie.Need-hex-requires
 hex-requires c κs = search needs
 
 returns : tie.Need-returns
-returns c = c .hex .ensures ∙ ap hexOf (sym (byte-in (c .before .before .before .before .args .text .now) (c .before .before .before .before .args .at) (c .before .before .if1 .taken)))
+returns c = c .hex .ensures ∙ ap hexOf (sym (byte-in (c .before .before .before .before .args .text .now) (c .before .before .before .before .args .at)
+    (c .before .before .if1 .taken)))
 
 returns-2 : tie.Need-returns-2
 unfolding hexOf

@@ -40,7 +40,8 @@ loop-less : tie.Need-loop-less Inv-loop μ-loop
 loop-less c = let o = c .before .before .before .before .before .loop .inv .onward in omega arith
 
 loop-again : tie.Need-loop-again Inv-loop μ-loop
-loop-again c = name-letter (c .before .before .before .before .before .loop .inv) (omega arith) (rw (c .enum-told2 .given .1) at (c .before .before .sort-of .ensures))
+loop-again c = name-letter (c .before .before .before .before .before .loop .inv) (omega arith)
+    (rw (c .enum-told2 .given .1) at (c .before .before .sort-of .ensures))
 
 enum-told-3 : tie.Need-enum-told-3 Inv-loop μ-loop
 enum-told-3 c = search needs
@@ -52,7 +53,8 @@ loop-less-2 : tie.Need-loop-less-2 Inv-loop μ-loop
 loop-less-2 c = let o = c .before .before .before .before .before .loop .inv .onward in omega arith
 
 loop-again-2 : tie.Need-loop-again-2 Inv-loop μ-loop
-loop-again-2 c = name-figure (c .before .before .before .before .before .loop .inv) (omega arith) (rw (c .enum-told3 .given .1) at (c .before .before .sort-of .ensures))
+loop-again-2 c = name-figure (c .before .before .before .before .before .loop .inv) (omega arith)
+    (rw (c .enum-told3 .given .1) at (c .before .before .sort-of .ensures))
 
 returns-2 : tie.Need-returns-2 Inv-loop μ-loop
 returns-2 c = name-over (c .before .loop .inv) (omega arith)

@@ -21,7 +21,8 @@ finite-requires : tie.Need-finite-requires
 finite-requires c κs = search needs
 
 returns-3 : tie.Need-returns-3
-returns-3 c = hex-nought _ _ _ _ _ (value-is _ _ (c .before .before .before .before .before .digit .ensures)) (omega arith) _ (c .before .before .before .hex-digits .ensures) (c .before .before .if2 .left) (omega arith) (c .before .if3 .taken) _ (c .finite .ensures)
+returns-3 c = hex-nought _ _ _ _ _ (value-is _ _ (c .before .before .before .before .before .digit .ensures)) (omega arith) _
+    (c .before .before .before .hex-digits .ensures) (c .before .before .if2 .left) (omega arith) (c .before .if3 .taken) _ (c .finite .ensures)
 
 stripped-requires : tie.Need-stripped-requires
 stripped-requires c κs = search needs
@@ -30,7 +31,9 @@ settle-requires : tie.Need-settle-requires
 settle-requires c κs = search needs
 
 returns-4 : tie.Need-returns-4
-returns-4 c = hex-settled _ _ _ _ _ (value-is _ _ (c .before .before .before .before .before .before .digit .ensures)) (omega arith) _ (c .before .before .before .before .hex-digits .ensures) (c .before .before .before .if2 .left) (omega arith) _ (c .before .stripped .ensures .1) _ (c .settle .ensures)
+returns-4 c = hex-settled _ _ _ _ _ (value-is _ _ (c .before .before .before .before .before .before .digit .ensures)) (omega arith) _
+    (c .before .before .before .before .hex-digits .ensures) (c .before .before .before .if2 .left) (omega arith) _ (c .before .stripped .ensures .1) _
+    (c .settle .ensures)
 
 pub hexadecimal-spec : {M : Type 1} → statement M
 hexadecimal-spec =

@@ -60,7 +60,8 @@ finite-requires-2 : tie.Need-finite-requires-2
 finite-requires-2 c κs = search needs
 
 returns-7 : tie.Need-returns-7
-returns-7 c = nought-ends _ _ _ _ (omega arith) (c .before .before .before .if4 .left) (c .before .before .if5 .left) (c .before .if6 .left) (c .before .before .before .before .before .if2 .left) (c .before .before .before .before .if3 .left) _ (c .finite2 .ensures)
+returns-7 c = nought-ends _ _ _ _ (omega arith) (c .before .before .before .if4 .left) (c .before .before .if5 .left) (c .before .if6 .left)
+    (c .before .before .before .before .before .if2 .left) (c .before .before .before .before .if3 .left) _ (c .finite2 .ensures)
 
 pub nought-spec : {M : Type 1} → statement M
 nought-spec =

@@ -28,13 +28,15 @@ settle-requires : tie.Need-settle-requires
 settle-requires c κs = search needs
 
 returns-4 : tie.Need-returns-4
-returns-4 c = raised-dn _ _ _ _ _ _ _ _ _ (omega arith) (omega arith) (omega arith) (omega arith) (c .before .before .exp-digits .ensures) (c .before .if4 .taken) (c .settle .ensures)
+returns-4 c = raised-dn _ _ _ _ _ _ _ _ _ (omega arith) (omega arith) (omega arith) (omega arith) (c .before .before .exp-digits .ensures)
+    (c .before .if4 .taken) (c .settle .ensures)
 
 settle-requires-2 : tie.Need-settle-requires-2
 settle-requires-2 c κs = search needs
 
 returns-5 : tie.Need-returns-5
-returns-5 c = raised-up _ _ _ _ _ _ _ _ _ (omega arith) (omega arith) (omega arith) (omega arith) (c .before .before .exp-digits .ensures) (c .before .if4 .left) (omega arith) (c .settle2 .ensures)
+returns-5 c = raised-up _ _ _ _ _ _ _ _ _ (omega arith) (omega arith) (omega arith) (omega arith) (c .before .before .exp-digits .ensures)
+    (c .before .if4 .left) (omega arith) (c .settle2 .ensures)
 
 pub raised-spec : {M : Type 1} → statement M
 raised-spec =

@@ -21,7 +21,8 @@ add-u : tie.Need-add-u
 add-u c = search needs
 
 returns-3 : tie.Need-returns-3
-returns-3 c = settles-high _ _ _ _ _ _ (c .before .before .before .before .before .if1 .left) (c .before .before .before .if2 .left) (omega arith) (omega arith) (omega arith)
+returns-3 c = settles-high _ _ _ _ _ _ (c .before .before .before .before .before .if1 .left) (c .before .before .before .if2 .left) (omega arith) (omega arith)
+    (omega arith)
 
 with-sign-requires : tie.Need-with-sign-requires
 with-sign-requires c κs = search needs
@@ -30,13 +31,16 @@ finite-requires-2 : tie.Need-finite-requires-2
 finite-requires-2 c κs = search needs
 
 returns-4 : tie.Need-returns-4
-returns-4 c = settles-up _ _ _ _ _ _ (c .before .before .before .before .before .before .before .if1 .left) (c .before .before .before .before .before .if2 .left) (omega arith) _ _ (c .finite2 .ensures) (omega arith) (omega arith) (back w32 _ false _ (omega arith) (c .before .with-sign .ensures))
+returns-4 c = settles-up _ _ _ _ _ _ (c .before .before .before .before .before .before .before .if1 .left)
+    (c .before .before .before .before .before .if2 .left) (omega arith) _ _ (c .finite2 .ensures) (omega arith) (omega arith)
+    (back w32 _ false _ (omega arith) (c .before .with-sign .ensures))
 
 sub-n : tie.Need-sub-n
 sub-n c = search needs
 
 returns-5 : tie.Need-returns-5
-returns-5 c = settles-low _ _ _ _ _ _ (c .before .before .before .before .before .if1 .left) (c .before .before .before .if2 .left) (omega arith) (omega arith) (omega arith)
+returns-5 c = settles-low _ _ _ _ _ _ (c .before .before .before .before .before .if1 .left) (c .before .before .before .if2 .left) (omega arith) (omega arith)
+    (omega arith)
 
 with-sign-requires-2 : tie.Need-with-sign-requires-2
 with-sign-requires-2 c κs = search needs
@@ -45,7 +49,11 @@ finite-requires-3 : tie.Need-finite-requires-3
 finite-requires-3 c κs = search needs
 
 returns-6 : tie.Need-returns-6
-returns-6 c = settles-dn _ _ _ _ _ _ (c .before .before .before .before .before .before .before .if1 .left) (c .before .before .before .before .before .if2 .left) (omega arith) _ _ (c .finite3 .ensures) (omega arith) (omega arith) (back w32 _ true (c .before .before .before .before .before .before .before .before .args .dn - (c .before .before .before .before .before .before .before .before .args .a .z + c .before .before .before .before .before .before .before .before .args .up)) (omega arith) (c .before .with-sign2 .ensures))
+returns-6 c = settles-dn _ _ _ _ _ _ (c .before .before .before .before .before .before .before .if1 .left)
+    (c .before .before .before .before .before .if2 .left) (omega arith) _ _ (c .finite3 .ensures) (omega arith) (omega arith)
+    (back w32 _ true (c .before .before .before .before .before .before .before .before .args .dn -
+    (c .before .before .before .before .before .before .before .before .args .a .z + c .before .before .before .before .before .before .before .before .args
+    .up)) (omega arith) (c .before .with-sign2 .ensures))
 
 pub settle-spec : {M : Type 1} → statement M
 settle-spec =

@@ -20,7 +20,8 @@ loop-holds : tie.Need-loop-holds Inv-loop μ-loop
 loop-holds c = (omega arith, sym (mul-one _), c .before .fits .c .fits)
 
 returns-2 : tie.Need-returns-2 Inv-loop μ-loop
-returns-2 c = over-shifted _ _ (c .before .before .loop .i) (c .before .before .loop .v) (c .before .loop-test .taken) (c .before .before .loop .inv .1) (c .if2 .taken)
+returns-2 c = over-shifted _ _ (c .before .before .loop .i) (c .before .before .loop .v) (c .before .loop-test .taken) (c .before .before .loop .inv .1)
+    (c .if2 .taken)
 
 mul-v : tie.Need-mul-v Inv-loop μ-loop
 mul-v c = omega arith

@@ -32,7 +32,9 @@ add-at : tie.Need-add-at Inv-loop μ-loop
 add-at c = omega (arith, c .before .before .before .pre .short)
 
 loop-holds : tie.Need-loop-holds Inv-loop μ-loop
-loop-holds c = among-start (c .before .before .before .args .s .now) (c .before .before .before .args .q) (record { c = 0; over = false; z = 0 }) (c .push .result) (c .before .before .before .pre .within) (c .before .before .before .pre .digit) refl (c .push .ensures .0) (refl, inl refl) (c .push .ensures .1)
+loop-holds c = among-start (c .before .before .before .args .s .now) (c .before .before .before .args .q) (record { c = 0; over = false; z = 0 })
+    (c .push .result) (c .before .before .before .pre .within) (c .before .before .before .pre .digit) refl (c .push .ensures .0) (refl, inl refl)
+    (c .push .ensures .1)
 
 returns : tie.Need-returns Inv-loop μ-loop
 returns c = among-says _ _ _ _ _ _ (c .before .before .loop .inv) (inl (omega (arith, c .before .before .loop .inv .most)))
@@ -47,7 +49,8 @@ returns-3 : tie.Need-returns-3 Inv-loop μ-loop
 returns-3 c = among-says _ _ _ _ _ _ (c .before .before .before .before .before .loop .inv) (inr (Edge.past (c .if3 .taken)))
 
 push-requires-2 : tie.Need-push-requires-2 Inv-loop μ-loop
-push-requires-2 c κs = (omega arith, omega (arith, c .before .before .before .before .before .loop .inv .zeros, c .before .before .before .before .before .loop .inv .most))
+push-requires-2 c κs = (omega arith, omega (arith, c .before .before .before .before .before .loop .inv .zeros,
+    c .before .before .before .before .before .loop .inv .most))
 
 mul-v : tie.Need-mul-v Inv-loop μ-loop
 mul-v c = omega (arith, among-room (c .before .before .before .before .before .before .loop .inv) (omega arith))
@@ -68,7 +71,11 @@ loop-less : tie.Need-loop-less Inv-loop μ-loop
 loop-less c = omega arith
 
 loop-again : tie.Need-loop-again Inv-loop μ-loop
-loop-again c = among-next (c .before .before .before .before .before .before .before .before .before .before .args .s .now) (c .before .before .before .before .before .before .before .before .before .before .args .q) (c .before .before .before .before .before .before .loop .acc) (c .push2 .result) (c .before .before .before .before .before .before .loop .v) (c .before .before .before .before .before .before .loop .n) (c .before .before .before .before .before .before .loop .at) (c .before .before .before .before .before .before .loop .inv) (omega arith) (c .before .before .before .before .before .loop-test .taken) (omega arith) (omega arith) (c .push2 .ensures .0) (c .push2 .ensures .1)
+loop-again c = among-next (c .before .before .before .before .before .before .before .before .before .before .args .s .now)
+    (c .before .before .before .before .before .before .before .before .before .before .args .q) (c .before .before .before .before .before .before .loop .acc)
+    (c .push2 .result) (c .before .before .before .before .before .before .loop .v) (c .before .before .before .before .before .before .loop .n)
+    (c .before .before .before .before .before .before .loop .at) (c .before .before .before .before .before .before .loop .inv) (omega arith)
+    (c .before .before .before .before .before .loop-test .taken) (omega arith) (omega arith) (c .push2 .ensures .0) (c .push2 .ensures .1)
 
 returns-4 : tie.Need-returns-4 Inv-loop μ-loop
 returns-4 c = among-says _ _ _ _ _ _ (c .before .loop .inv) (inr (Edge.ends (omega arith)))

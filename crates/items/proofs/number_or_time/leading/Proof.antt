@@ -15,7 +15,9 @@ plain-requires : tie.Need-plain-requires
 plain-requires c κs = search needs
 
 returns : tie.Need-returns
-returns c = lead-plain (c .before .before .before .before .before .before .args .s .now) (c .before .before .before .before .before .before .args .q) (c .before .before .before .before .first-digits .result) (c .before .before .before .before .first-digits .ensures) (at-end _ _ _ _ (omega arith)) (c .before .before .before .before .before .before .pre .short) _ (c .plain .ensures)
+returns c = lead-plain (c .before .before .before .before .before .before .args .s .now) (c .before .before .before .before .before .before .args .q)
+    (c .before .before .before .before .first-digits .result) (c .before .before .before .before .first-digits .ensures) (at-end _ _ _ _ (omega arith))
+    (c .before .before .before .before .before .before .pre .short) _ (c .plain .ensures)
 
 shared-slice-read-mark-of : tie.Need-shared-slice-read-mark-of
 shared-slice-read-mark-of c = search needs
@@ -27,7 +29,11 @@ enum-told : tie.Need-enum-told
 enum-told c = search needs
 
 cast-t16 : tie.Need-cast-t16
-cast-t16 c = omega (arith, colon-small (c .before .before .before .before .before .before .before .before .before .args .s .now) (c .before .before .before .before .before .before .before .before .before .args .q) (c .before .before .before .before .before .before .before .first-digits .result) (c .before .before .before .before .before .before .before .first-digits .ensures) (omega arith) _ (c .before .before .mark-of .ensures) (c .enum-told .given .1))
+cast-t16 c = omega (arith, colon-small (c .before .before .before .before .before .before .before .before .before .args .s .now)
+    (c .before .before .before .before .before .before .before .before .before .args .q)
+    (c .before .before .before .before .before .before .before .first-digits .result)
+    (c .before .before .before .before .before .before .before .first-digits .ensures) (omega arith) _ (c .before .before .mark-of .ensures)
+    (c .enum-told .given .1))
 
 add-t17 : tie.Need-add-t17
 add-t17 c = search needs
@@ -51,16 +57,33 @@ plain-requires-2 : tie.Need-plain-requires-2
 plain-requires-2 c κs = search needs
 
 returns-2 : tie.Need-returns-2
-returns-2 c = lead-colon (c .before .before .before .before .before .before .before .before .before .args .s .now) (c .before .before .before .before .before .before .before .before .before .args .q) (c .before .before .before .before .before .before .before .first-digits .result) (c .before .before .before .before .before .before .before .first-digits .ensures) (omega arith) _ (c .before .before .mark-of .ensures) (c .enum-told .given .1)
+returns-2 c = lead-colon (c .before .before .before .before .before .before .before .before .before .args .s .now)
+    (c .before .before .before .before .before .before .before .before .before .args .q)
+    (c .before .before .before .before .before .before .before .first-digits .result)
+    (c .before .before .before .before .before .before .before .first-digits .ensures) (omega arith) _ (c .before .before .mark-of .ensures)
+    (c .enum-told .given .1)
 
 returns-3 : tie.Need-returns-3
-returns-3 c = lead-dash (c .before .before .before .before .before .before .before .before .before .args .s .now) (c .before .before .before .before .before .before .before .before .before .args .q) (c .before .before .before .before .before .before .before .first-digits .result) (c .before .before .before .before .before .before .before .first-digits .ensures) (omega arith) _ (c .before .before .mark-of .ensures) (c .enum-told2 .given .1)
+returns-3 c = lead-dash (c .before .before .before .before .before .before .before .before .before .args .s .now)
+    (c .before .before .before .before .before .before .before .before .before .args .q)
+    (c .before .before .before .before .before .before .before .first-digits .result)
+    (c .before .before .before .before .before .before .before .first-digits .ensures) (omega arith) _ (c .before .before .mark-of .ensures)
+    (c .enum-told2 .given .1)
 
 returns-4 : tie.Need-returns-4
-returns-4 c = lead-x (c .before .before .before .before .before .before .before .before .before .args .s .now) (c .before .before .before .before .before .before .before .before .before .args .q) (c .before .before .before .before .before .before .before .first-digits .result) (c .before .before .before .before .before .before .before .first-digits .ensures) (omega arith) _ (c .before .before .mark-of .ensures) (c .enum-told3 .given .1)
+returns-4 c = lead-x (c .before .before .before .before .before .before .before .before .before .args .s .now)
+    (c .before .before .before .before .before .before .before .before .before .args .q)
+    (c .before .before .before .before .before .before .before .first-digits .result)
+    (c .before .before .before .before .before .before .before .first-digits .ensures) (omega arith) _ (c .before .before .mark-of .ensures)
+    (c .enum-told3 .given .1)
 
 returns-5 : tie.Need-returns-5
-returns-5 c = lead-plain (c .before .before .before .before .before .before .before .before .before .before .args .s .now) (c .before .before .before .before .before .before .before .before .before .before .args .q) (c .before .before .before .before .before .before .before .before .first-digits .result) (c .before .before .before .before .before .before .before .before .first-digits .ensures) (at-other _ _ _ _ (omega arith) _ (c .before .before .before .mark-of .ensures) (c .before .enum-told4 .given .1)) (c .before .before .before .before .before .before .before .before .before .before .pre .short) _ (c .plain2 .ensures)
+returns-5 c = lead-plain (c .before .before .before .before .before .before .before .before .before .before .args .s .now)
+    (c .before .before .before .before .before .before .before .before .before .before .args .q)
+    (c .before .before .before .before .before .before .before .before .first-digits .result)
+    (c .before .before .before .before .before .before .before .before .first-digits .ensures)
+    (at-other _ _ _ _ (omega arith) _ (c .before .before .before .mark-of .ensures) (c .before .enum-told4 .given .1))
+    (c .before .before .before .before .before .before .before .before .before .before .pre .short) _ (c .plain2 .ensures)
 
 pub leading-spec : {M : Type 1} → statement M
 leading-spec =

@@ -32,13 +32,15 @@ undigited-requires : tie.Need-undigited-requires
 undigited-requires c κs = (omega arith, omega arith, Edge.under (c .if3 .taken))
 
 returns-3 : tie.Need-returns-3
-returns-3 c = numeric-says _ _ (omega arith) _ (begin-other _ _ (omega arith) _ (Edge.under (c .before .if3 .taken)) (c .before .before .before .if1 .left) (c .before .before .if2 .left) (c .undigited .ensures))
+returns-3 c = numeric-says _ _ (omega arith) _ (begin-other _ _ (omega arith) _ (Edge.under (c .before .if3 .taken)) (c .before .before .before .if1 .left)
+    (c .before .before .if2 .left) (c .undigited .ensures))
 
 undigited-requires-2 : tie.Need-undigited-requires-2
 undigited-requires-2 c κs = (omega arith, omega arith, Edge.past (c .if4 .taken))
 
 returns-4 : tie.Need-returns-4
-returns-4 c = numeric-says _ _ (omega arith) _ (begin-other _ _ (omega arith) _ (Edge.past (c .before .if4 .taken)) (c .before .before .before .before .if1 .left) (c .before .before .before .if2 .left) (c .undigited2 .ensures))
+returns-4 c = numeric-says _ _ (omega arith) _ (begin-other _ _ (omega arith) _ (Edge.past (c .before .if4 .taken))
+    (c .before .before .before .before .if1 .left) (c .before .before .before .if2 .left) (c .undigited2 .ensures))
 
 unsigned-requires : tie.Need-unsigned-requires
 unsigned-requires c κs = search needs

@@ -20,7 +20,8 @@ returns-3 : tie.Need-returns-3
 returns-3 c = search needs
 
 returns-4 : tie.Need-returns-4
-returns-4 c = timely-none (c .before .before .before .before .args .s .now) (c .before .before .before .before .args .at) (omega arith) (c .before .if2 .left) (c .if3 .left)
+returns-4 c = timely-none (c .before .before .before .before .args .s .now) (c .before .before .before .before .args .at) (omega arith) (c .before .if2 .left)
+    (c .if3 .left)
 
 pub timely-spec : {M : Type 1} → statement M
 timely-spec = tie.close (tie.spec returns shared-slice-read-b returns-2 returns-3 returns-4)

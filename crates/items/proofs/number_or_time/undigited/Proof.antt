@@ -42,7 +42,8 @@ returns-3 : tie.Need-returns-3
 returns-3 c = sign-infinity _ _ _ _ (omega arith) _ (c .before .before .if3 .taken) (c .named2 .ensures)
 
 returns-4 : tie.Need-returns-4
-returns-4 c = sign-other _ _ _ _ (omega arith) (c .before .before .before .before .before .pre .2) (c .before .before .if1 .left) (c .before .if2 .left) (c .if3 .left)
+returns-4 c = sign-other _ _ _ _ (omega arith) (c .before .before .before .before .before .pre .2) (c .before .before .if1 .left) (c .before .if2 .left)
+    (c .if3 .left)
 
 pub undigited-spec : {M : Type 1} → statement M
 undigited-spec =

@@ -32,7 +32,8 @@ returns-3 : tie.Need-returns-3
 returns-3 c = char-break _ _ _ (rw (c .before .p .given .1) at (c .before .before .before .escape-at .ensures))
 
 returns-4 : tie.Need-returns-4
-returns-4 c = c .unit .ensures (c .before .before .before .before .before .before .args .at) (rw (c .before .before .w .given .1) at (c .before .before .before .before .escape-at .ensures))
+returns-4 c = c .unit .ensures (c .before .before .before .before .before .before .args .at)
+    (rw (c .before .before .w .given .1) at (c .before .before .before .before .escape-at .ensures))
 
 pub character-spec : {M : Type 1} → statement M
 character-spec =

@@ -28,16 +28,19 @@ cast-t12 : tie.Need-cast-t12
 cast-t12 c = search needs
 
 returns-2 : tie.Need-returns-2
-returns-2 c = short-says _ _ (c .before .before .before .before .before .before .pre .0) (c .before .before .before .before .before .before .pre .1) (c .before .before .before .before .if1 .left) (c .before .before .if2 .taken) (c .before .short .result) (c .before .short .ensures) (c .if3 .taken)
+returns-2 c = short-says _ _ (c .before .before .before .before .before .before .pre .0) (c .before .before .before .before .before .before .pre .1)
+    (c .before .before .before .before .if1 .left) (c .before .before .if2 .taken) (c .before .short .result) (c .before .short .ensures) (c .if3 .taken)
 
 returns-3 : tie.Need-returns-3
-returns-3 c = no-short _ _ (c .before .before .before .before .before .before .pre .0) (c .before .before .before .before .before .before .pre .1) (c .before .before .before .before .if1 .left) (c .before .before .if2 .taken) (c .before .short .result) (c .before .short .ensures) (c .if3 .left)
+returns-3 c = no-short _ _ (c .before .before .before .before .before .before .pre .0) (c .before .before .before .before .before .before .pre .1)
+    (c .before .before .before .before .if1 .left) (c .before .before .if2 .taken) (c .before .short .result) (c .before .short .ensures) (c .if3 .left)
 
 add-u : tie.Need-add-u
 add-u c = search needs
 
 returns-4 : tie.Need-returns-4
-returns-4 c = nothing-unicode _ _ (c .before .before .before .before .before .pre .0) (c .before .before .before .before .before .pre .1) (c .before .before .before .if1 .left) (c .before .if2 .left) (c .if4 .taken)
+returns-4 c = nothing-unicode _ _ (c .before .before .before .before .before .pre .0) (c .before .before .before .before .before .pre .1)
+    (c .before .before .before .if1 .left) (c .before .if2 .left) (c .if4 .taken)
 
 shared-slice-read-if5 : tie.Need-shared-slice-read-if5
 shared-slice-read-if5 c = search needs

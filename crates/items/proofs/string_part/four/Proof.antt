@@ -35,7 +35,8 @@ add-t11 : tie.Need-add-t11
 add-t11 c = search needs
 
 returns-2 : tie.Need-returns-2
-returns-2 c = four1 _ _ (c .before .before .before .before .before .pre) (c .before .before .before .digit .result) (c .before .before .before .digit .ensures) (c .before .before .if1 .left) (c .before .digit2 .result) (c .before .digit2 .ensures) (c .if2 .taken)
+returns-2 c = four1 _ _ (c .before .before .before .before .before .pre) (c .before .before .before .digit .result) (c .before .before .before .digit .ensures)
+    (c .before .before .if1 .left) (c .before .digit2 .result) (c .before .digit2 .ensures) (c .if2 .taken)
 
 add-digit-3 : tie.Need-add-digit-3
 add-digit-3 c = search needs
@@ -50,7 +51,9 @@ add-t12 : tie.Need-add-t12
 add-t12 c = search needs
 
 returns-3 : tie.Need-returns-3
-returns-3 c = four2 _ _ (c .before .before .before .before .before .before .before .pre) (c .before .before .before .before .before .digit .result) (c .before .before .before .before .before .digit .ensures) (c .before .before .before .before .if1 .left) (c .before .before .before .digit2 .result) (c .before .before .before .digit2 .ensures) (c .before .before .if2 .left) (c .before .digit3 .result) (c .before .digit3 .ensures) (c .if3 .taken)
+returns-3 c = four2 _ _ (c .before .before .before .before .before .before .before .pre) (c .before .before .before .before .before .digit .result)
+    (c .before .before .before .before .before .digit .ensures) (c .before .before .before .before .if1 .left) (c .before .before .before .digit2 .result)
+    (c .before .before .before .digit2 .ensures) (c .before .before .if2 .left) (c .before .digit3 .result) (c .before .digit3 .ensures) (c .if3 .taken)
 
 add-digit-4 : tie.Need-add-digit-4
 add-digit-4 c = search needs
@@ -65,7 +68,11 @@ add-t13 : tie.Need-add-t13
 add-t13 c = search needs
 
 returns-4 : tie.Need-returns-4
-returns-4 c = four3 _ _ (c .before .before .before .before .before .before .before .before .before .pre) (c .before .before .before .before .before .before .before .digit .result) (c .before .before .before .before .before .before .before .digit .ensures) (c .before .before .before .before .before .before .if1 .left) (c .before .before .before .before .before .digit2 .result) (c .before .before .before .before .before .digit2 .ensures) (c .before .before .before .before .if2 .left) (c .before .before .before .digit3 .result) (c .before .before .before .digit3 .ensures) (c .before .before .if3 .left) (c .before .digit4 .result) (c .before .digit4 .ensures) (c .if4 .taken)
+returns-4 c = four3 _ _ (c .before .before .before .before .before .before .before .before .before .pre)
+    (c .before .before .before .before .before .before .before .digit .result) (c .before .before .before .before .before .before .before .digit .ensures)
+    (c .before .before .before .before .before .before .if1 .left) (c .before .before .before .before .before .digit2 .result)
+    (c .before .before .before .before .before .digit2 .ensures) (c .before .before .before .before .if2 .left) (c .before .before .before .digit3 .result)
+    (c .before .before .before .digit3 .ensures) (c .before .before .if3 .left) (c .before .digit4 .result) (c .before .digit4 .ensures) (c .if4 .taken)
 
 add-t8 : tie.Need-add-t8
 add-t8 c = search needs
@@ -89,7 +96,11 @@ add-t19 : tie.Need-add-t19
 add-t19 c = search needs
 
 returns-5 : tie.Need-returns-5
-returns-5 c = four4 _ _ (c .before .before .before .before .before .before .before .before .before .pre) (c .before .before .before .before .before .before .before .digit .result) (c .before .before .before .before .before .before .before .digit .ensures) (c .before .before .before .before .before .before .if1 .left) (c .before .before .before .before .before .digit2 .result) (c .before .before .before .before .before .digit2 .ensures) (c .before .before .before .before .if2 .left) (c .before .before .before .digit3 .result) (c .before .before .before .digit3 .ensures) (c .before .before .if3 .left) (c .before .digit4 .result) (c .before .digit4 .ensures) (c .if4 .left)
+returns-5 c = four4 _ _ (c .before .before .before .before .before .before .before .before .before .pre)
+    (c .before .before .before .before .before .before .before .digit .result) (c .before .before .before .before .before .before .before .digit .ensures)
+    (c .before .before .before .before .before .before .if1 .left) (c .before .before .before .before .before .digit2 .result)
+    (c .before .before .before .before .before .digit2 .ensures) (c .before .before .before .before .if2 .left) (c .before .before .before .digit3 .result)
+    (c .before .before .before .digit3 .ensures) (c .before .before .if3 .left) (c .before .digit4 .result) (c .before .digit4 .ensures) (c .if4 .left)
 
 pub four-spec : {M : Type 1} → statement M
 four-spec =

@@ -24,10 +24,14 @@ shared-slice-read-b : tie.Need-shared-slice-read-b Inv-loop μ-loop
 shared-slice-read-b c = omega arith
 
 sub-t12 : tie.Need-sub-t12 Inv-loop μ-loop
-sub-t12 c = omega (arith, lining-far (c .before .before .before .before .before .before .args .s .now) (c .before .before .before .before .before .before .args .q) (c .before .before .before .before .before .before .args .from) (c .before .before .before .before .loop .i) (c .before .before .before .before .loop .n) (c .before .before .before .before .loop .inv))
+sub-t12 c = omega (arith, lining-far (c .before .before .before .before .before .before .args .s .now)
+    (c .before .before .before .before .before .before .args .q) (c .before .before .before .before .before .before .args .from)
+    (c .before .before .before .before .loop .i) (c .before .before .before .before .loop .n) (c .before .before .before .before .loop .inv))
 
 returns : tie.Need-returns Inv-loop μ-loop
-returns c = lining-close (c .before .before .before .before .before .before .args .s .now) (c .before .before .before .before .before .before .args .q) (c .before .before .before .before .before .before .args .from) (c .before .before .before .before .loop .i) (c .before .before .before .before .loop .n) (c .before .before .before .before .loop .inv) (c .before .before .before .loop-test .taken) (c .before .if1 .taken) (c .if2 .taken)
+returns c = lining-close (c .before .before .before .before .before .before .args .s .now) (c .before .before .before .before .before .before .args .q)
+    (c .before .before .before .before .before .before .args .from) (c .before .before .before .before .loop .i) (c .before .before .before .before .loop .n)
+    (c .before .before .before .before .loop .inv) (c .before .before .before .loop-test .taken) (c .before .if1 .taken) (c .if2 .taken)
 
 add-n : tie.Need-add-n Inv-loop μ-loop
 add-n c = let t = c .before .before .before .before .loop .inv in omega (arith, t .few)
@@ -39,7 +43,9 @@ loop-less : tie.Need-loop-less Inv-loop μ-loop
 loop-less c = omega arith
 
 loop-again : tie.Need-loop-again Inv-loop μ-loop
-loop-again c = lining-quote (c .before .before .before .before .before .before .args .s .now) (c .before .before .before .before .before .before .args .q) (c .before .before .before .before .before .before .args .from) (c .before .before .before .before .loop .i) (c .before .before .before .before .loop .n) (c .before .before .before .before .loop .inv) (c .before .before .before .loop-test .taken) (c .before .if1 .taken) (c .if2 .left)
+loop-again c = lining-quote (c .before .before .before .before .before .before .args .s .now) (c .before .before .before .before .before .before .args .q)
+    (c .before .before .before .before .before .before .args .from) (c .before .before .before .before .loop .i) (c .before .before .before .before .loop .n)
+    (c .before .before .before .before .loop .inv) (c .before .before .before .loop-test .taken) (c .before .if1 .taken) (c .if2 .left)
 
 line-byte-requires : tie.Need-line-byte-requires Inv-loop μ-loop
 line-byte-requires c κs = search needs
@@ -51,13 +57,22 @@ loop-less-2 : tie.Need-loop-less-2 Inv-loop μ-loop
 loop-less-2 c = omega arith
 
 loop-again-2 : tie.Need-loop-again-2 Inv-loop μ-loop
-loop-again-2 c = lining-other (c .before .before .before .before .before .before .before .args .s .now) (c .before .before .before .before .before .before .before .args .q) (c .before .before .before .before .before .before .before .args .from) (c .before .before .before .before .before .loop .i) (c .before .before .before .before .before .loop .n) (c .before .before .before .before .before .loop .inv) (c .before .before .before .before .loop-test .taken) (c .before .before .if1 .left) (sym (c .before .line-byte .ensures) ∙ c .if3 .taken)
+loop-again-2 c = lining-other (c .before .before .before .before .before .before .before .args .s .now)
+    (c .before .before .before .before .before .before .before .args .q) (c .before .before .before .before .before .before .before .args .from)
+    (c .before .before .before .before .before .loop .i) (c .before .before .before .before .before .loop .n)
+    (c .before .before .before .before .before .loop .inv) (c .before .before .before .before .loop-test .taken) (c .before .before .if1 .left)
+    (sym (c .before .line-byte .ensures) ∙ c .if3 .taken)
 
 returns-2 : tie.Need-returns-2 Inv-loop μ-loop
-returns-2 c = lining-cut (c .before .before .before .before .before .before .before .args .s .now) (c .before .before .before .before .before .before .before .args .q) (c .before .before .before .before .before .before .before .args .from) (c .before .before .before .before .before .loop .i) (c .before .before .before .before .before .loop .n) (c .before .before .before .before .before .loop .inv) (c .before .before .before .before .loop-test .taken) (c .before .before .if1 .left) (sym (c .before .line-byte .ensures) ∙ c .if3 .left)
+returns-2 c = lining-cut (c .before .before .before .before .before .before .before .args .s .now)
+    (c .before .before .before .before .before .before .before .args .q) (c .before .before .before .before .before .before .before .args .from)
+    (c .before .before .before .before .before .loop .i) (c .before .before .before .before .before .loop .n)
+    (c .before .before .before .before .before .loop .inv) (c .before .before .before .before .loop-test .taken) (c .before .before .if1 .left)
+    (sym (c .before .line-byte .ensures) ∙ c .if3 .left)
 
 returns-3 : tie.Need-returns-3 Inv-loop μ-loop
-returns-3 c = lining-end (c .before .before .before .args .s .now) (c .before .before .before .args .q) (c .before .before .before .args .from) (c .before .loop .i) (c .before .loop .n) (c .before .loop .inv) (omega arith) (c .loop-test .left)
+returns-3 c = lining-end (c .before .before .before .args .s .now) (c .before .before .before .args .q) (c .before .before .before .args .from)
+    (c .before .loop .i) (c .before .loop .n) (c .before .loop .inv) (omega arith) (c .loop-test .left)
 
 pub lines-end-spec : {M : Type 1} → statement M
 lines-end-spec =

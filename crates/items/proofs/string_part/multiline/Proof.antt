@@ -23,22 +23,34 @@ enum-known-e : tie.Need-enum-known-e
 enum-known-e c = search needs
 
 copy-requires : tie.Need-copy-requires
-copy-requires c κs = let t = (rw (c .before .before .e .given .1) at (c .before .before .before .before .lines-end .ensures)) in (t .behind, omega (arith, t .within))
+copy-requires c κs = let t = (rw (c .before .before .e .given .1) at (c .before .before .before .before .lines-end .ensures)) in
+    (t .behind, omega (arith, t .within))
 
 add-t14 : tie.Need-add-t14
-add-t14 c = let t = (rw (c .before .before .before .before .before .e .given .1) at (c .before .before .before .before .before .before .before .lines-end .ensures)) in omega (arith, t .within)
+add-t14 c = let t = (rw (c .before .before .before .before .before .e .given .1) at
+    (c .before .before .before .before .before .before .before .lines-end .ensures)) in omega (arith, t .within)
 
 sub-t13 : tie.Need-sub-t13
-sub-t13 c = let t = (rw (c .before .before .before .before .before .e .given .1) at (c .before .before .before .before .before .before .before .lines-end .ensures)) in omega (arith, t .behind)
+sub-t13 c = let t = (rw (c .before .before .before .before .before .e .given .1) at
+    (c .before .before .before .before .before .before .before .lines-end .ensures)) in omega (arith, t .behind)
 
 returns : tie.Need-returns
-returns c = three-cut _ (c .before .before .before .before .before .before .before .args .q) (c .before .before .before .before .before .before .before .args .at) (c .before .before .before .before .before .before .before .args .store .now) (c .before .before .before .before .before .before .before .pre .1) _ (c .before .before .before .before .lines-start .ensures) _ (rw (c .before .p .given .1) at (c .before .before .before .lines-end .ensures))
+returns c = three-cut _ (c .before .before .before .before .before .before .before .args .q)
+    (c .before .before .before .before .before .before .before .args .at) (c .before .before .before .before .before .before .before .args .store .now)
+    (c .before .before .before .before .before .before .before .pre .1) _ (c .before .before .before .before .lines-start .ensures) _
+    (rw (c .before .p .given .1) at (c .before .before .before .lines-end .ensures))
 
 same-length : tie.Need-same-length
 same-length c = search needs
 
 returns-2 : tie.Need-returns-2
-returns-2 c = three-last _ (c .before .before .before .before .before .before .before .before .before .before .before .args .q) (c .before .before .before .before .before .before .before .before .before .before .before .args .at) (c .before .before .before .before .before .before .before .before .before .before .before .args .store .now) (c .before .before .before .before .before .before .before .before .before .before .before .pre .1) _ (c .before .before .before .before .before .before .before .before .lines-start .ensures) _ (rw (c .before .before .before .before .before .e .given .1) at (c .before .before .before .before .before .before .before .lines-end .ensures)) _ (c .before .before .copy .ensures)
+returns-2 c = three-last _ (c .before .before .before .before .before .before .before .before .before .before .before .args .q)
+    (c .before .before .before .before .before .before .before .before .before .before .before .args .at)
+    (c .before .before .before .before .before .before .before .before .before .before .before .args .store .now)
+    (c .before .before .before .before .before .before .before .before .before .before .before .pre .1) _
+    (c .before .before .before .before .before .before .before .before .lines-start .ensures) _
+    (rw (c .before .before .before .before .before .e .given .1) at (c .before .before .before .before .before .before .before .lines-end .ensures)) _
+    (c .before .before .copy .ensures)
 
 pub multiline-spec : {M : Type 1} → statement M
 multiline-spec =

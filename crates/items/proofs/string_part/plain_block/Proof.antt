@@ -47,7 +47,12 @@ loop-less : tie.Need-loop-less Inv-loop μ-loop
 loop-less c = omega arith
 
 loop-again : tie.Need-loop-again Inv-loop μ-loop
-loop-again c = (omega arith, least-more (c .before .before .before .before .before .before .before .loop .inv .1) (c .before .before .before .before .lesser .ensures .0) (c .before .before .lesser2 .ensures .0) (c .lesser3 .ensures .0) (record { byte = omega (arith, c .before .before .before .before .before .shared-slice-known2 .given (c .before .before .before .before .before .before .before .before .before .args .at + c .before .before .before .before .before .before .before .loop .k)); low = c .before .before .before .before .lesser .ensures .1; far = omega (arith, c .before .before .lesser2 .ensures .1, c .before .before .before .apart .ensures); other = omega (arith, c .lesser3 .ensures .1, c .before .apart2 .ensures) }))
+loop-again c = (omega arith, least-more (c .before .before .before .before .before .before .before .loop .inv .1)
+    (c .before .before .before .before .lesser .ensures .0) (c .before .before .lesser2 .ensures .0) (c .lesser3 .ensures .0)
+    (record { byte = omega (arith, c .before .before .before .before .before .shared-slice-known2 .given
+    (c .before .before .before .before .before .before .before .before .before .args .at + c .before .before .before .before .before .before .before .loop .k));
+    low = c .before .before .before .before .lesser .ensures .1; far = omega (arith, c .before .before .lesser2 .ensures .1,
+    c .before .before .before .apart .ensures); other = omega (arith, c .lesser3 .ensures .1, c .before .apart2 .ensures) }))
 
 returns : tie.Need-returns Inv-loop μ-loop
 returns c = tt
@@ -59,7 +64,8 @@ returns-3 : tie.Need-returns-3 Inv-loop μ-loop
 returns-3 c = tt
 
 returns-4 : tie.Need-returns-4 Inv-loop μ-loop
-returns-4 c = least-plain (c .before .before .before .before .loop .inv .1) (c .before .before .before .loop-test .left) (c .before .before .if1 .left) (c .before .if2 .left) (c .if3 .left)
+returns-4 c = least-plain (c .before .before .before .before .loop .inv .1) (c .before .before .before .loop-test .left) (c .before .before .if1 .left)
+    (c .before .if2 .left) (c .if3 .left)
 
 pub plain-block-spec : {M : Type 1} → statement M
 plain-block-spec =

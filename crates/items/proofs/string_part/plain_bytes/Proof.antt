@@ -21,13 +21,20 @@ shared-slice-read-b : tie.Need-shared-slice-read-b Inv-loop μ-loop
 shared-slice-read-b c = omega arith
 
 returns : tie.Need-returns Inv-loop μ-loop
-returns c = pass-stop (c .before .before .before .before .args .s .now) (c .before .before .before .before .args .q) (c .before .before .before .before .args .from) (c .before .before .before .loop .at) (c .before .before .before .loop .inv) (c .before .before .loop-test .taken) (plain-slash (c .before .before .before .before .args .q) _ (c .if1 .taken))
+returns c = pass-stop (c .before .before .before .before .args .s .now) (c .before .before .before .before .args .q)
+    (c .before .before .before .before .args .from) (c .before .before .before .loop .at) (c .before .before .before .loop .inv)
+    (c .before .before .loop-test .taken) (plain-slash (c .before .before .before .before .args .q) _ (c .if1 .taken))
 
 returns-2 : tie.Need-returns-2 Inv-loop μ-loop
-returns-2 c = pass-stop (c .before .before .before .before .before .args .s .now) (c .before .before .before .before .before .args .q) (c .before .before .before .before .before .args .from) (c .before .before .before .before .loop .at) (c .before .before .before .before .loop .inv) (c .before .before .before .loop-test .taken) (plain-quote (c .before .before .before .before .before .args .q) _ (c .before .if1 .left) (c .if2 .taken))
+returns-2 c = pass-stop (c .before .before .before .before .before .args .s .now) (c .before .before .before .before .before .args .q)
+    (c .before .before .before .before .before .args .from) (c .before .before .before .before .loop .at) (c .before .before .before .before .loop .inv)
+    (c .before .before .before .loop-test .taken) (plain-quote (c .before .before .before .before .before .args .q) _ (c .before .if1 .left) (c .if2 .taken))
 
 returns-3 : tie.Need-returns-3 Inv-loop μ-loop
-returns-3 c = pass-stop (c .before .before .before .before .before .before .args .s .now) (c .before .before .before .before .before .before .args .q) (c .before .before .before .before .before .before .args .from) (c .before .before .before .before .before .loop .at) (c .before .before .before .before .before .loop .inv) (c .before .before .before .before .loop-test .taken) (plain-low (c .before .before .before .before .before .before .args .q) _ (c .before .before .if1 .left) (c .before .if2 .left) (c .if3 .taken))
+returns-3 c = pass-stop (c .before .before .before .before .before .before .args .s .now) (c .before .before .before .before .before .before .args .q)
+    (c .before .before .before .before .before .before .args .from) (c .before .before .before .before .before .loop .at)
+    (c .before .before .before .before .before .loop .inv) (c .before .before .before .before .loop-test .taken)
+    (plain-low (c .before .before .before .before .before .before .args .q) _ (c .before .before .if1 .left) (c .before .if2 .left) (c .if3 .taken))
 
 add-at : tie.Need-add-at Inv-loop μ-loop
 add-at c = omega arith
@@ -36,10 +43,15 @@ loop-less : tie.Need-loop-less Inv-loop μ-loop
 loop-less c = omega arith
 
 loop-again : tie.Need-loop-again Inv-loop μ-loop
-loop-again c = pass-more (c .before .before .before .before .before .before .args .s .now) (c .before .before .before .before .before .before .args .q) (c .before .before .before .before .before .before .args .from) (c .before .before .before .before .before .loop .at) (c .before .before .before .before .before .loop .inv) (c .before .before .before .before .loop-test .taken) (c .before .before .if1 .left) (c .before .if2 .left) (c .if3 .left) (omega (arith, c .before .before .before .shared-slice-known .given (c .before .before .before .before .before .loop .at)))
+loop-again c = pass-more (c .before .before .before .before .before .before .args .s .now) (c .before .before .before .before .before .before .args .q)
+    (c .before .before .before .before .before .before .args .from) (c .before .before .before .before .before .loop .at)
+    (c .before .before .before .before .before .loop .inv) (c .before .before .before .before .loop-test .taken) (c .before .before .if1 .left)
+    (c .before .if2 .left) (c .if3 .left) (omega (arith, c .before .before .before .shared-slice-known .given
+    (c .before .before .before .before .before .loop .at)))
 
 returns-4 : tie.Need-returns-4 Inv-loop μ-loop
-returns-4 c = pass-end (c .before .before .args .s .now) (c .before .before .args .q) (c .before .before .args .from) (c .before .loop .at) (c .before .loop .inv) (c .loop-test .left)
+returns-4 c = pass-end (c .before .before .args .s .now) (c .before .before .args .q) (c .before .before .args .from) (c .before .loop .at)
+    (c .before .loop .inv) (c .loop-test .left)
 
 pub plain-bytes-spec : {M : Type 1} → statement M
 plain-bytes-spec =

@@ -36,19 +36,26 @@ loop-less : tie.Need-loop-less Inv-loop μ-loop
 loop-less c = omega arith
 
 loop-again : tie.Need-loop-again Inv-loop μ-loop
-loop-again c = pass-plains (c .before .before .before .before .before .args .s .now) (c .before .before .before .before .before .args .q) (c .before .before .before .before .before .args .from) (c .before .before .before .loop .at) 16 (c .before .before .before .loop .inv) (subst (λ (r : Bool). BlockSays (c .before .before .before .before .before .args .s .now) (c .before .before .before .before .before .args .q) (c .before .before .before .loop .at) r) (c .if1 .taken) (c .before .plain-block .ensures)) (omega arith)
+loop-again c = pass-plains (c .before .before .before .before .before .args .s .now) (c .before .before .before .before .before .args .q)
+    (c .before .before .before .before .before .args .from) (c .before .before .before .loop .at) 16 (c .before .before .before .loop .inv)
+    (subst (λ (r : Bool). BlockSays (c .before .before .before .before .before .args .s .now) (c .before .before .before .before .before .args .q)
+    (c .before .before .before .loop .at) r) (c .if1 .taken) (c .before .plain-block .ensures)) (omega arith)
 
 plain-bytes-requires : tie.Need-plain-bytes-requires Inv-loop μ-loop
 plain-bytes-requires c κs = omega arith
 
 returns : tie.Need-returns Inv-loop μ-loop
-returns c = pass-then (c .before .before .before .before .before .before .args .s .now) (c .before .before .before .before .before .before .args .q) (c .before .before .before .before .before .before .args .from) (c .before .before .before .before .loop .at) (c .plain-bytes .result) (c .before .before .before .before .loop .inv) (c .plain-bytes .ensures)
+returns c = pass-then (c .before .before .before .before .before .before .args .s .now) (c .before .before .before .before .before .before .args .q)
+    (c .before .before .before .before .before .before .args .from) (c .before .before .before .before .loop .at) (c .plain-bytes .result)
+    (c .before .before .before .before .loop .inv) (c .plain-bytes .ensures)
 
 plain-bytes-requires-2 : tie.Need-plain-bytes-requires-2 Inv-loop μ-loop
 plain-bytes-requires-2 c κs = omega arith
 
 returns-2 : tie.Need-returns-2 Inv-loop μ-loop
-returns-2 c = pass-then (c .before .before .before .before .args .s .now) (c .before .before .before .before .args .q) (c .before .before .before .before .args .from) (c .before .before .loop .at) (c .plain-bytes2 .result) (c .before .before .loop .inv) (c .plain-bytes2 .ensures)
+returns-2 c = pass-then (c .before .before .before .before .args .s .now) (c .before .before .before .before .args .q)
+    (c .before .before .before .before .args .from) (c .before .before .loop .at) (c .plain-bytes2 .result) (c .before .before .loop .inv)
+    (c .plain-bytes2 .ensures)
 
 pub plain-end-spec : {M : Type 1} → statement M
 plain-end-spec =

@@ -13,13 +13,15 @@ enum-known-nanos : tie.Need-enum-known-nanos
 enum-known-nanos c = search needs
 
 clocked-requires : tie.Need-clocked-requires
-clocked-requires c κs = let t = rw (c .before .nanos .given .1) at (c .before .before .before .second-part .ensures) in (record { within = t .within; short = c .before .before .before .before .before .pre .short }, t .small)
+clocked-requires c κs = let t = rw (c .before .nanos .given .1) at (c .before .before .before .second-part .ensures) in
+    (record { within = t .within; short = c .before .before .before .before .before .pre .short }, t .small)
 
 returns : tie.Need-returns
 returns c = (rw (c .before .p .given .1) at (c .before .before .before .second-part .ensures)) _ _ _ _ _
 
 returns-2 : tie.Need-returns-2
-returns-2 c = let t = rw (c .before .before .nanos .given .1) at (c .before .before .before .before .second-part .ensures) in t .reads _ _ _ _ _ _ (c .clocked .ensures)
+returns-2 c = let t = rw (c .before .before .nanos .given .1) at (c .before .before .before .before .second-part .ensures) in
+    t .reads _ _ _ _ _ _ (c .clocked .ensures)
 
 pub after-second-spec : {M : Type 1} → statement M
 after-second-spec =

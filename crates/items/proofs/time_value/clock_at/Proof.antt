@@ -15,7 +15,9 @@ enum-known-hour : tie.Need-enum-known-hour
 enum-known-hour c = search needs
 
 after-hour-requires : tie.Need-after-hour-requires
-after-hour-requires c κs = let g = mark-got (c .before .before .before .before .before .args .s .now) (c .before .before .before .before .before .args .i) (ch ":") _ (c .before .before .before .two-then .ensures) _ _ (c .before .hour .given .1) in record { within = g .0; short = c .before .before .before .before .before .pre .short }
+after-hour-requires c κs = let g = mark-got (c .before .before .before .before .before .args .s .now) (c .before .before .before .before .before .args .i)
+    (ch ":") _ (c .before .before .before .two-then .ensures) _ _ (c .before .hour .given .1) in
+    record { within = g .0; short = c .before .before .before .before .before .pre .short }
 
 returns : tie.Need-returns
 returns c = hour-bad _ _ _ _ _ (c .before .before .before .two-then .ensures) _ (c .before .p .given .1)

@@ -17,10 +17,14 @@ zone-requires : tie.Need-zone-requires
 zone-requires c κs = search needs
 
 returns : tie.Need-returns
-returns c = clocked-alone (c .before .before .before .before .args .s .now) (c .before .before .before .before .args .q) (c .before .before .before .before .args .w) (c .before .before .before .before .args .c) (c .before .before .before .before .args .at) _ (c .before .enum-told .given .1) (c .local-time .ensures)
+returns c = clocked-alone (c .before .before .before .before .args .s .now) (c .before .before .before .before .args .q)
+    (c .before .before .before .before .args .w) (c .before .before .before .before .args .c) (c .before .before .before .before .args .at) _
+    (c .before .enum-told .given .1) (c .local-time .ensures)
 
 returns-2 : tie.Need-returns-2
-returns-2 c = clocked-on (c .before .before .before .before .before .args .s .now) (c .before .before .before .before .before .args .q) (c .before .before .before .before .before .args .w) (c .before .before .before .before .before .args .c) (c .before .before .before .before .before .args .at) _ _ (c .before .before .w .given .1) (c .zone .ensures)
+returns-2 c = clocked-on (c .before .before .before .before .before .args .s .now) (c .before .before .before .before .before .args .q)
+    (c .before .before .before .before .before .args .w) (c .before .before .before .before .before .args .c)
+    (c .before .before .before .before .before .args .at) _ _ (c .before .before .w .given .1) (c .zone .ensures)
 
 pub clocked-spec : {M : Type 1} → statement M
 clocked-spec =

@@ -11,7 +11,8 @@ time-requires : tie.Need-time-requires
 time-requires c κs = search needs
 
 returns : tie.Need-returns
-returns c = date-good (c .before .before .before .args .q) (c .before .before .before .args .d) (c .before .before .before .args .at) _ (c .before .before .is-date .ensures) (c .before .if1 .taken) _ (c .time .ensures)
+returns c = date-good (c .before .before .before .args .q) (c .before .before .before .args .d) (c .before .before .before .args .at) _
+    (c .before .before .is-date .ensures) (c .before .if1 .taken) _ (c .time .ensures)
 
 returns-2 : tie.Need-returns-2
 returns-2 c = date-bad (c .before .before .args .q) (c .before .before .args .d) (c .before .before .args .at) _ (c .before .is-date .ensures) (c .if1 .left)

@@ -9,7 +9,8 @@ date-done-requires : tie.Need-date-done-requires
 date-done-requires c κs = search needs
 
 returns : tie.Need-returns
-returns c = day-end (c .before .before .before .args .s .now) (c .before .before .before .args .q) (c .before .before .before .args .d) (c .before .before .before .args .at) _ (omega arith) (c .date-done .ensures)
+returns c = day-end (c .before .before .before .args .s .now) (c .before .before .before .args .q) (c .before .before .before .args .d)
+    (c .before .before .before .args .at) _ (omega arith) (c .date-done .ensures)
 
 shared-slice-read-b : tie.Need-shared-slice-read-b
 shared-slice-read-b c = search needs
@@ -21,7 +22,9 @@ clock-at-requires : tie.Need-clock-at-requires
 clock-at-requires c κs = search needs
 
 returns-2 : tie.Need-returns-2
-returns-2 c = day-letter (c .before .before .before .before .before .args .s .now) (c .before .before .before .before .before .args .q) (c .before .before .before .before .before .args .d) (c .before .before .before .before .before .args .at) _ (omega arith) (c .before .if2 .taken) (c .clock-at .ensures)
+returns-2 c = day-letter (c .before .before .before .before .before .args .s .now) (c .before .before .before .before .before .args .q)
+    (c .before .before .before .before .before .args .d) (c .before .before .before .before .before .args .at) _ (omega arith) (c .before .if2 .taken)
+    (c .clock-at .ensures)
 
 add-spaced : tie.Need-add-spaced
 add-spaced c = search needs
@@ -30,13 +33,17 @@ spaced-requires : tie.Need-spaced-requires
 spaced-requires c κs = search needs
 
 returns-3 : tie.Need-returns-3
-returns-3 c = day-space (c .before .before .before .before .before .before .args .s .now) (c .before .before .before .before .before .before .args .q) (c .before .before .before .before .before .before .args .d) (c .before .before .before .before .before .before .args .at) _ (omega arith) (c .before .if3 .taken) (c .spaced .ensures)
+returns-3 c = day-space (c .before .before .before .before .before .before .args .s .now) (c .before .before .before .before .before .before .args .q)
+    (c .before .before .before .before .before .before .args .d) (c .before .before .before .before .before .before .args .at) _ (omega arith)
+    (c .before .if3 .taken) (c .spaced .ensures)
 
 date-done-requires-2 : tie.Need-date-done-requires-2
 date-done-requires-2 c κs = search needs
 
 returns-4 : tie.Need-returns-4
-returns-4 c = day-other (c .before .before .before .before .before .before .args .s .now) (c .before .before .before .before .before .before .args .q) (c .before .before .before .before .before .before .args .d) (c .before .before .before .before .before .before .args .at) _ (omega arith) (c .before .before .if2 .left) (c .before .if3 .left) (c .date-done2 .ensures)
+returns-4 c = day-other (c .before .before .before .before .before .before .args .s .now) (c .before .before .before .before .before .before .args .q)
+    (c .before .before .before .before .before .before .args .d) (c .before .before .before .before .before .before .args .at) _ (omega arith)
+    (c .before .before .if2 .left) (c .before .if3 .left) (c .date-done2 .ensures)
 
 pub dated-spec : {M : Type 1} → statement M
 dated-spec =

@@ -17,13 +17,19 @@ time-requires : tie.Need-time-requires
 time-requires c κs = search needs
 
 returns : tie.Need-returns
-returns c = stamp-good (c .before .before .before .before .before .before .args .q) (c .before .before .before .before .before .before .args .c) (c .before .before .before .before .before .before .args .at) _ (c .before .before .before .is-clock .ensures) (c .before .before .before .before .before .before .args .d) _ (c .before .before .before .before .before .is-date .ensures) (c .before .before .before .before .if1 .taken) (c .before .before .if2 .taken) _ (c .before .time-of-day .ensures) _ (c .time .ensures)
+returns c = stamp-good (c .before .before .before .before .before .before .args .q) (c .before .before .before .before .before .before .args .c)
+    (c .before .before .before .before .before .before .args .at) _ (c .before .before .before .is-clock .ensures)
+    (c .before .before .before .before .before .before .args .d) _ (c .before .before .before .before .before .is-date .ensures)
+    (c .before .before .before .before .if1 .taken) (c .before .before .if2 .taken) _ (c .before .time-of-day .ensures) _ (c .time .ensures)
 
 returns-2 : tie.Need-returns-2
-returns-2 c = stamp-clock (c .before .before .before .before .args .q) (c .before .before .before .before .args .c) (c .before .before .before .before .args .at) _ (c .before .is-clock .ensures) (c .before .before .before .before .args .d) _ (c .before .before .before .is-date .ensures) (c .if2 .left)
+returns-2 c = stamp-clock (c .before .before .before .before .args .q) (c .before .before .before .before .args .c)
+    (c .before .before .before .before .args .at) _ (c .before .is-clock .ensures) (c .before .before .before .before .args .d) _
+    (c .before .before .before .is-date .ensures) (c .if2 .left)
 
 returns-3 : tie.Need-returns-3
-returns-3 c = stamp-date (c .before .before .args .q) (c .before .before .args .c) (c .before .before .args .at) (c .before .before .args .d) _ (c .before .is-date .ensures) (c .if1 .left)
+returns-3 c = stamp-date (c .before .before .args .q) (c .before .before .args .c) (c .before .before .args .at) (c .before .before .args .d) _
+    (c .before .is-date .ensures) (c .if1 .left)
 
 pub local-date-time-spec : {M : Type 1} → statement M
 local-date-time-spec =

@@ -14,7 +14,8 @@ time-requires : tie.Need-time-requires
 time-requires c κs = search needs
 
 returns : tie.Need-returns
-returns c = time-good (c .before .before .before .before .args .q) (c .before .before .before .before .args .c) (c .before .before .before .before .args .at) _ (c .before .before .before .is-clock .ensures) (c .before .before .if1 .taken) _ (c .before .time-of-day .ensures) _ (c .time .ensures)
+returns c = time-good (c .before .before .before .before .args .q) (c .before .before .before .before .args .c) (c .before .before .before .before .args .at) _
+    (c .before .before .before .is-clock .ensures) (c .before .before .if1 .taken) _ (c .before .time-of-day .ensures) _ (c .time .ensures)
 
 returns-2 : tie.Need-returns-2
 returns-2 c = time-bad (c .before .before .args .q) (c .before .before .args .c) (c .before .before .args .at) _ (c .before .is-clock .ensures) (c .if1 .left)

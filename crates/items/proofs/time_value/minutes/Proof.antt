@@ -25,10 +25,12 @@ sub-result : tie.Need-sub-result
 sub-result c = neg-fits w16 (pos (c .before .args .hour * 60 + c .before .args .minute)) (omega arith)
 
 returns : tie.Need-returns
-returns c = neg-is w16 (pos (c .before .args .hour * 60 + c .before .args .minute)) (omega arith) ∙ sym (ap (λ (b : Bool). signed b (c .before .args .hour * 60 + c .before .args .minute)) (c .if1 .taken))
+returns c = neg-is w16 (pos (c .before .args .hour * 60 + c .before .args .minute)) (omega arith)
+    ∙ sym (ap (λ (b : Bool). signed b (c .before .args .hour * 60 + c .before .args .minute)) (c .if1 .taken))
 
 returns-2 : tie.Need-returns-2
-returns-2 c = toZ-pos w16 (c .before .args .hour * 60 + c .before .args .minute) (omega arith) ∙ sym (ap (λ (b : Bool). signed b (c .before .args .hour * 60 + c .before .args .minute)) (c .if1 .left))
+returns-2 c = toZ-pos w16 (c .before .args .hour * 60 + c .before .args .minute) (omega arith)
+    ∙ sym (ap (λ (b : Bool). signed b (c .before .args .hour * 60 + c .before .args .minute)) (c .if1 .left))
 
 pub minutes-spec : {M : Type 1} → statement M
 minutes-spec = tie.close (tie.spec mul-m add-m cast-x sub-result returns returns-2)

@@ -19,13 +19,21 @@ time-requires : tie.Need-time-requires
 time-requires c κs = search needs
 
 returns : tie.Need-returns
-returns c = offset-good (c .before .before .before .before .before .before .args .q) (c .before .before .before .before .before .before .args .c) (c .before .before .before .before .before .before .args .at) _ (c .before .before .before .is-clock .ensures) (c .before .before .before .before .before .before .args .d) _ (c .before .before .before .before .before .is-date .ensures) (c .before .before .before .before .before .before .args .offset) (c .before .before .before .before .if1 .taken) (c .before .before .if2 .taken) _ (c .before .time-of-day .ensures) _ (toZ-ofZ w16 (c .before .before .before .before .before .before .args .offset) (c .before .before .before .before .before .before .fits .offset)) _ (c .time .ensures)
+returns c = offset-good (c .before .before .before .before .before .before .args .q) (c .before .before .before .before .before .before .args .c)
+    (c .before .before .before .before .before .before .args .at) _ (c .before .before .before .is-clock .ensures)
+    (c .before .before .before .before .before .before .args .d) _ (c .before .before .before .before .before .is-date .ensures)
+    (c .before .before .before .before .before .before .args .offset) (c .before .before .before .before .if1 .taken) (c .before .before .if2 .taken) _
+    (c .before .time-of-day .ensures) _ (toZ-ofZ w16 (c .before .before .before .before .before .before .args .offset)
+    (c .before .before .before .before .before .before .fits .offset)) _ (c .time .ensures)
 
 returns-2 : tie.Need-returns-2
-returns-2 c = offset-clock (c .before .before .before .before .args .q) (c .before .before .before .before .args .c) (c .before .before .before .before .args .at) _ (c .before .is-clock .ensures) (c .before .before .before .before .args .d) _ (c .before .before .before .is-date .ensures) (c .before .before .before .before .args .offset) (c .if2 .left)
+returns-2 c = offset-clock (c .before .before .before .before .args .q) (c .before .before .before .before .args .c)
+    (c .before .before .before .before .args .at) _ (c .before .is-clock .ensures) (c .before .before .before .before .args .d) _
+    (c .before .before .before .is-date .ensures) (c .before .before .before .before .args .offset) (c .if2 .left)
 
 returns-3 : tie.Need-returns-3
-returns-3 c = offset-date (c .before .before .args .q) (c .before .before .args .c) (c .before .before .args .at) (c .before .before .args .d) _ (c .before .is-date .ensures) (c .if1 .left) (c .before .before .args .offset)
+returns-3 c = offset-date (c .before .before .args .q) (c .before .before .args .c) (c .before .before .args .at) (c .before .before .args .d) _
+    (c .before .is-date .ensures) (c .if1 .left) (c .before .before .args .offset)
 
 pub offset-date-time-spec : {M : Type 1} → statement M
 offset-date-time-spec =

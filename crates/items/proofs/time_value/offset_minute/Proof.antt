@@ -21,7 +21,8 @@ returns : tie.Need-returns
 returns c = offset-hour _ _ _ _ _ _ _ _ (c .before .before .before .before .two .ensures) _ _ (c .before .before .minute .given .1) (c .if1 .taken)
 
 returns-2 : tie.Need-returns-2
-returns-2 c = offset-minute _ _ _ _ _ _ _ _ (c .before .before .before .before .before .two .ensures) _ _ (c .before .before .before .minute .given .1) (c .if2 .taken)
+returns-2 c = offset-minute _ _ _ _ _ _ _ _ (c .before .before .before .before .before .two .ensures) _ _ (c .before .before .before .minute .given .1)
+    (c .if2 .taken)
 
 minutes-requires : tie.Need-minutes-requires
 minutes-requires c κs = search needs
@@ -33,7 +34,11 @@ returns-3 : tie.Need-returns-3
 returns-3 c = offset-bad-minute _ _ _ _ _ _ _ _ (c .before .before .before .two .ensures) _ (c .before .p .given .1)
 
 returns-4 : tie.Need-returns-4
-returns-4 c = offset-ends _ _ _ _ _ _ _ _ (c .before .before .before .before .before .before .before .two .ensures) _ _ (c .before .before .before .before .before .minute .given .1) (omega arith) (omega arith) _ (back w16 _ (c .before .before .before .before .before .before .before .before .before .args .minus) (c .before .before .before .before .before .before .before .before .before .args .hour * 60 + c .before .before .before .before .before .minute .given .0 .0) (omega arith) (c .before .minutes .ensures)) _ (c .offset-date-time .ensures)
+returns-4 c = offset-ends _ _ _ _ _ _ _ _ (c .before .before .before .before .before .before .before .two .ensures) _ _
+    (c .before .before .before .before .before .minute .given .1) (omega arith) (omega arith) _
+    (back w16 _ (c .before .before .before .before .before .before .before .before .before .args .minus)
+    (c .before .before .before .before .before .before .before .before .before .args .hour * 60 + c .before .before .before .before .before .minute .given .0
+    .0) (omega arith) (c .before .minutes .ensures)) _ (c .offset-date-time .ensures)
 
 pub offset-minute-spec : {M : Type 1} → statement M
 offset-minute-spec =

@@ -37,7 +37,8 @@ scaled-requires : tie.Need-scaled-requires
 scaled-requires c κs = search needs
 
 returns-6 : tie.Need-returns-6
-returns-6 c = part-nanos _ _ (omega arith) (c .before .before .before .before .before .before .if2 .left) (omega arith) (omega arith) (omega arith) _ (c .before .nano-digits .ensures) _ (c .scaled .ensures)
+returns-6 c = part-nanos _ _ (omega arith) (c .before .before .before .before .before .before .if2 .left) (omega arith) (omega arith) (omega arith) _
+    (c .before .nano-digits .ensures) _ (c .scaled .ensures)
 
 pub second-part-spec : {M : Type 1} → statement M
 second-part-spec =

@@ -22,16 +22,19 @@ add-j : tie.Need-add-j
 add-j c = search needs
 
 returns-4 : tie.Need-returns-4
-returns-4 c = bad-second (c .before .before .before .before .before .args .s .now) (c .before .before .before .before .before .args .i) (omega arith) (omega arith) (omega arith) (Edge.ends (omega arith))
+returns-4 c = bad-second (c .before .before .before .before .before .args .s .now) (c .before .before .before .before .before .args .i) (omega arith)
+    (omega arith) (omega arith) (Edge.ends (omega arith))
 
 shared-slice-read-b : tie.Need-shared-slice-read-b
 shared-slice-read-b c = search needs
 
 returns-5 : tie.Need-returns-5
-returns-5 c = bad-second (c .before .before .before .before .before .before .before .args .s .now) (c .before .before .before .before .before .before .before .args .i) (omega arith) (omega arith) (omega arith) (Edge.under (c .if5 .taken))
+returns-5 c = bad-second (c .before .before .before .before .before .before .before .args .s .now)
+    (c .before .before .before .before .before .before .before .args .i) (omega arith) (omega arith) (omega arith) (Edge.under (c .if5 .taken))
 
 returns-6 : tie.Need-returns-6
-returns-6 c = bad-second (c .before .before .before .before .before .before .before .before .args .s .now) (c .before .before .before .before .before .before .before .before .args .i) (omega arith) (omega arith) (omega arith) (Edge.past (c .if6 .taken))
+returns-6 c = bad-second (c .before .before .before .before .before .before .before .before .args .s .now)
+    (c .before .before .before .before .before .before .before .before .args .i) (omega arith) (omega arith) (omega arith) (Edge.past (c .if6 .taken))
 
 mul-t11 : tie.Need-mul-t11
 mul-t11 c = search needs
@@ -43,7 +46,9 @@ add-t6 : tie.Need-add-t6
 add-t6 c = search needs
 
 returns-7 : tie.Need-returns-7
-returns-7 c = got-two (c .before .before .before .before .before .before .before .before .args .s .now) (c .before .before .before .before .before .before .before .before .args .i) (omega arith) (omega arith) (omega arith) (omega arith) (omega arith) (omega arith)
+returns-7 c = got-two (c .before .before .before .before .before .before .before .before .args .s .now)
+    (c .before .before .before .before .before .before .before .before .args .i) (omega arith) (omega arith) (omega arith) (omega arith) (omega arith)
+    (omega arith)
 
 pub two-spec : {M : Type 1} → statement M
 two-spec =

@@ -15,22 +15,35 @@ enum-known-v : tie.Need-enum-known-v
 enum-known-v c = search needs
 
 returns : tie.Need-returns
-returns c = then-end (c .before .before .before .before .before .before .args .s .now) (c .before .before .before .before .before .before .args .i) (c .before .before .before .before .before .before .args .mark) (c .before .before .before .before .two .result) (c .before .before .before .before .two .ensures) (c .before .before .v .given .0 .0) (c .before .before .v .given .0 .1 .0) (c .before .before .v .given .1) (omega arith) (omega arith)
+returns c = then-end (c .before .before .before .before .before .before .args .s .now) (c .before .before .before .before .before .before .args .i)
+    (c .before .before .before .before .before .before .args .mark) (c .before .before .before .before .two .result)
+    (c .before .before .before .before .two .ensures) (c .before .before .v .given .0 .0) (c .before .before .v .given .0 .1 .0)
+    (c .before .before .v .given .1) (omega arith) (omega arith)
 
 shared-slice-read-if2 : tie.Need-shared-slice-read-if2
 shared-slice-read-if2 c = search needs
 
 returns-2 : tie.Need-returns-2
-returns-2 c = then-wrong (c .before .before .before .before .before .before .before .before .args .s .now) (c .before .before .before .before .before .before .before .before .args .i) (c .before .before .before .before .before .before .before .before .args .mark) (c .before .before .before .before .before .before .two .result) (c .before .before .before .before .before .before .two .ensures) (c .before .before .before .before .v .given .0 .0) (c .before .before .before .before .v .given .0 .1 .0) (c .before .before .before .before .v .given .1) (omega arith) (c .if2 .taken)
+returns-2 c = then-wrong (c .before .before .before .before .before .before .before .before .args .s .now)
+    (c .before .before .before .before .before .before .before .before .args .i) (c .before .before .before .before .before .before .before .before .args .mark)
+    (c .before .before .before .before .before .before .two .result) (c .before .before .before .before .before .before .two .ensures)
+    (c .before .before .before .before .v .given .0 .0) (c .before .before .before .before .v .given .0 .1 .0) (c .before .before .before .before .v .given .1)
+    (omega arith) (c .if2 .taken)
 
 add-t9 : tie.Need-add-t9
 add-t9 c = search needs
 
 returns-3 : tie.Need-returns-3
-returns-3 c = then-bad (c .before .before .before .before .before .args .s .now) (c .before .before .before .before .before .args .i) (c .before .before .before .before .before .args .mark) (c .before .before .before .two .result) (c .before .before .before .two .ensures) _ (c .before .p .given .1)
+returns-3 c = then-bad (c .before .before .before .before .before .args .s .now) (c .before .before .before .before .before .args .i)
+    (c .before .before .before .before .before .args .mark) (c .before .before .before .two .result) (c .before .before .before .two .ensures) _
+    (c .before .p .given .1)
 
 returns-4 : tie.Need-returns-4
-returns-4 c = then-got (c .before .before .before .before .before .before .before .before .args .s .now) (c .before .before .before .before .before .before .before .before .args .i) (c .before .before .before .before .before .before .before .before .args .mark) (c .before .before .before .before .before .before .two .result) (c .before .before .before .before .before .before .two .ensures) (c .before .before .before .before .v .given .0 .0) (c .before .before .before .before .v .given .0 .1 .0) (c .before .before .before .before .v .given .1) (omega arith) (c .if2 .left)
+returns-4 c = then-got (c .before .before .before .before .before .before .before .before .args .s .now)
+    (c .before .before .before .before .before .before .before .before .args .i) (c .before .before .before .before .before .before .before .before .args .mark)
+    (c .before .before .before .before .before .before .two .result) (c .before .before .before .before .before .before .two .ensures)
+    (c .before .before .before .before .v .given .0 .0) (c .before .before .before .before .v .given .0 .1 .0) (c .before .before .before .before .v .given .1)
+    (omega arith) (c .if2 .left)
 
 pub two-then-spec : {M : Type 1} → statement M
 two-then-spec =

@@ -10,7 +10,8 @@ local-date-time-requires : tie.Need-local-date-time-requires
 local-date-time-requires c κs = search needs
 
 returns : tie.Need-returns
-returns c = zone-end (c .before .before .before .args .s .now) (c .before .before .before .args .q) (c .before .before .before .args .d) (c .before .before .before .args .c) (c .before .before .before .args .at) _ (omega arith) (c .local-date-time .ensures)
+returns c = zone-end (c .before .before .before .args .s .now) (c .before .before .before .args .q) (c .before .before .before .args .d)
+    (c .before .before .before .args .c) (c .before .before .before .args .at) _ (omega arith) (c .local-date-time .ensures)
 
 shared-slice-read-b : tie.Need-shared-slice-read-b
 shared-slice-read-b c = search needs
@@ -22,7 +23,9 @@ offset-date-time-requires : tie.Need-offset-date-time-requires
 offset-date-time-requires c κs = search needs
 
 returns-2 : tie.Need-returns-2
-returns-2 c = zone-zulu (c .before .before .before .before .before .args .s .now) (c .before .before .before .before .before .args .q) (c .before .before .before .before .before .args .d) (c .before .before .before .before .before .args .c) (c .before .before .before .before .before .args .at) _ (omega arith) (c .before .if2 .taken) _ refl (c .offset-date-time .ensures)
+returns-2 c = zone-zulu (c .before .before .before .before .before .args .s .now) (c .before .before .before .before .before .args .q)
+    (c .before .before .before .before .before .args .d) (c .before .before .before .before .before .args .c)
+    (c .before .before .before .before .before .args .at) _ (omega arith) (c .before .if2 .taken) _ refl (c .offset-date-time .ensures)
 
 add-offset : tie.Need-add-offset
 add-offset c = search needs
@@ -31,7 +34,9 @@ offset-requires : tie.Need-offset-requires
 offset-requires c κs = search needs
 
 returns-3 : tie.Need-returns-3
-returns-3 c = zone-plus (c .before .before .before .before .before .before .args .s .now) (c .before .before .before .before .before .before .args .q) (c .before .before .before .before .before .before .args .d) (c .before .before .before .before .before .before .args .c) (c .before .before .before .before .before .before .args .at) _ (omega arith) (c .before .if3 .taken) (c .offset .ensures)
+returns-3 c = zone-plus (c .before .before .before .before .before .before .args .s .now) (c .before .before .before .before .before .before .args .q)
+    (c .before .before .before .before .before .before .args .d) (c .before .before .before .before .before .before .args .c)
+    (c .before .before .before .before .before .before .args .at) _ (omega arith) (c .before .if3 .taken) (c .offset .ensures)
 
 add-offset-2 : tie.Need-add-offset-2
 add-offset-2 c = search needs
@@ -40,13 +45,19 @@ offset-requires-2 : tie.Need-offset-requires-2
 offset-requires-2 c κs = search needs
 
 returns-4 : tie.Need-returns-4
-returns-4 c = zone-minus (c .before .before .before .before .before .before .before .args .s .now) (c .before .before .before .before .before .before .before .args .q) (c .before .before .before .before .before .before .before .args .d) (c .before .before .before .before .before .before .before .args .c) (c .before .before .before .before .before .before .before .args .at) _ (omega arith) (c .before .if4 .taken) (c .offset2 .ensures)
+returns-4 c = zone-minus (c .before .before .before .before .before .before .before .args .s .now)
+    (c .before .before .before .before .before .before .before .args .q) (c .before .before .before .before .before .before .before .args .d)
+    (c .before .before .before .before .before .before .before .args .c) (c .before .before .before .before .before .before .before .args .at) _ (omega arith)
+    (c .before .if4 .taken) (c .offset2 .ensures)
 
 local-date-time-requires-2 : tie.Need-local-date-time-requires-2
 local-date-time-requires-2 c κs = search needs
 
 returns-5 : tie.Need-returns-5
-returns-5 c = zone-none (c .before .before .before .before .before .before .before .args .s .now) (c .before .before .before .before .before .before .before .args .q) (c .before .before .before .before .before .before .before .args .d) (c .before .before .before .before .before .before .before .args .c) (c .before .before .before .before .before .before .before .args .at) _ (omega arith) (c .before .before .before .if2 .left) (c .before .before .if3 .left) (c .before .if4 .left) (c .local-date-time2 .ensures)
+returns-5 c = zone-none (c .before .before .before .before .before .before .before .args .s .now)
+    (c .before .before .before .before .before .before .before .args .q) (c .before .before .before .before .before .before .before .args .d)
+    (c .before .before .before .before .before .before .before .args .c) (c .before .before .before .before .before .before .before .args .at) _ (omega arith)
+    (c .before .before .before .if2 .left) (c .before .before .if3 .left) (c .before .if4 .left) (c .local-date-time2 .ensures)
 
 pub zone-spec : {M : Type 1} → statement M
 zone-spec =

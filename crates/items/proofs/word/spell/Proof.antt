@@ -24,13 +24,15 @@ add-at : tie.Need-add-at Inv-loop μ-loop
 add-at c = let t = c .before .before .loop .inv in omega (arith, t .within)
 
 returns : tie.Need-returns Inv-loop μ-loop
-returns c = spelt-end (c .before .before .before .loop .inv) (c .before .before .loop-test .taken) (c .if1 .taken) (omega (arith, c .before .shared-slice-known .given (c .before .before .before .loop .i)))
+returns c = spelt-end (c .before .before .before .loop .inv) (c .before .before .loop-test .taken) (c .if1 .taken)
+    (omega (arith, c .before .shared-slice-known .given (c .before .before .before .loop .i)))
 
 shared-slice-read-if2 : tie.Need-shared-slice-read-if2 Inv-loop μ-loop
 shared-slice-read-if2 c = omega arith
 
 returns-2 : tie.Need-returns-2 Inv-loop μ-loop
-returns-2 c = spelt-cut (c .before .before .before .before .before .loop .inv) (c .before .before .before .before .loop-test .taken) (c .before .before .if1 .left) (c .if2 .taken)
+returns-2 c = spelt-cut (c .before .before .before .before .before .loop .inv) (c .before .before .before .before .loop-test .taken)
+    (c .before .before .if1 .left) (c .if2 .taken)
 
 add-i : tie.Need-add-i Inv-loop μ-loop
 add-i c = omega arith
@@ -39,7 +41,8 @@ loop-less : tie.Need-loop-less Inv-loop μ-loop
 loop-less c = omega arith
 
 loop-again : tie.Need-loop-again Inv-loop μ-loop
-loop-again c = spelt-more (c .before .before .before .before .before .loop .inv) (c .before .before .before .before .loop-test .taken) (c .before .before .if1 .left) (c .if2 .left)
+loop-again c = spelt-more (c .before .before .before .before .before .loop .inv) (c .before .before .before .before .loop-test .taken)
+    (c .before .before .if1 .left) (c .if2 .left)
 
 add-t12 : tie.Need-add-t12 Inv-loop μ-loop
 add-t12 c = let t = c .before .loop .inv in omega (arith, t .within)
