@@ -66,7 +66,8 @@ deeper P f (suc e) h = f e (omega arith)
 
 -- ---- values
 
-member-derived : {d : ℕ} (ms : Members) {k : List ℕ} {m : Meaning} → Key true (quoted k) k → Value true d (canonical m) m → Item true d (members ms) (quoted k ++ letters ":" ++ canonical m) (members (member ms k m))
+member-derived : {d : ℕ} (ms : Members) {k : List ℕ} {m : Meaning} → Key true (quoted k) k → Value true d (canonical m) m
+    → Item true d (members ms) (quoted k ++ letters ":" ++ canonical m) (members (member ms k m))
 member-derived ms k v = simp append-assoc (Item.member k Ws.none Ws.none v)
 
 word : (b : Bool) {d : ℕ} → Value true d (cond b (letters "true") (letters "false")) (bool b)
@@ -89,14 +90,16 @@ mutual
   value-derived (array ms) g d h = deeper (λ d. Value true d (canonical (array ms)) (array ms)) (λ e l. Value.array Room.falls (elements-whole ms g e l)) d h
   value-derived (object ms) g d h = deeper (λ d. Value true d (canonical (object ms)) (object ms)) (λ e l. Value.object Room.falls (members-whole ms g e l)) d h
 
-  elements-before : (ms : Meanings) → GoodElements ms → (d : ℕ) → elementsDepth ms ≤ d → Before d (elements none) (elementsText ms ++ elementsComma ms) (elements ms)
+  elements-before : (ms : Meanings) → GoodElements ms → (d : ℕ) → elementsDepth ms ≤ d
+      → Before d (elements none) (elementsText ms ++ elementsComma ms) (elements ms)
   elements-before none g d h = start
   elements-before (more ms m) g d h =
       further (elementsText ms ++ elementsComma ms) (canonical m)
       (elements-before ms (g .0) d (most-left (elementsDepth ms) (depth m) d h))
       (Item.element (value-derived m (g .1) d (most-right (elementsDepth ms) (depth m) d h)))
 
-  elements-whole : (ms : Meanings) → GoodElements ms → (d : ℕ) → elementsDepth ms ≤ d → Rest true d (elements none) (elementsText ms ++ letters "]") (elements ms)
+  elements-whole : (ms : Meanings) → GoodElements ms → (d : ℕ) → elementsDepth ms ≤ d
+      → Rest true d (elements none) (elementsText ms ++ letters "]") (elements ms)
   elements-whole none g d h = Rest.close Ws.none Closes.bracket
   elements-whole (more ms m) g d h =
       closing (elementsText ms ++ elementsComma ms) (canonical m)
@@ -106,7 +109,8 @@ mutual
   members-before : (ms : Members) → GoodMembers ms → (d : ℕ) → membersDepth ms ≤ d → Before d (members bare) (membersText ms ++ membersComma ms) (members ms)
   members-before bare g d h = start
   members-before (member ms k m) g d h =
-      subst (λ (s : List ℕ). Before d (members bare) (s ++ letters ",") (members (member ms k m))) (regroup (membersText ms ++ membersComma ms) (quoted k) (letters ":") (canonical m))
+      subst (λ (s : List ℕ). Before d (members bare) (s ++ letters ",") (members (member ms k m)))
+          (regroup (membersText ms ++ membersComma ms) (quoted k) (letters ":") (canonical m))
       (further (membersText ms ++ membersComma ms) (quoted k ++ letters ":" ++ canonical m)
       (members-before ms (g .0) d (most-left (membersDepth ms) (depth m) d h))
       (member-derived ms (Key.string (string-derived (g .1))) (value-derived m (g .2) d (most-right (membersDepth ms) (depth m) d h))))
@@ -114,11 +118,13 @@ mutual
   members-whole : (ms : Members) → GoodMembers ms → (d : ℕ) → membersDepth ms ≤ d → Rest true d (members bare) (membersText ms ++ letters "}") (members ms)
   members-whole bare g d h = Rest.close Ws.none Closes.brace
   members-whole (member ms k m) g d h =
-      subst (λ (s : List ℕ). Rest true d (members bare) (s ++ letters "}") (members (member ms k m))) (regroup (membersText ms ++ membersComma ms) (quoted k) (letters ":") (canonical m))
+      subst (λ (s : List ℕ). Rest true d (members bare) (s ++ letters "}") (members (member ms k m)))
+          (regroup (membersText ms ++ membersComma ms) (quoted k) (letters ":") (canonical m))
       (closing (membersText ms ++ membersComma ms) (quoted k ++ letters ":" ++ canonical m)
       (members-before ms (g .0) d (most-left (membersDepth ms) (depth m) d h))
       (member-derived ms (Key.string (string-derived (g .1))) (value-derived m (g .2) d (most-right (membersDepth ms) (depth m) d h))) Closes.brace)
 
 -- `canonical` of every good meaning, within the text's limit, is a text with that meaning.
 pub text-derived : (m : Meaning) → Good m → length (canonical m) ≤ textLimit → Text true (canonical m) m
-text-derived m g h = rw (← append-nil (canonical m)) (Text.text Ws.none (value-derived m (g .parts) depthLimit (g .shallow)) (Last.ended Ws.none) (rw append-nil h))
+text-derived m g h = rw (← append-nil (canonical m)) (Text.text Ws.none (value-derived m (g .parts) depthLimit (g .shallow)) (Last.ended Ws.none)
+    (rw append-nil h))

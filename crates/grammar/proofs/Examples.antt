@@ -23,7 +23,8 @@ use Rattle.grammar.specs.Checks.{Room}
 use Rattle.grammar.specs.Characters.{Range, _to_, Of, Among, Ascii, Many, Digit, Hexdig, Digits, Decimal, Hexadecimal}
 use Rattle.grammar.specs.Comments.{C-begin-line, c-char, c-no-star, C-line, Stars, C-inner, C-block, Blank, Line-end, Ws, Last}
 use Rattle.grammar.specs.Numbers.{Finite, Sign, Int, Frac0, Frac1, E, Exp, Dec, X, Unsigned, Number}
-use Rattle.grammar.specs.Strings.{Quote, double, single, Chars, Quoted, Short, Escape, unescaped, Up-to-two, source, M-char, No-newline, String-part, Concat, String}
+use Rattle.grammar.specs.Strings.{Quote, double, single, Chars, Quoted, Short, Escape, unescaped, Up-to-two, source, M-char, No-newline, String-part,
+    Concat, String}
 use Rattle.grammar.specs.Times.{Fraction, Time-secfrac, Time-hour, Time-minute, Local-time, Local-date, Separator, Plus-minus, Time-offset, Time-value}
 use Rattle.grammar.specs.Binary.{B-escape, b-unescaped, B-part, B-direct, B-value, Binary}
 use Rattle.grammar.specs.Keys.{i-begin, i-continue, Identifier, Key}
@@ -78,7 +79,8 @@ valued v (b ∷ s) = valued (10 * v + (b - ch "0")) s
 
 decimals : (s : List ℕ) (v : ℕ) → T (all (lies (ch "0") (ch "9")) s) → Decimal (length s) v s (valued v s)
 decimals [] v h = Digits.over
-decimals (b ∷ s) v h = let w = both (lies (ch "0") (ch "9") b) (all (lies (ch "0") (ch "9")) s) h in Digits.next (Digit.digit (within _ _ b (w .0))) (decimals s (10 * v + (b - ch "0")) (w .1))
+decimals (b ∷ s) v h = let w = both (lies (ch "0") (ch "9") b) (all (lies (ch "0") (ch "9")) s) h in
+    Digits.next (Digit.digit (within _ _ b (w .0))) (decimals s (10 * v + (b - ch "0")) (w .1))
 
 abbrev hex-value : ℕ → ℕ
 hex-value b = cond (lies (ch "0") (ch "9") b) (b - ch "0") (cond (lies (ch "A") (ch "F") b) (b - ch "A" + 10) (b - ch "a" + 10))
@@ -89,7 +91,8 @@ is-hex b = cond (lies (ch "0") (ch "9") b) true (cond (lies (ch "A") (ch "F") b)
 hexdig : (b : ℕ) → T (is-hex b) → Hexdig b (hex-value b)
 hexdig b = go (lies (ch "0") (ch "9") b) refl (lies (ch "A") (ch "F") b) refl
   where
-    go : (x : Bool) → lies (ch "0") (ch "9") b ≡ x → (y : Bool) → lies (ch "A") (ch "F") b ≡ y → T (cond x true (cond y true (lies (ch "a") (ch "f") b))) → Hexdig b (cond x (b - ch "0") (cond y (b - ch "A" + 10) (b - ch "a" + 10)))
+    go : (x : Bool) → lies (ch "0") (ch "9") b ≡ x → (y : Bool) → lies (ch "A") (ch "F") b ≡ y → T (cond x true (cond y true (lies (ch "a") (ch "f") b)))
+        → Hexdig b (cond x (b - ch "0") (cond y (b - ch "A" + 10) (b - ch "a" + 10)))
     go true e y f h = Hexdig.decimal (within _ _ b (subst T (sym e) tt))
     go false e true f h = Hexdig.upper (within _ _ b (subst T (sym f) tt))
     go false e false f h = Hexdig.lower (within _ _ b h)
@@ -128,15 +131,19 @@ int b s h l = Int.positive (within _ _ b h) (decimals s (b - ch "0") l)
 finite : {s a : List ℕ} {g : Bool} {v up dn : ℕ} {m : Num} → Sign s g → Dec a v up dn → Finite true g v up dn m → Number true (s ++ a) m
 finite s d f = Number.number s (Unsigned.dec d f)
 
-whole : {g : Bool} {m up dn : ℕ} (c n : ℕ) → m * 10 ^ up ≡ c * 10 ^ n * 10 ^ dn → T (lies 1 9 (c % 10)) → T (ltb c (2 ^ 64)) → T (leb n 9999) → Finite true g m up dn (Num.Finite g c (pos n))
+whole : {g : Bool} {m up dn : ℕ} (c n : ℕ) → m * 10 ^ up ≡ c * 10 ^ n * 10 ^ dn → T (lies 1 9 (c % 10)) → T (ltb c (2 ^ 64)) → T (leb n 9999)
+    → Finite true g m up dn (Num.Finite g c (pos n))
 whole c n e h l r = Finite.whole e (λ z. omega (arith, within 1 9 (c % 10) h)) (ltb→lt c (2 ^ 64) l) (leb→le n 9999 r)
 
-number : (b : ℕ) (s : List ℕ) (c n : ℕ) → T (lies (ch "1") (ch "9") b) → T (digits s) → valued (b - ch "0") s * 1 ≡ c * 10 ^ n * 1 → T (lies 1 9 (c % 10)) → T (ltb c (2 ^ 64)) → T (leb n 9999) → Number true (b ∷ s) (Num.Finite false c (pos n))
-number b s c n h l e x y z = subst (λ (t : List ℕ). Number true (b ∷ t) (Num.Finite false c (pos n))) (append-nil s) (finite Sign.unsigned (Dec.whole (int b s h l) Frac0.absent Exp.absent) (whole c n e x y z))
+number : (b : ℕ) (s : List ℕ) (c n : ℕ) → T (lies (ch "1") (ch "9") b) → T (digits s) → valued (b - ch "0") s * 1 ≡ c * 10 ^ n * 1 → T (lies 1 9 (c % 10))
+    → T (ltb c (2 ^ 64)) → T (leb n 9999) → Number true (b ∷ s) (Num.Finite false c (pos n))
+number b s c n h l e x y z = subst (λ (t : List ℕ). Number true (b ∷ t) (Num.Finite false c (pos n))) (append-nil s)
+    (finite Sign.unsigned (Dec.whole (int b s h l) Frac0.absent Exp.absent) (whole c n e x y z))
 
 -- ---- strings
 
-chars : {P : List ℕ → Type 0} {E : List ℕ → List ℕ → Type 0} {q : Quote} {a u : List ℕ} (f : ℕ → Bool) → ((b : ℕ) → T (f b) → P (b ∷ [])) → (s : List ℕ) → T (all f s) → Chars P E q a u → Chars P E q (s ++ a) (s ++ u)
+chars : {P : List ℕ → Type 0} {E : List ℕ → List ℕ → Type 0} {q : Quote} {a u : List ℕ} (f : ℕ → Bool) → ((b : ℕ) → T (f b) → P (b ∷ [])) → (s : List ℕ)
+    → T (all f s) → Chars P E q a u → Chars P E q (s ++ a) (s ++ u)
 chars f g [] h r = r
 chars f g (b ∷ s) h r = let w = both (f b) (all f s) h in Chars.plain (g b (w .0)) (chars f g s (w .1) r)
 
@@ -169,7 +176,8 @@ fraction-value (suc n) v (b ∷ s) = fraction-value n (10 * v + (b - ch "0")) s
 fraction : (s : List ℕ) (n v : ℕ) → T (digits s) → Fraction n v s (fraction-value n v s)
 fraction [] n v h = Fraction.over
 fraction (b ∷ s) zero v h = let w = both (lies (ch "0") (ch "9") b) (digits s) h in Fraction.cut (Digit.digit (within _ _ b (w .0))) (fraction s zero v (w .1))
-fraction (b ∷ s) (suc n) v h = let w = both (lies (ch "0") (ch "9") b) (digits s) h in Fraction.counts (Digit.digit (within _ _ b (w .0))) (fraction s n (10 * v + (b - ch "0")) (w .1))
+fraction (b ∷ s) (suc n) v h = let w = both (lies (ch "0") (ch "9") b) (digits s) h in
+    Fraction.counts (Digit.digit (within _ _ b (w .0))) (fraction s n (10 * v + (b - ch "0")) (w .1))
 
 hour : (s : List ℕ) → Decimal 2 0 s (valued 0 s) → T (leb (valued 0 s) 23) → Time-hour true s (valued 0 s)
 hour s d h = Time-hour.hour d (leb→le (valued 0 s) 23 h)
@@ -178,16 +186,20 @@ minute : (s : List ℕ) → Decimal 2 0 s (valued 0 s) → T (leb (valued 0 s) 5
 minute s d h = Time-minute.sixtieth d (leb→le (valued 0 s) 59 h)
 
 clock : Local-time true (letters "10:23:54.345678") (timeOfDay 10 23 54 345678000)
-clock = Local-time.local-time (hour (letters "10") (decimals _ 0 tt) tt) (minute (letters "23") (decimals _ 0 tt) tt) (minute (letters "54") (decimals _ 0 tt) tt) (Time-secfrac.given (fraction (letters "345678") 9 0 tt))
+clock = Local-time.local-time (hour (letters "10") (decimals _ 0 tt) tt) (minute (letters "23") (decimals _ 0 tt) tt)
+    (minute (letters "54") (decimals _ 0 tt) tt) (Time-secfrac.given (fraction (letters "345678") 9 0 tt))
 
 noon : Local-time true (letters "12:00:00.0000000009") (timeOfDay 12 0 0 0)
-noon = Local-time.local-time (hour (letters "12") (decimals _ 0 tt) tt) (minute (letters "00") (decimals _ 0 tt) tt) (minute (letters "00") (decimals _ 0 tt) tt) (Time-secfrac.given (fraction (letters "0000000009") 9 0 tt))
+noon = Local-time.local-time (hour (letters "12") (decimals _ 0 tt) tt) (minute (letters "00") (decimals _ 0 tt) tt)
+    (minute (letters "00") (decimals _ 0 tt) tt) (Time-secfrac.given (fraction (letters "0000000009") 9 0 tt))
 
 september : Local-date true (letters "2017-09-05") (date 2017 9 5)
-september = Local-date.local-date (decimals (letters "2017") 0 tt) (decimals (letters "09") 0 tt) (decimals (letters "05") 0 tt) (record { year = lit≤ tt; days = 30; month = Calendar.Days.september; from = lit≤ tt; to = lit≤ tt })
+september = Local-date.local-date (decimals (letters "2017") 0 tt) (decimals (letters "09") 0 tt) (decimals (letters "05") 0 tt)
+    (record { year = lit≤ tt; days = 30; month = Calendar.Days.september; from = lit≤ tt; to = lit≤ tt })
 
 leap-day : Local-date true (letters "2000-02-29") (date 2000 2 29)
-leap-day = Local-date.local-date (decimals (letters "2000") 0 tt) (decimals (letters "02") 0 tt) (decimals (letters "29") 0 tt) (record { year = lit≤ tt; days = 29; month = Calendar.Days.february-leap (Calendar.Leap.fourth-hundred refl refl); from = lit≤ tt; to = lit≤ tt })
+leap-day = Local-date.local-date (decimals (letters "2000") 0 tt) (decimals (letters "02") 0 tt) (decimals (letters "29") 0 tt)
+    (record { year = lit≤ tt; days = 29; month = Calendar.Days.february-leap (Calendar.Leap.fourth-hundred refl refl); from = lit≤ tt; to = lit≤ tt })
 
 -- ---- binary
 
@@ -205,9 +217,11 @@ identifier b s h l = Key.identifier (Identifier.identifier (Ascii.byte (of i-beg
 -- ---- whole texts
 
 plain : {a : List ℕ} {m : Meaning} → Value true depthLimit a m → T (leb (length a) textLimit) → Text true a m
-plain {a} {m} v h = subst (λ (t : List ℕ). Text true t m) (append-nil a) (Text.text Ws.none v (Last.ended Ws.none) (rw append-nil (leb→le (length a) textLimit h)))
+plain {a} {m} v h = subst (λ (t : List ℕ). Text true t m) (append-nil a) (Text.text Ws.none v (Last.ended Ws.none)
+    (rw append-nil (leb→le (length a) textLimit h)))
 
-element : {d : ℕ} {x : Meanings} {c : ℕ} (b : ℕ) → Number true (b ∷ []) (Num.Finite false c (pos 0)) → Item true d (elements x) (b ∷ []) (elements (Meanings.more x (plus c (pos 0))))
+element : {d : ℕ} {x : Meanings} {c : ℕ} (b : ℕ) → Number true (b ∷ []) (Num.Finite false c (pos 0))
+    → Item true d (elements x) (b ∷ []) (elements (Meanings.more x (plus c (pos 0))))
 element b n = Item.element (Value.number n)
 
 pub derived : Derived examples
@@ -219,20 +233,24 @@ derived = (
     (
       Text.text (Ws.block (block (letters " block comment ") tt) Ws.none) Value.null-word (Last.ended Ws.none) (lit≤ tt),
       (
-        plain (Value.array Room.falls (Rest.item (Ws.blank Blank.space (Ws.line (comment C-begin-line.hash (letters " 1") tt) Line-end.line-feed Ws.none)) (element (ch "2") (number (ch "2") [] 2 0 tt tt refl tt tt tt)) (After.end Ws.none Closes.bracket))) tt,
+        plain (Value.array Room.falls (Rest.item (Ws.blank Blank.space (Ws.line (comment C-begin-line.hash (letters " 1") tt) Line-end.line-feed Ws.none))
+            (element (ch "2") (number (ch "2") [] 2 0 tt tt refl tt tt tt)) (After.end Ws.none Closes.bracket))) tt,
         -- 42.
         (
-          plain (Value.number (finite Sign.unsigned (Dec.whole (int (ch "4") (letters "2") tt tt) (Frac0.given Digits.over) Exp.absent) (whole 42 0 refl tt tt tt))) tt,
+          plain (Value.number (finite Sign.unsigned (Dec.whole (int (ch "4") (letters "2") tt tt) (Frac0.given Digits.over) Exp.absent)
+              (whole 42 0 refl tt tt tt))) tt,
           -- +.5
           (
-            plain (Value.number (finite Sign.plus (Dec.part (Frac1.given (decimals (letters "5") 0 tt)) Exp.absent) (Finite.part {c = 5} {n = 0} refl (λ e. omega arith) (lit< tt) (lit≤ tt)))) tt,
+            plain (Value.number (finite Sign.plus (Dec.part (Frac1.given (decimals (letters "5") 0 tt)) Exp.absent)
+                (Finite.part {c = 5} {n = 0} refl (λ e. omega arith) (lit< tt) (lit≤ tt)))) tt,
             (
               plain (Value.number (Number.number Sign.unsigned Unsigned.nan)) tt,
               (
                 plain (Value.number (Number.number Sign.minus Unsigned.inf)) tt,
                 -- 0xDEADBEEF
                 (
-                  plain (Value.number (Number.number Sign.unsigned (Unsigned.hex X.small (hexes (letters "DEADBEEF") tt) (lit< tt) (whole 3735928559 0 refl tt tt tt)))) tt,
+                  plain (Value.number (Number.number Sign.unsigned (Unsigned.hex X.small (hexes (letters "DEADBEEF") tt) (lit< tt)
+                      (whole 3735928559 0 refl tt tt tt)))) tt,
                   (
                     plain (Value.number (number (ch "1") (letters "8446744073709551615") 18446744073709551615 0 tt tt refl tt tt tt)) tt,
                     (
@@ -242,18 +260,31 @@ derived = (
                         plain (Value.number (Number.number Sign.minus (Unsigned.hex X.small (hexes (letters "0") tt) (lit< tt) (Finite.nought refl)))) tt,
                         -- 1e5
                         (
-                          plain (Value.number (finite Sign.unsigned (Dec.whole (int (ch "1") [] tt tt) Frac0.absent (Exp.given E.small Sign.unsigned (decimals (letters "5") 0 tt))) (whole 1 5 refl tt tt tt))) tt,
+                          plain (Value.number (finite Sign.unsigned (Dec.whole (int (ch "1") [] tt tt) Frac0.absent
+                              (Exp.given E.small Sign.unsigned (decimals (letters "5") 0 tt))) (whole 1 5 refl tt tt tt))) tt,
                           (
                             plain (Value.number (number (ch "1") (letters "00000") 1 5 tt tt refl tt tt tt)) tt,
                             -- strings
                             (
-                              plain (Value.string (Concat.part (in-quotes (the (letters "Add ") tt (Chars.escaped (Escape.short Short.nul) (the (letters " or ") tt (Chars.escaped (Escape.short Short.vtab) (the (letters ", even ") tt (Chars.escaped (Escape.short Short.single-quote) (the (letters " is allowed in a string.") tt Chars.none)))))))))) tt,
+                              plain (Value.string (Concat.part (in-quotes (the (letters "Add ") tt
+                                  (Chars.escaped (Escape.short Short.nul) (the (letters " or ") tt
+                                  (Chars.escaped (Escape.short Short.vtab) (the (letters ", even ") tt
+                                  (Chars.escaped (Escape.short Short.single-quote) (the (letters " is allowed in a string.") tt Chars.none)))))))))) tt,
                               (
-                                plain (Value.string (Concat.plus (in-quotes (Chars.escaped (Escape.braced (hexes (letters "1D11E") tt) (record { top = lit≤ tt; whole = inr (lit< tt) })) (the (letters " was my first love ") tt Chars.none))) sp sp (Concat.part (in-quotes (the (letters "and it will be my last.") tt Chars.none))))) tt,
+                                plain (Value.string (Concat.plus (in-quotes (Chars.escaped
+                                    (Escape.braced (hexes (letters "1D11E") tt) (record { top = lit≤ tt; whole = inr (lit< tt) }))
+                                    (the (letters " was my first love ") tt Chars.none))) sp sp
+                                    (Concat.part (in-quotes (the (letters "and it will be my last.") tt Chars.none))))) tt,
                                 (
-                                  plain (Value.string (Concat.part (String-part.multiline double (m-chars (letters "String with a \\ and ") tt (Many.more (M-char.m-char Up-to-two.one-quote (among (source double) (ch " ") tt)) (m-chars (letters "characters - no escape sequences,\nmay contain line breaks") tt Many.none))) (No-newline.other-byte (λ e. omega arith) (λ e. omega arith))))) tt,
+                                  plain (Value.string (Concat.part (String-part.multiline double
+                                      (m-chars (letters "String with a \\ and ") tt
+                                      (Many.more (M-char.m-char Up-to-two.one-quote (among (source double) (ch " ") tt))
+                                      (m-chars (letters "characters - no escape sequences,\nmay contain line breaks") tt Many.none)))
+                                      (No-newline.other-byte (λ e. omega arith) (λ e. omega arith))))) tt,
                                   (
-                                    plain (Value.string (Concat.part (in-quotes (Chars.escaped (Escape.pair (hexes (letters "d834") tt) (within _ _ 0xD834 tt) (hexes (letters "dd1e") tt) (within _ _ 0xDD1E tt)) Chars.none)))) tt,
+                                    plain (Value.string (Concat.part (in-quotes (Chars.escaped
+                                        (Escape.pair (hexes (letters "d834") tt) (within _ _ 0xD834 tt) (hexes (letters "dd1e") tt) (within _ _ 0xDD1E tt))
+                                        Chars.none)))) tt,
                                     (
                                       plain (Value.string (Concat.part (String-part.multiline double Many.none No-newline.empty))) tt,
                                       -- times
@@ -264,21 +295,50 @@ derived = (
                                           (
                                             plain (Value.time-value (Time-value.local-date-time september Separator.space clock)) tt,
                                             (
-                                              plain (Value.time-value (Time-value.offset-date-time september Separator.letter clock (Time-offset.numoffset Plus-minus.plus (hour (letters "02") (decimals _ 0 tt) tt) (minute (letters "00") (decimals _ 0 tt) tt)))) tt,
+                                              plain (Value.time-value (Time-value.offset-date-time september Separator.letter clock
+                                                  (Time-offset.numoffset Plus-minus.plus (hour (letters "02") (decimals _ 0 tt) tt)
+                                                  (minute (letters "00") (decimals _ 0 tt) tt)))) tt,
                                               (
                                                 plain (Value.time-value (Time-value.local-time noon)) tt,
                                                 -- binary
                                                 (
-                                                  plain (Value.binary (Concat.part (B-value.string (Quoted.quoted double (chars (lies-in b-unescaped) b-char (letters "Hello, ") tt (Chars.escaped (B-escape.byte (pair (letters "77") tt refl)) (chars (lies-in b-unescaped) b-char (letters "orld!") tt Chars.none))))))) tt,
+                                                  plain (Value.binary (Concat.part
+                                                      (B-value.string (Quoted.quoted double
+                                                      (chars (lies-in b-unescaped) b-char (letters "Hello, ") tt
+                                                      (Chars.escaped (B-escape.byte (pair (letters "77") tt refl))
+                                                      (chars (lies-in b-unescaped) b-char (letters "orld!") tt Chars.none))))))) tt,
                                                   (
-                                                    plain (Value.binary (Concat.part (B-value.direct (B-direct.dotted (B-part.more (pair (letters "48") tt refl) (B-part.more (pair (letters "65") tt refl) (B-part.more (pair (letters "6c") tt refl) (B-part.more (pair (letters "6c") tt refl) (B-part.last (pair (letters "6f") tt refl)))))) (B-direct.dotted (B-part.more (pair (letters "2c") tt refl) (B-part.last (pair (letters "20") tt refl))) (B-direct.dotted (B-part.more (pair (letters "77") tt refl) (B-part.more (pair (letters "6f") tt refl) (B-part.more (pair (letters "72") tt refl) (B-part.more (pair (letters "6c") tt refl) (B-part.last (pair (letters "64") tt refl)))))) (B-direct.part (B-part.last (pair (letters "21") tt refl))))))))) tt,
+                                                    plain (Value.binary (Concat.part
+                                                        (B-value.direct (B-direct.dotted
+                                                        (B-part.more (pair (letters "48") tt refl)
+                                                        (B-part.more (pair (letters "65") tt refl)
+                                                        (B-part.more (pair (letters "6c") tt refl)
+                                                        (B-part.more (pair (letters "6c") tt refl) (B-part.last (pair (letters "6f") tt refl))))))
+                                                        (B-direct.dotted (B-part.more (pair (letters "2c") tt refl) (B-part.last (pair (letters "20") tt refl)))
+                                                        (B-direct.dotted (B-part.more (pair (letters "77") tt refl)
+                                                        (B-part.more (pair (letters "6f") tt refl)
+                                                        (B-part.more (pair (letters "72") tt refl)
+                                                        (B-part.more (pair (letters "6c") tt refl) (B-part.last (pair (letters "64") tt refl))))))
+                                                        (B-direct.part (B-part.last (pair (letters "21") tt refl))))))))) tt,
                                                     (
                                                       plain (Value.binary (Concat.part B-value.empty)) tt,
                                                       -- keys and commas
                                                       (
-                                                        plain (Value.object Room.falls (Rest.item sp (Item.member (identifier (ch "f") (letters "oo") tt tt) Ws.none sp (Value.string (Concat.part (in-quotes hello)))) (After.comma Ws.none (Rest.item sp (Item.member (identifier (ch "b") (letters "ar") tt tt) Ws.none sp (Value.number (number (ch "4") (letters "2") 42 0 tt tt refl tt tt tt))) (After.comma Ws.none (Rest.close sp Closes.brace)))))) tt,
+                                                        plain (Value.object Room.falls
+                                                            (Rest.item sp (Item.member (identifier (ch "f") (letters "oo") tt tt) Ws.none sp
+                                                            (Value.string (Concat.part (in-quotes hello))))
+                                                            (After.comma Ws.none
+                                                            (Rest.item sp (Item.member (identifier (ch "b") (letters "ar") tt tt) Ws.none sp
+                                                            (Value.number (number (ch "4") (letters "2") 42 0 tt tt refl tt tt tt)))
+                                                            (After.comma Ws.none (Rest.close sp Closes.brace)))))) tt,
                                                         (
-                                                          plain (Value.array Room.falls (Rest.item sp (element (ch "1") (number (ch "1") [] 1 0 tt tt refl tt tt tt)) (After.comma Ws.none (Rest.item sp (element (ch "2") (number (ch "2") [] 2 0 tt tt refl tt tt tt)) (After.comma Ws.none (Rest.item sp (element (ch "3") (number (ch "3") [] 3 0 tt tt refl tt tt tt)) (After.comma Ws.none (Rest.close sp Closes.bracket)))))))) tt,
+                                                          plain (Value.array Room.falls
+                                                              (Rest.item sp (element (ch "1") (number (ch "1") [] 1 0 tt tt refl tt tt tt))
+                                                              (After.comma Ws.none
+                                                              (Rest.item sp (element (ch "2") (number (ch "2") [] 2 0 tt tt refl tt tt tt))
+                                                              (After.comma Ws.none
+                                                              (Rest.item sp (element (ch "3") (number (ch "3") [] 3 0 tt tt refl tt tt tt))
+                                                              (After.comma Ws.none (Rest.close sp Closes.bracket)))))))) tt,
                                                           tt,
                                                         ),
                                                       ),

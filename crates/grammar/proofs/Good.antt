@@ -17,7 +17,8 @@ use Rattle.meaning.specs.declared.Date.{Date as DateMeant}
 use Rattle.meaning.specs.declared.Time.{Time as TimeMeant}
 use Rattle.meaning.specs.Meaning.{Meaning, Meanings, Members}
 use Rattle.meaning.specs.Limits.{depthLimit, day, offsetLimit}
-use Rattle.meaning.specs.Good.{GoodFinite, GoodNumber, GoodDate, GoodTime, Bytes, GoodParts, GoodElements, GoodMembers, most, depth, elementsDepth, membersDepth, Good}
+use Rattle.meaning.specs.Good.{GoodFinite, GoodNumber, GoodDate, GoodTime, Bytes, GoodParts, GoodElements, GoodMembers, most, depth, elementsDepth,
+    membersDepth, Good}
 use Rattle.grammar.specs.Checks.{Room}
 use Rattle.grammar.specs.Characters.{Range, _to_, Of, Among, Ascii, Many, Digit, Hexdig, Digits, Decimal, Hexadecimal}
 use Rattle.grammar.specs.Numbers.{Finite, Unsigned, Number}
@@ -41,7 +42,8 @@ digit-value b x (Digit.digit i) = omega arith
 -- one more digit x after the value v, before n more
 one-more : (base v x n w : ℕ) → x < base → w < suc (base * v + x) * base ^ n → w < suc v * base ^ suc n
 one-more base v x n w h l =
-    let e : suc v * base ^ suc n ≡ base * suc v * base ^ n = ap (λ (p : ℕ). suc v * p) (pow-succ' base n) ∙ sym (mul-assoc (suc v) base (base ^ n)) ∙ ap (λ (p : ℕ). p * base ^ n) (mul-comm (suc v) base) in
+    let e : suc v * base ^ suc n ≡ base * suc v * base ^ n = ap (λ (p : ℕ). suc v * p) (pow-succ' base n) ∙ sym (mul-assoc (suc v) base (base ^ n))
+        ∙ ap (λ (p : ℕ). p * base ^ n) (mul-comm (suc v) base) in
     let g : suc (base * v + x) ≤ base * suc v = omega (arith, mul-suc base v) in
     omega (arith, mul-le-mul-right (base ^ n) g, e)
 
@@ -106,7 +108,8 @@ escape-good (Escape.unit {n = n} d h) = one (encoded n h)
 escape-good (Escape.pair {high = high} {low = low} c i d j) = one (encoded (joined high low) (pair-scalar high low i j))
 escape-good (Escape.braced {n = n} d h) = one (encoded n h)
 
-chars : {P : List ℕ → Type 0} {E : List ℕ → List ℕ → Type 0} {q : Quote} {a u : List ℕ} → ((c : List ℕ) → P c → Octets c) → ((c v : List ℕ) → E c v → Octets v) → Chars P E q a u → Octets u
+chars : {P : List ℕ → Type 0} {E : List ℕ → List ℕ → Type 0} {q : Quote} {a u : List ℕ} → ((c : List ℕ) → P c → Octets c) → ((c v : List ℕ) → E c v → Octets v)
+    → Chars P E q a u → Octets u
 chars f g Chars.none = Octets.none
 chars f g (Chars.plain c r) = join (f _ c) (chars f g r)
 chars f g (Chars.escaped x r) = join (g _ _ x) (chars f g r)
@@ -146,7 +149,8 @@ signed-size true n = minus-size n
 
 pub offset-good : {a : List ℕ} {o : ℤ} → Time-offset true a o → natAbs o ≤ offsetLimit
 offset-good (Time-offset.zulu z) = lit≤ tt
-offset-good (Time-offset.numoffset {h = h} {m = m} {negative = g} x (Time-hour.hour a l) (Time-minute.sixtieth b r)) = rw (signed-size g (h * 60 + m)) (omega arith)
+offset-good (Time-offset.numoffset {h = h} {m = m} {negative = g} x (Time-hour.hour a l) (Time-minute.sixtieth b r)) =
+    rw (signed-size g (h * 60 + m)) (omega arith)
 
 pub time-good : {a : List ℕ} {t : TimeMeant} → Time-value true a t → GoodTime t
 time-good (Time-value.local-date d) = date-good d

@@ -69,13 +69,15 @@ encoded : (n : ℕ) → length (encode n) ≤ 4
 unfolding encode
 encoded n = either (leb n 0x7F) _ _ (lit≤ tt) (either (leb n 0x7FF) _ _ (lit≤ tt) (either (leb n 0xFFFF) _ _ (lit≤ tt) (lit≤ tt)))
 
-chars : {P : List ℕ → Type 0} {E : List ℕ → List ℕ → Type 0} {q : Quote} {a u : List ℕ} → ((c v : List ℕ) → E c v → length v ≤ suc (length c)) → Chars P E q a u → length u ≤ length a
+chars : {P : List ℕ → Type 0} {E : List ℕ → List ℕ → Type 0} {q : Quote} {a u : List ℕ} → ((c v : List ℕ) → E c v → length v ≤ suc (length c)) → Chars P E q a u
+    → length u ≤ length a
 chars g Chars.none = lit≤ tt
 chars g (Chars.plain c r) = simp length-append (omega (arith, chars g r))
 chars g (Chars.escaped x r) = simp length-append (omega (arith, g _ _ x, chars g r))
 chars g (Chars.other-quote r) = omega (arith, chars g r)
 
-quoted : {P : List ℕ → Type 0} {E : List ℕ → List ℕ → Type 0} {a u : List ℕ} → ((c v : List ℕ) → E c v → length v ≤ suc (length c)) → Quoted P E a u → Covers a u
+quoted : {P : List ℕ → Type 0} {E : List ℕ → List ℕ → Type 0} {a u : List ℕ} → ((c v : List ℕ) → E c v → length v ≤ suc (length c)) → Quoted P E a u
+    → Covers a u
 quoted g (Quoted.quoted q r) = record { some = omega arith; least = simp length-append (omega (arith, chars g r)) }
 
 digits : {D : ℕ → ℕ → Type 0} {base n v w : ℕ} {a : List ℕ} → Digits D base n v a w → length a ≡ n
@@ -95,7 +97,8 @@ string-part (String-part.trimmed q n m) = record { some = omega arith; least = s
 
 concat : {P : List ℕ → List ℕ → Type 0} {a u : List ℕ} → ((c v : List ℕ) → P c v → Covers c v) → Concat P a u → Covers a u
 concat f (Concat.part p) = f _ _ p
-concat f (Concat.plus p v w r) = let x = f _ _ p in let y = concat f r in record { some = simp length-append (omega arith); least = simp length-append (omega arith) }
+concat f (Concat.plus p v w r) = let x = f _ _ p in let y = concat f r in record
+    { some = simp length-append (omega arith); least = simp length-append (omega arith) }
 
 string : {k : Bool} {a u : List ℕ} → String k a u → Covers a u
 string s = concat (λ c v. string-part) s
@@ -170,7 +173,8 @@ element : {x : Meanings} {a : List ℕ} {m : Meaning} → Fits a m → Grows a (
 unfolding elementsRecords elementsStore
 element f = record { few = omega (arith, f .few); small = simp length-append (omega (arith, f .small)) }
 
-member : {x : Members} (c u v w : List ℕ) {a : List ℕ} {m : Meaning} → length u ≤ length c → Fits a m → Grows (c ++ (v ++ (ch ":" ∷ (w ++ a)))) (members x) (members (Members.member x u m))
+member : {x : Members} (c u v w : List ℕ) {a : List ℕ} {m : Meaning} → length u ≤ length c → Fits a m
+    → Grows (c ++ (v ++ (ch ":" ∷ (w ++ a)))) (members x) (members (Members.member x u m))
 unfolding membersRecords membersStore
 member c u v w l f = record { few = simp length-append (omega (arith, f .few)); small = simp length-append (omega (arith, f .small)) }
 
@@ -196,4 +200,5 @@ value-fits v =
     ]
 
 pub text-fits : {k : Bool} {t : List ℕ} {m : Meaning} → Text k t m → Fits t m
-text-fits (Text.text w v l h) = let f = value-fits v in record { few = simp length-append (omega (arith, f .few)); small = simp length-append (omega (arith, f .small)) }
+text-fits (Text.text w v l h) = let f = value-fits v in record { few = simp length-append (omega (arith, f .few)); small =
+    simp length-append (omega (arith, f .small)) }

@@ -16,8 +16,10 @@ use Rattle.meaning.specs.Meaning.{Meaning}
 use Rattle.grammar.specs.Characters.{Range, _to_, Of, Among, Ascii, Many, Digit, Hexdig, Digits, Decimal, Hexadecimal}
 use Rattle.grammar.specs.Comments.{C-begin-line, C-line, Stars, C-inner, C-block, Blank, Line-end, Ws, Last}
 use Rattle.grammar.specs.Numbers.{Sign, Int, Frac0, Frac1, E, Exp, Dec, X, Unsigned, Number}
-use Rattle.grammar.specs.Strings.{Quote, double, single, mark as mark-of, other, three, Chars, Quoted, Short, Escape, Up-to-two, M-char, Newline, String-part, Concat, String}
-use Rattle.grammar.specs.Times.{Fraction, Time-secfrac, Time-hour, Time-minute, Local-time, Local-date, Separator, Zulu, Plus-minus, Time-offset, Time-value}
+use Rattle.grammar.specs.Strings.{Quote, double, single, mark as mark-of, other, three, Chars, Quoted, Short, Escape, Up-to-two, M-char, Newline,
+    String-part, Concat, String}
+use Rattle.grammar.specs.Times.{Fraction, Time-secfrac, Time-hour, Time-minute, Local-time, Local-date, Separator, Zulu, Plus-minus, Time-offset,
+    Time-value}
 use Rattle.grammar.specs.Binary.{B-escape, B-part, B-direct, B-value, Binary}
 use Rattle.grammar.specs.Keys.{Identifier, Key}
 use Rattle.grammar.specs.Values.{Inside, Closes, Value, Rest, After, Item, Text}
@@ -169,13 +171,15 @@ mark single = lit≤ tt
 pub three-quotes : (q : Quote) → Octets (three q)
 three-quotes q = ascii (mark q) (ascii (mark q) (ascii (mark q) Octets.none))
 
-chars : {P : List ℕ → Type 0} {E : List ℕ → List ℕ → Type 0} {q : Quote} {a u : List ℕ} → ((c : List ℕ) → P c → Octets c) → ((c v : List ℕ) → E c v → Octets c) → Chars P E q a u → Octets a
+chars : {P : List ℕ → Type 0} {E : List ℕ → List ℕ → Type 0} {q : Quote} {a u : List ℕ} → ((c : List ℕ) → P c → Octets c) → ((c v : List ℕ) → E c v → Octets c)
+    → Chars P E q a u → Octets a
 chars f g Chars.none = Octets.none
 chars f g (Chars.plain c r) = join (f _ c) (chars f g r)
 chars f g (Chars.escaped x r) = ascii (lit≤ tt) (join (g _ _ x) (chars f g r))
 chars {q = q} f g (Chars.other-quote r) = ascii (mark (other q)) (chars f g r)
 
-quoted : {P : List ℕ → Type 0} {E : List ℕ → List ℕ → Type 0} {a u : List ℕ} → ((c : List ℕ) → P c → Octets c) → ((c v : List ℕ) → E c v → Octets c) → Quoted P E a u → Octets a
+quoted : {P : List ℕ → Type 0} {E : List ℕ → List ℕ → Type 0} {a u : List ℕ} → ((c : List ℕ) → P c → Octets c) → ((c v : List ℕ) → E c v → Octets c)
+    → Quoted P E a u → Octets a
 quoted f g (Quoted.quoted q r) = ascii (mark q) (join (chars f g r) (ascii (mark q) Octets.none))
 
 short : {b c : ℕ} → Short b c → b ≤ 0x7F

@@ -1,5 +1,5 @@
--- Characters as UTF-8 sequences, digits with their value, and repetition (RFC 5234 and its appendix B.1, RFC 3629).
--- Assumes nothing.
+-- Characters as UTF-8 sequences (docs/FORMAT.md, 1.1), digits with their value, and repetition (RFC 5234 and its
+-- appendix B.1, RFC 3629). Assumes nothing.
 use Prim.Native.Nat.{ℕ, zero, suc, _+_, _*_, _-_}
 use mathlib.Core.Logic.{_⊎_}
 use mathlib.Core.List.{List, [], _∷_, _++_}

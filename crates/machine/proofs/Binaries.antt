@@ -61,7 +61,8 @@ escape-steps (B-escape.short {b = b} {c = c} x) p q acc =
     let u = short-of x in
     eats scan Steps.stay (rw (ne-eqb b 0x78 (u .1 .no-x), u .0, lt-ltb c 256 (omega arith)))
 escape-steps (B-escape.byte (Digits.next {x = x} h (Digits.next {x = y} g Digits.over))) p q acc =
-    eats scan (eats scan (eats scan Steps.stay (digit-step g (λ y. text q (acc ++ ((16 * x + y) ∷ []))) _ ∙ rw (pair-value x y))) (digit-step h (hexLow q acc) _)) refl
+    eats scan (eats scan (eats scan Steps.stay (digit-step g (λ y. text q (acc ++ ((16 * x + y) ∷ []))) _ ∙ rw (pair-value x y)))
+        (digit-step h (hexLow q acc) _)) refl
 
 back-step : (p q : ℕ) (acc : List ℕ) → scan p (text q acc) (ch "\\") ≡ takes (esc q acc)
 unfolding scan onText
@@ -69,10 +70,12 @@ back-step p q acc = refl
 
 chars-steps : {q : Quote} {a u : List ℕ} → Inner q a u → (p : ℕ) (acc : List ℕ) → Run p (text (mark q) acc) a (text (mark q) (acc ++ u))
 chars-steps Chars.none p acc = rw append-nil Steps.stay
-chars-steps {q} (Chars.plain (G.Ascii.byte {b = b} o) y) p acc = eats scan (rw append-assoc at (chars-steps y (suc p) (acc ++ (b ∷ [])))) (plain-step (between q 0x7E b (omega arith) o) p acc)
+chars-steps {q} (Chars.plain (G.Ascii.byte {b = b} o) y) p acc = eats scan (rw append-assoc at (chars-steps y (suc p) (acc ++ (b ∷ []))))
+    (plain-step (between q 0x7E b (omega arith) o) p acc)
 chars-steps {q} (Chars.escaped {e = e} {v = v} x y) p acc =
     eats scan (steps-join scan (escape-steps x (suc p) (mark q) acc) (rw append-assoc at (chars-steps y (adv (suc p) e) (acc ++ v)))) (back-step p (mark q) acc)
-chars-steps {q} (Chars.other-quote y) p acc = eats scan (rw append-assoc at (chars-steps y (suc p) (acc ++ (mark (other q) ∷ [])))) (plain-step (between-other q 0x7E (omega arith)) p acc)
+chars-steps {q} (Chars.other-quote y) p acc = eats scan (rw append-assoc at (chars-steps y (suc p) (acc ++ (mark (other q) ∷ []))))
+    (plain-step (between-other q 0x7E (omega arith)) p acc)
 
 close-goes : (q : Quote) (p : ℕ) (acc : List ℕ) → Ran p (text (mark q) acc) (mark q ∷ []) acc
 unfolding scan onText
@@ -120,10 +123,12 @@ unfolding scan
 dot-step p acc = refl
 
 direct-goes : {a u : List ℕ} → B-direct a u → (s : St) (acc : List ℕ) → Opens s acc → (p : ℕ) → Ran p s a (acc ++ u)
-direct-goes (B-direct.part {a = a} {u = u} x) s acc f p = rw append-nil at (steps-go scan (part-steps x s acc f p) (halts scan (λ b e. pairs-ends e (adv p a) (acc ++ u))))
+direct-goes (B-direct.part {a = a} {u = u} x) s acc f p = rw append-nil at (steps-go scan (part-steps x s acc f p)
+    (halts scan (λ b e. pairs-ends e (adv p a) (acc ++ u))))
 direct-goes (B-direct.dotted {a = a} {u = u} x y) s acc f p =
     let q = adv p a in
-    steps-go scan (part-steps x s acc f p) (took scan (rw append-assoc at (direct-goes y (dot (acc ++ u)) (acc ++ u) (dot-opens (acc ++ u)) (suc q))) (dot-step q (acc ++ u)))
+    steps-go scan (part-steps x s acc f p) (took scan (rw append-assoc at (direct-goes y (dot (acc ++ u)) (acc ++ u) (dot-opens (acc ++ u)) (suc q)))
+        (dot-step q (acc ++ u)))
 
 pub binary-goes : {a u : List ℕ} → B-value a u → (p : ℕ) → Goes scan PartEnds p begin a u
 unfolding scan
@@ -150,8 +155,10 @@ BinaryRest start a v = B-value a v
 BinaryRest dollar a v = B-value (ch "$" ∷ a) v
 BinaryRest (text q acc) a v = (j : Quote) → q ≡ mark j → TextTail j acc a v
 BinaryRest (esc q acc) a v = (j : Quote) → q ≡ mark j → (e : List ℕ) × (w : List ℕ) × (r : List ℕ) × (a ≡ e ++ r) × B-escape e w × TextTail j (acc ++ w) r v
-BinaryRest (hex q acc) a v = (j : Quote) → q ≡ mark j → (d : List ℕ) × (n : ℕ) × (r : List ℕ) × (a ≡ d ++ r) × Hexadecimal 2 d n × TextTail j (acc ++ (n ∷ [])) r v
-BinaryRest (hexLow q acc x) a v = (j : Quote) → q ≡ mark j → (b : ℕ) × (y : ℕ) × (r : List ℕ) × (a ≡ b ∷ r) × Hexdig b y × TextTail j (acc ++ ((16 * x + y) ∷ [])) r v
+BinaryRest (hex q acc) a v = (j : Quote) → q ≡ mark j → (d : List ℕ) × (n : ℕ) × (r : List ℕ) × (a ≡ d ++ r) × Hexadecimal 2 d n
+    × TextTail j (acc ++ (n ∷ [])) r v
+BinaryRest (hexLow q acc x) a v = (j : Quote) → q ≡ mark j → (b : ℕ) × (y : ℕ) × (r : List ℕ) × (a ≡ b ∷ r) × Hexdig b y
+    × TextTail j (acc ++ ((16 * x + y) ∷ [])) r v
 BinaryRest (low acc x) a v = (b : ℕ) × (y : ℕ) × (r : List ℕ) × (a ≡ b ∷ r) × Hexdig b y × PairsTail (acc ++ ((16 * x + y) ∷ [])) r v
 BinaryRest (pairs acc) a v = PairsTail acc a v
 BinaryRest (dot acc) a v = (u : List ℕ) × B-direct a u × (acc ++ u ≡ v)
@@ -167,7 +174,8 @@ two-digits {b} {c} {x} {y} h g =
     let d : Hexadecimal 2 (b ∷ c ∷ []) (16 * (16 * 0 + x) + y) = Digits.next h (Digits.next g Digits.over) in
     rw (pair-value x y) at d
 
-digit-is : (s : St) (b : ℕ) (next : ℕ → St) (y : Out St (List ℕ)) → (Hexdig b (hexOf b) → Is s b (takes (next (hexOf b)))) → Is s b y → Is s b (onDigit (hexOf b) next y)
+digit-is : (s : St) (b : ℕ) (next : ℕ → St) (y : Out St (List ℕ)) → (Hexdig b (hexOf b) → Is s b (takes (next (hexOf b)))) → Is s b y
+    → Is s b (onDigit (hexOf b) next y)
 unfolding onDigit
 digit-is s b next y f g = by-ltb (Is s b) (hexOf b) 16 _ y (λ l. f (hex-is b l)) (λ l. g)
 
@@ -188,14 +196,17 @@ unfolding onText
 text-is p q acc b =
     by-eqb (Is (text q acc) b) b 0x5C _ _
     (λ e a v h j i. let t = h j i in let x = t .5 in
-    (ch "\\" ∷ (t .0 ++ x .0), t .1 ++ x .1, rw e (joined-up (t .0) (x .0) (mark j ∷ []) (t .3) (x .2)), Chars.escaped (t .4) (x .3), rw append-assoc at (x .4))) λ n.
+    (ch "\\" ∷ (t .0 ++ x .0), t .1 ++ x .1, rw e (joined-up (t .0) (x .0) (mark j ∷ []) (t .3) (x .2)), Chars.escaped (t .4) (x .3),
+        rw append-assoc at (x .4))) λ n.
     by-eqb (Is (text q acc) b) b q _ _ (λ e a v h j i. ([], [], rw (e ∙ i, h .0), Chars.none, append-nil acc ∙ h .1)) λ m.
     by-ltb (Is (text q acc) b) b 0x20 _ _ (λ l. tt) λ l.
     by-leb (Is (text q acc) b) b 0x7E _ _
     (λ u a v h j i. let t = h j i in
-    (b ∷ t .0, b ∷ t .1, rw (t .2), plain-char j 0x7E (record { low = l; high = u; no-back = n; no-end = λ z. m (z ∙ sym i) }) G.Ascii.byte (t .3), rw append-assoc at (t .4))) (λ u. tt)
+    (b ∷ t .0, b ∷ t .1, rw (t .2), plain-char j 0x7E (record { low = l; high = u; no-back = n; no-end = λ z. m (z ∙ sym i) }) G.Ascii.byte (t .3),
+        rw append-assoc at (t .4))) (λ u. tt)
 
-low-back : (acc : List ℕ) (b : ℕ) → Hexdig b (hexOf b) → (a v : List ℕ) → BinaryRest (low acc (hexOf b)) a v → (u : List ℕ) × B-direct (b ∷ a) u × (acc ++ u ≡ v)
+low-back : (acc : List ℕ) (b : ℕ) → Hexdig b (hexOf b) → (a v : List ℕ) → BinaryRest (low acc (hexOf b)) a v → (u : List ℕ) × B-direct (b ∷ a) u
+    × (acc ++ u ≡ v)
 low-back acc b d a v h =
     let t = h .5 in
     ((16 * hexOf b + h .1) ∷ t .0, rw (h .3) (direct-of (two-digits d (h .4)) (t .1)), rw append-assoc at (t .2))
@@ -219,7 +230,8 @@ binary-is p (low acc x) b = digit-is (low acc x) b _ _ (λ d a v h. (b, hexOf b,
 binary-is p (pairs acc) b =
     by-eqb (Is (pairs acc) b) b 0x2E _ _ (λ e a v h. (h .0, rw e (After-pair.dotted (h .1)), h .2))
     (λ n. digit-is (pairs acc) b (low acc) _
-    (λ d a v h. let t = h .5 in ((16 * hexOf b + h .1) ∷ t .0, rw (h .3) (After-pair.pair (two-digits d (h .4)) (t .1)), rw append-assoc at (t .2))) ([], After-pair.over, append-nil acc))
+    (λ d a v h. let t = h .5 in ((16 * hexOf b + h .1) ∷ t .0, rw (h .3) (After-pair.pair (two-digits d (h .4)) (t .1)), rw append-assoc at (t .2)))
+        ([], After-pair.over, append-nil acc))
 binary-is p (dot acc) b = digit-is (dot acc) b (low acc) _ (λ d a v h. low-back acc b d a v h) tt
 binary-is p (done acc) b = (refl, refl)
 

@@ -20,7 +20,8 @@ use Rattle.grammar.specs.Keys.{i-begin, Identifier, Key}
 use Rattle.grammar.specs.Values.{Inside, elements, members, Closes, Value, Rest, After, Item, Text}
 use Rattle.machine.specs.Scan.{Out, takes, stops, breaks, over}
 use Rattle.machine.specs.Machine
-use Rattle.machine.specs.Machine.{Use, as-value, as-key, Got, Base, want, wantKey, wantString, wantBinary, got, Mode, base, line, item, Frame, inside, pair, Conf, at, fail, step, read, finish, reading, Verdict, Ok, No, classOf, Class, lift, scan, asValue, asKey, wanted, shut, bareOf, onOut}
+use Rattle.machine.specs.Machine.{Use, as-value, as-key, Got, Base, want, wantKey, wantString, wantBinary, got, Mode, base, line, item, Frame, inside,
+    pair, Conf, at, fail, step, read, finish, reading, Verdict, Ok, No, classOf, Class, lift, scan, asValue, asKey, wanted, shut, bareOf, onOut}
 use Rattle.machine.specs.Numeric
 use Rattle.machine.specs.Strings
 use Rattle.machine.specs.Binaries
@@ -50,7 +51,8 @@ widen f (Follows.nothing x) = Follows.nothing (f over x)
 widen f (Follows.byte x y) = Follows.byte (f _ x) y
 
 -- an item that runs through its bytes gives what it means
-module _ {S M : Type 0} (run : ℕ → S → ℕ → Out S M) (f : S → Machine.Item) (g : M → Got) (same : (p : ℕ) (s : S) (b : ℕ) → scan p (f s) b ≡ lift f g (run p s b)) where
+module _ {S M : Type 0} (run : ℕ → S → ℕ → Out S M) (f : S → Machine.Item) (g : M → Got)
+    (same : (p : ℕ) (s : S) (b : ℕ) → scan p (f s) b ≡ lift f g (run p s b)) where
   taken : (p : ℕ) (s s' : S) (b d : ℕ) (k : List Frame) → run p s b ≡ takes s' → step p (at (item (f s)) d k) b ≡ at (item (f s')) d k
   taken p s s' b d k e = ap (onOut p d k b) (same p s b ∙ ap (lift f g) e)
 
@@ -64,26 +66,31 @@ module _ {S M : Type 0} (run : ℕ → S → ℕ → Out S M) (f : S → Machine
   unfolding read
   at-end p s v d k e = ended p s v d k e
 
-  at-byte : (p : ℕ) (s : S) (v : M) (b d : ℕ) (k : List Frame) (r : List ℕ) → run p s b ≡ stops v → read p (at (item (f s)) d k) (b ∷ r) ≡ read p (at (base (got (g v))) d k) (b ∷ r)
+  at-byte : (p : ℕ) (s : S) (v : M) (b d : ℕ) (k : List Frame) (r : List ℕ) → run p s b ≡ stops v → read p (at (item (f s)) d k) (b ∷ r)
+      ≡ read p (at (base (got (g v))) d k) (b ∷ r)
   unfolding read
   at-byte p s v b d k r e = ap (λ (c : Conf). read (suc p) c r) (stopped p s v b d k e)
 
-  halt-space : (p : ℕ) (s s' : S) (v : M) (d : ℕ) (k : List Frame) (r : List ℕ) → run p s (ch " ") ≡ takes s' → ((q c : ℕ) → NoDigit c → run q s' c ≡ stops v) → NoDigitFirst r → read p (at (item (f s)) d k) (ch " " ∷ r) ≡ read p (at (base (got (g v))) d k) (ch " " ∷ r)
+  halt-space : (p : ℕ) (s s' : S) (v : M) (d : ℕ) (k : List Frame) (r : List ℕ) → run p s (ch " ") ≡ takes s' → ((q c : ℕ) → NoDigit c → run q s' c ≡ stops v)
+      → NoDigitFirst r → read p (at (item (f s)) d k) (ch " " ∷ r) ≡ read p (at (base (got (g v))) d k) (ch " " ∷ r)
   unfolding read
   halt-space p s s' v d k [] e h n =
       ap (λ (c : Conf). read (suc p) c []) (taken p s s' (ch " ") d k e) ∙ at-end (suc p) s' v d k (h (suc p) over (NoDigit.past (omega arith)))
   halt-space p s s' v d k (c ∷ r) e h n =
       ap (λ (x : Conf). read (suc p) x (c ∷ r)) (taken p s s' (ch " ") d k e) ∙ at-byte (suc p) s' v c d k r (h (suc p) c n)
 
-  halted : {p : ℕ} {s : S} {v : M} {b : ℕ} → Halt run p s v b → (d : ℕ) (k : List Frame) (r : List ℕ) → (b ≡ ch " " → NoDigitFirst r) → read p (at (item (f s)) d k) (b ∷ r) ≡ read p (at (base (got (g v))) d k) (b ∷ r)
+  halted : {p : ℕ} {s : S} {v : M} {b : ℕ} → Halt run p s v b → (d : ℕ) (k : List Frame) (r : List ℕ) → (b ≡ ch " " → NoDigitFirst r)
+      → read p (at (item (f s)) d k) (b ∷ r) ≡ read p (at (base (got (g v))) d k) (b ∷ r)
   halted {p} {s} {v} {b} (Halt.here e) d k r n = at-byte p s v b d k r e
   halted {p} {s} {v} {b} (Halt.spaced {s' = s'} e h) d k r n = halt-space p s s' v d k r e h (n refl)
 
-  halted-end : {p : ℕ} {s : S} {v : M} {b : ℕ} → Halt run p s v b → b ≡ over → (d : ℕ) (k : List Frame) → read p (at (item (f s)) d k) [] ≡ read p (at (base (got (g v))) d k) []
+  halted-end : {p : ℕ} {s : S} {v : M} {b : ℕ} → Halt run p s v b → b ≡ over → (d : ℕ) (k : List Frame) → read p (at (item (f s)) d k) []
+      ≡ read p (at (base (got (g v))) d k) []
   halted-end {p} {s} {v} {b} (Halt.here e) w d k = at-end p s v d k (rw (← w) e)
   halted-end {p} {s} {v} (Halt.spaced e h) w d k = absurd (omega arith)
 
-  pub item-run : {F : ℕ → Type 0} {p : ℕ} {s : S} {a : List ℕ} {v : M} → Goes run F p s a v → (d : ℕ) (k : List Frame) (r : List ℕ) → Follows F r → read p (at (item (f s)) d k) (a ++ r) ≡ read (adv p a) (at (base (got (g v))) d k) r
+  pub item-run : {F : ℕ → Type 0} {p : ℕ} {s : S} {a : List ℕ} {v : M} → Goes run F p s a v → (d : ℕ) (k : List Frame) (r : List ℕ) → Follows F r
+      → read p (at (item (f s)) d k) (a ++ r) ≡ read (adv p a) (at (base (got (g v))) d k) r
   item-run (Goes.ends h) d k [] (Follows.nothing x) = halted-end (h over x) refl d k
   item-run (Goes.ends h) d k (b ∷ r) (Follows.byte x n) = halted (h b x) d k r n
   item-run (Goes.goes {p = p} {c = c} {s = s} {s' = s'} x e) d k r w = stepped p _ c _ _ (taken p s s' c d k e) (item-run x d k r w)
@@ -154,7 +161,8 @@ one-more r x n = Follows.byte x (λ e. absurd (n e))
 
 -- ---- the start of an item
 
-pub begun : (p d : ℕ) (k : List Frame) (s : Base) (b : ℕ) (t : List ℕ) (i : Machine.Item) → Machine.onBase p d k b s ≡ Machine.start p d k b i → read p (at (base s) d k) (b ∷ t) ≡ read p (at (item i) d k) (b ∷ t)
+pub begun : (p d : ℕ) (k : List Frame) (s : Base) (b : ℕ) (t : List ℕ) (i : Machine.Item) → Machine.onBase p d k b s ≡ Machine.start p d k b i
+    → read p (at (base s) d k) (b ∷ t) ≡ read p (at (item i) d k) (b ∷ t)
 unfolding read
 begun p d k s b t i e = ap (λ (c : Conf). read (suc p) c t) e
 
@@ -162,8 +170,10 @@ begun p d k s b t i e = ap (λ (c : Conf). read (suc p) c t) e
 module _ (P : List ℕ → List ℕ → Type 0) (Starts : Base → List ℕ → Type 0) (parts : List ℕ → Got) (next : List ℕ → Base)
     (plus : (p d : ℕ) (k : List Frame) (v : List ℕ) → step p (at (base (got (parts v))) d k) (ch "+") ≡ at (base (next v)) d k)
     (again : (v : List ℕ) → Starts (next v) v)
-    (part-run : (a u : List ℕ) → P a u → (s : Base) (v : List ℕ) → Starts s v → (p d : ℕ) (k : List Frame) (r : List ℕ) → Follows PartEnds r → read p (at (base s) d k) (a ++ r) ≡ read (adv p a) (at (base (got (parts (v ++ u)))) d k) r) where
-  concat-run : {a u : List ℕ} → Concat P a u → (s : Base) (v : List ℕ) → Starts s v → (p d : ℕ) (k : List Frame) (r : List ℕ) → Follows PartEnds r → read p (at (base s) d k) (a ++ r) ≡ read (adv p a) (at (base (got (parts (v ++ u)))) d k) r
+    (part-run : (a u : List ℕ) → P a u → (s : Base) (v : List ℕ) → Starts s v → (p d : ℕ) (k : List Frame) (r : List ℕ) → Follows PartEnds r
+        → read p (at (base s) d k) (a ++ r) ≡ read (adv p a) (at (base (got (parts (v ++ u)))) d k) r) where
+  concat-run : {a u : List ℕ} → Concat P a u → (s : Base) (v : List ℕ) → Starts s v → (p d : ℕ) (k : List Frame) (r : List ℕ) → Follows PartEnds r
+      → read p (at (base s) d k) (a ++ r) ≡ read (adv p a) (at (base (got (parts (v ++ u)))) d k) r
   concat-run (Concat.part {a = a} {u = u} x) s v b p d k r h = part-run a u x s v b p d k r h
   concat-run (Concat.plus {a = a} {u = u} {v = y} {w = z} {b = c} {t = t} x w1 w2 rest) s v b p d k r h =
       simp (append-assoc, adv-join)
@@ -181,7 +191,8 @@ pub data StartsString : Use → Base → List ℕ → Type 0 where
   first-value : StartsString as-value want []
   first-key : StartsString as-key wantKey []
 
-pub starts-string : {z : Use} {s : Base} {v : List ℕ} → StartsString z s v → (p d : ℕ) (k : List Frame) (b : ℕ) → classOf b ≡ Machine.quoteC → Machine.onBase p d k b s ≡ Machine.start p d k b (Machine.string-part z v Strings.begin)
+pub starts-string : {z : Use} {s : Base} {v : List ℕ} → StartsString z s v → (p d : ℕ) (k : List Frame) (b : ℕ) → classOf b ≡ Machine.quoteC
+    → Machine.onBase p d k b s ≡ Machine.start p d k b (Machine.string-part z v Strings.begin)
 starts-string StartsString.further p d k b e = rw e
 starts-string StartsString.first-value p d k b e = rw e
 starts-string StartsString.first-key p d k b e = rw e
@@ -198,16 +209,20 @@ part-begins (String-part.one-line (Quoted-text.quoted q x)) = Quoted.quote (quot
 part-begins (String-part.multiline q x y) = Quoted.quote (quote-class q)
 part-begins (String-part.trimmed q x y) = Quoted.quote (quote-class q)
 
-pub string-part-run : (z : Use) {a u : List ℕ} → String-part true a u → (s : Base) (v : List ℕ) → StartsString z s v → (p d : ℕ) (k : List Frame) (r : List ℕ) → Follows PartEnds r → read p (at (base s) d k) (a ++ r) ≡ read (adv p a) (at (base (got (Got.string z (v ++ u)))) d k) r
+pub string-part-run : (z : Use) {a u : List ℕ} → String-part true a u → (s : Base) (v : List ℕ) → StartsString z s v → (p d : ℕ) (k : List Frame) (r : List ℕ)
+    → Follows PartEnds r → read p (at (base s) d k) (a ++ r) ≡ read (adv p a) (at (base (got (Got.string z (v ++ u)))) d k) r
 string-part-run z {a} {u} x s v y p d k r h = go a (part-begins x) (part-goes x p)
   where
-    go : (c : List ℕ) → Quoted c → Goes Strings.scan PartEnds p Strings.begin c u → read p (at (base s) d k) (c ++ r) ≡ read (adv p c) (at (base (got (Got.string z (v ++ u)))) d k) r
+    go : (c : List ℕ) → Quoted c → Goes Strings.scan PartEnds p Strings.begin c u → read p (at (base s) d k) (c ++ r)
+        ≡ read (adv p c) (at (base (got (Got.string z (v ++ u)))) d k) r
     go c (Quoted.quote {b = b} {a = t} e) w =
         begun p d k s b (t ++ r) _ (starts-string y p d k b e)
         ∙ item-run Strings.scan (Machine.string-part z v) (λ q. Got.string z (v ++ q)) (λ p s b. refl) w d k r h
 
-pub string-run : (z : Use) {a u : List ℕ} → String true a u → (s : Base) → StartsString z s [] → (p d : ℕ) (k : List Frame) (r : List ℕ) → Follows PartEnds r → read p (at (base s) d k) (a ++ r) ≡ read (adv p a) (at (base (got (Got.string z u))) d k) r
-string-run z x s y p d k r h = concat-run (String-part true) (StartsString z) (Got.string z) (wantString z) (λ p d k v. refl) (λ v. StartsString.further) (λ a u. string-part-run z {a = a} {u = u}) x s [] y p d k r h
+pub string-run : (z : Use) {a u : List ℕ} → String true a u → (s : Base) → StartsString z s [] → (p d : ℕ) (k : List Frame) (r : List ℕ) → Follows PartEnds r
+    → read p (at (base s) d k) (a ++ r) ≡ read (adv p a) (at (base (got (Got.string z u))) d k) r
+string-run z x s y p d k r h = concat-run (String-part true) (StartsString z) (Got.string z) (wantString z) (λ p d k v. refl) (λ v. StartsString.further)
+    (λ a u. string-part-run z {a = a} {u = u}) x s [] y p d k r h
 
 -- ---- binary
 
@@ -215,11 +230,13 @@ data StartsBinary : Base → List ℕ → Type 0 where
   further : {v : List ℕ} → StartsBinary (wantBinary v) v
   first-value : StartsBinary want []
 
-starts-binary : {s : Base} {v : List ℕ} → StartsBinary s v → (p d : ℕ) (k : List Frame) → Machine.onBase p d k (ch "$") s ≡ Machine.start p d k (ch "$") (Machine.binary-part v Binaries.begin)
+starts-binary : {s : Base} {v : List ℕ} → StartsBinary s v → (p d : ℕ) (k : List Frame) → Machine.onBase p d k (ch "$") s
+    ≡ Machine.start p d k (ch "$") (Machine.binary-part v Binaries.begin)
 starts-binary StartsBinary.further p d k = refl
 starts-binary StartsBinary.first-value p d k = refl
 
-binary-part-run : {a u : List ℕ} → B-value a u → (s : Base) (v : List ℕ) → StartsBinary s v → (p d : ℕ) (k : List Frame) (r : List ℕ) → Follows PartEnds r → read p (at (base s) d k) (a ++ r) ≡ read (adv p a) (at (base (got (Got.binary (v ++ u)))) d k) r
+binary-part-run : {a u : List ℕ} → B-value a u → (s : Base) (v : List ℕ) → StartsBinary s v → (p d : ℕ) (k : List Frame) (r : List ℕ) → Follows PartEnds r
+    → read p (at (base s) d k) (a ++ r) ≡ read (adv p a) (at (base (got (Got.binary (v ++ u)))) d k) r
 binary-part-run {a} {u} x s v y p d k r h =
     let w = binary-begins x in
     ap (λ (c : List ℕ). read p (at (base s) d k) (c ++ r)) (w .1)
@@ -227,8 +244,10 @@ binary-part-run {a} {u} x s v y p d k r h =
     ∙ ap (λ (c : List ℕ). read p (at (item (Machine.binary-part v Binaries.begin)) d k) (c ++ r)) (sym (w .1))
     ∙ item-run Binaries.scan (Machine.binary-part v) (λ q. Got.binary (v ++ q)) (λ p s b. refl) (binary-goes x p) d k r h
 
-pub binary-run : {a u : List ℕ} → Binary a u → (p d : ℕ) (k : List Frame) (r : List ℕ) → Follows PartEnds r → read p (at (base want) d k) (a ++ r) ≡ read (adv p a) (at (base (got (Got.binary u))) d k) r
-binary-run x p d k r h = concat-run B-value StartsBinary Got.binary wantBinary (λ p d k v. refl) (λ v. StartsBinary.further) (λ a u. binary-part-run {a = a} {u = u}) x want [] StartsBinary.first-value p d k r h
+pub binary-run : {a u : List ℕ} → Binary a u → (p d : ℕ) (k : List Frame) (r : List ℕ) → Follows PartEnds r → read p (at (base want) d k) (a ++ r)
+    ≡ read (adv p a) (at (base (got (Got.binary u))) d k) r
+binary-run x p d k r h = concat-run B-value StartsBinary Got.binary wantBinary (λ p d k v. refl) (λ v. StartsBinary.further)
+    (λ a u. binary-part-run {a = a} {u = u}) x want [] StartsBinary.first-value p d k r h
 
 -- ---- values
 
@@ -254,7 +273,8 @@ valued (Meaning.array x) = refl
 valued (Meaning.object x) = refl
 
 abbrev pub ValueRun : ℕ → List ℕ → Meaning → Type 0
-ValueRun d a m = (p : ℕ) (k : List Frame) (r : List ℕ) → Follows EndsItem r → read p (at (base want) d k) (a ++ r) ≡ read (adv p a) (at (base (got (gotOf m))) d k) r
+ValueRun d a m = (p : ℕ) (k : List Frame) (r : List ℕ) → Follows EndsItem r → read p (at (base want) d k) (a ++ r)
+    ≡ read (adv p a) (at (base (got (gotOf m))) d k) r
 
 abbrev pub StartsNumeric : ℕ → Type 0
 StartsNumeric b = (p d : ℕ) (k : List Frame) → Machine.onBase p d k b want ≡ Machine.start p d k b (Machine.numeric Numeric.begin)
@@ -292,18 +312,23 @@ lead-starts N.Lead.point = λ p d k. refl
 lead-starts N.Lead.n-letter = λ p d k. refl
 lead-starts N.Lead.i-letter = λ p d k. refl
 
-numeric-run : {a : List ℕ} {m : Meaning} → NumericItem true a m → (p d : ℕ) (k : List Frame) (r : List ℕ) → Follows EndsItem r → read p (at (base want) d k) (a ++ r) ≡ read (adv p a) (at (base (got (Got.value m))) d k) r
+numeric-run : {a : List ℕ} {m : Meaning} → NumericItem true a m → (p d : ℕ) (k : List Frame) (r : List ℕ) → Follows EndsItem r
+    → read p (at (base want) d k) (a ++ r) ≡ read (adv p a) (at (base (got (Got.value m))) d k) r
 numeric-run {a} {m} x p d k r h = go a (numeric-begins x) (numeric-goes x p)
   where
-    from : (b : ℕ) (t : List ℕ) → StartsNumeric b → Goes Numeric.scan EndsItem p Numeric.begin (b ∷ t) m → read p (at (base want) d k) ((b ∷ t) ++ r) ≡ read (adv p (b ∷ t)) (at (base (got (Got.value m))) d k) r
+    from : (b : ℕ) (t : List ℕ) → StartsNumeric b → Goes Numeric.scan EndsItem p Numeric.begin (b ∷ t) m → read p (at (base want) d k) ((b ∷ t) ++ r)
+        ≡ read (adv p (b ∷ t)) (at (base (got (Got.value m))) d k) r
     from b t y w =
         begun p d k want b (t ++ r) _ (y p d k)
         ∙ item-run Numeric.scan Machine.numeric Got.value (λ p s b. refl) w d k r h
 
-    go : (c : List ℕ) → N.Begins c → Goes Numeric.scan EndsItem p Numeric.begin c m → read p (at (base want) d k) (c ++ r) ≡ read (adv p c) (at (base (got (Got.value m))) d k) r
+    go : (c : List ℕ) → N.Begins c → Goes Numeric.scan EndsItem p Numeric.begin c m → read p (at (base want) d k) (c ++ r)
+        ≡ read (adv p c) (at (base (got (Got.value m))) d k) r
     go c (N.Begins.begins {b = b} {a = t} y) w = from b t (lead-starts y) w
 
-pub word-run : (b : ℕ) (t : List ℕ) (m : Meaning) → ((p d : ℕ) (k : List Frame) → Machine.onBase p d k b want ≡ Machine.start p d k b (Machine.word (b ∷ t) m)) → (p d : ℕ) (k : List Frame) (r : List ℕ) → Follows EndsItem r → read p (at (base want) d k) ((b ∷ t) ++ r) ≡ read (adv p (b ∷ t)) (at (base (got (Got.value m))) d k) r
+pub word-run : (b : ℕ) (t : List ℕ) (m : Meaning) → ((p d : ℕ) (k : List Frame) → Machine.onBase p d k b want ≡ Machine.start p d k b (Machine.word (b ∷ t) m))
+    → (p d : ℕ) (k : List Frame) (r : List ℕ) → Follows EndsItem r → read p (at (base want) d k) ((b ∷ t) ++ r)
+    ≡ read (adv p (b ∷ t)) (at (base (got (Got.value m))) d k) r
 word-run b t m e p d k r h =
     begun p d k want b (t ++ r) _ (e p d k)
     ∙ item-run Names.wordScan (λ x. Machine.word x m) (λ x. Got.value m) (λ p s b. refl) (word-goes (b ∷ t) p) d k r h
@@ -315,7 +340,8 @@ no-letter : (b : ℕ) → (b < ch "A" → ⊥) → (ch "Z" < b → ch "a" ≤ b)
 no-letter b l m h f g = let u = f (omega arith) in omega (arith, g (m u))
 
 -- a letter begins an identifier where a key is wanted
-letter-starts : (b : ℕ) → (b < ch "A" → ⊥) → (ch "Z" < b → ch "a" ≤ b) → b ≤ ch "z" → (p d : ℕ) (k : List Frame) (c : Class) → ClassIs b c → Machine.onKey p d k b c ≡ Machine.start p d k b (Machine.identifier Names.begin)
+letter-starts : (b : ℕ) → (b < ch "A" → ⊥) → (ch "Z" < b → ch "a" ≤ b) → b ≤ ch "z" → (p d : ℕ) (k : List Frame) (c : Class) → ClassIs b c
+    → Machine.onKey p d k b c ≡ Machine.start p d k b (Machine.identifier Names.begin)
 letter-starts b l m h p d k Machine.letterN y = refl
 letter-starts b l m h p d k Machine.letterT y = refl
 letter-starts b l m h p d k Machine.letterF y = refl
@@ -340,7 +366,8 @@ begins-name b (inr (inl y)) p d k = letter-starts b (λ e. omega arith) (λ f. o
 begins-name b (inr (inr (inl y))) p d k = let e : b ≡ ch "$" = omega arith in rw e
 begins-name b (inr (inr (inr (inl y)))) p d k = let e : b ≡ ch "_" = omega arith in rw e
 
-pub name-class : {c : List ℕ} → Identifier c → (p d : ℕ) (k : List Frame) (r : List ℕ) → read p (at (base wantKey) d k) (c ++ r) ≡ read p (at (item (Machine.identifier Names.begin)) d k) (c ++ r)
+pub name-class : {c : List ℕ} → Identifier c → (p d : ℕ) (k : List Frame) (r : List ℕ) → read p (at (base wantKey) d k) (c ++ r)
+    ≡ read p (at (item (Machine.identifier Names.begin)) d k) (c ++ r)
 name-class {c} x p d k r =
     let w = name-begins x in
     ap (λ (a : List ℕ). read p (at (base wantKey) d k) (a ++ r)) (w .2)
@@ -354,15 +381,18 @@ pub data Adds : Frame → Meaning → Inside → Type 0 where
   element : {x : Meanings} {m : Meaning} → Adds (inside (elements x)) m (elements (Meanings.more x m))
   member : {x : Members} {u : List ℕ} {m : Meaning} → Adds (pair x u) m (members (Members.member x u m))
 
-pub close-now : {x : Inside} {b : ℕ} → Closes x b → (p d : ℕ) (k : List Frame) → step p (at (base (wanted x)) d (inside x ∷ k)) b ≡ at (base (got (Got.value (shut x)))) (suc d) k
+pub close-now : {x : Inside} {b : ℕ} → Closes x b → (p d : ℕ) (k : List Frame) → step p (at (base (wanted x)) d (inside x ∷ k)) b
+    ≡ at (base (got (Got.value (shut x)))) (suc d) k
 close-now Closes.bracket p d k = refl
 close-now Closes.brace p d k = refl
 
-close-after : {f : Frame} {m : Meaning} {y : Inside} {b : ℕ} → Adds f m y → Closes y b → (p d : ℕ) (k : List Frame) → step p (at (base (got (gotOf m))) d (f ∷ k)) b ≡ at (base (got (Got.value (shut y)))) (suc d) k
+close-after : {f : Frame} {m : Meaning} {y : Inside} {b : ℕ} → Adds f m y → Closes y b → (p d : ℕ) (k : List Frame)
+    → step p (at (base (got (gotOf m))) d (f ∷ k)) b ≡ at (base (got (Got.value (shut y)))) (suc d) k
 close-after {m = m} Adds.element Closes.bracket p d k = rw (valued m)
 close-after {m = m} Adds.member Closes.brace p d k = rw (valued m)
 
-pub comma-after : {f : Frame} {m : Meaning} {y : Inside} → Adds f m y → (p d : ℕ) (k : List Frame) → step p (at (base (got (gotOf m))) d (f ∷ k)) (ch ",") ≡ at (base (wanted y)) d (inside y ∷ k)
+pub comma-after : {f : Frame} {m : Meaning} {y : Inside} → Adds f m y → (p d : ℕ) (k : List Frame) → step p (at (base (got (gotOf m))) d (f ∷ k)) (ch ",")
+    ≡ at (base (wanted y)) d (inside y ∷ k)
 comma-after {m = m} Adds.element p d k = rw (valued m)
 comma-after {m = m} Adds.member p d k = rw (valued m)
 
@@ -373,18 +403,21 @@ closes-end Closes.brace = (EndsItem.brace, λ e. omega arith)
 -- ---- the productions
 
 abbrev RestRun : ℕ → Inside → List ℕ → Inside → Type 0
-RestRun d x a y = (p : ℕ) (k : List Frame) (r : List ℕ) → read p (at (base (wanted x)) d (inside x ∷ k)) (a ++ r) ≡ read (adv p a) (at (base (got (Got.value (shut y)))) (suc d) k) r
+RestRun d x a y = (p : ℕ) (k : List Frame) (r : List ℕ) → read p (at (base (wanted x)) d (inside x ∷ k)) (a ++ r)
+    ≡ read (adv p a) (at (base (got (Got.value (shut y)))) (suc d) k) r
 
 abbrev AfterRun : ℕ → Inside → List ℕ → Inside → Type 0
 AfterRun d y a z =
     ((r : List ℕ) → Follows EndsItem (a ++ r))
-    × ((f : Frame) (m : Meaning) → Adds f m y → (p : ℕ) (k : List Frame) (r : List ℕ) → read p (at (base (got (gotOf m))) d (f ∷ k)) (a ++ r) ≡ read (adv p a) (at (base (got (Got.value (shut z)))) (suc d) k) r)
+    × ((f : Frame) (m : Meaning) → Adds f m y → (p : ℕ) (k : List Frame) (r : List ℕ) → read p (at (base (got (gotOf m))) d (f ∷ k)) (a ++ r)
+        ≡ read (adv p a) (at (base (got (Got.value (shut z)))) (suc d) k) r)
 
 record ItemRun (d : ℕ) (x : Inside) (a : List ℕ) (y : Inside) : Type 0 where
   frame : Frame
   last : Meaning
   adds : Adds frame last y
-  runs : (p : ℕ) (k : List Frame) (r : List ℕ) → Follows EndsItem r → read p (at (base (wanted x)) d (inside x ∷ k)) (a ++ r) ≡ read (adv p a) (at (base (got (gotOf last))) d (frame ∷ k)) r
+  runs : (p : ℕ) (k : List Frame) (r : List ℕ) → Follows EndsItem r → read p (at (base (wanted x)) d (inside x ∷ k)) (a ++ r)
+      ≡ read (adv p a) (at (base (got (gotOf last))) d (frame ∷ k)) r
 
 close-run : (d b : ℕ) (x : Inside) (w : List ℕ) → Ws w → Closes x b → RestRun d x (w ++ (b ∷ [])) x
 close-run d b x w y c p k r =
@@ -407,25 +440,30 @@ end-run d b x w y c = (
 comma-run : (d : ℕ) (x y : Inside) (w a : List ℕ) → Ws w → RestRun d x a y → AfterRun d x (w ++ (ch "," ∷ a)) y
 comma-run d x y w a l t = (
   (λ r. rw append-assoc (after-layout l (ch "," ∷ (a ++ r)) (one-more (a ++ r) EndsItem.comma (λ e. omega arith)))),
-  λ f m g p k r. simp (append-assoc, adv-join) (layout-run l (got (gotOf m)) p d (f ∷ k) (ch "," ∷ (a ++ r)) ∙ stepped _ _ _ _ _ (comma-after g (adv p w) d k) (t (suc (adv p w)) k r)),
+  λ f m g p k r. simp (append-assoc, adv-join) (layout-run l (got (gotOf m)) p d (f ∷ k) (ch "," ∷ (a ++ r))
+      ∙ stepped _ _ _ _ _ (comma-after g (adv p w) d k) (t (suc (adv p w)) k r)),
 )
 
 element-run : (d : ℕ) (x : Meanings) (a : List ℕ) (m : Meaning) → ValueRun d a m → ItemRun d (elements x) a (elements (Meanings.more x m))
 element-run d x a m v = record { frame = inside (elements x); last = m; adds = Adds.element; runs = λ p k r h. v p (inside (elements x) ∷ k) r h }
 
 -- a key, and the colon after it
-pub key-run : {c u : List ℕ} → Key true c u → {v : List ℕ} → Ws v → (x : Members) (p d : ℕ) (k : List Frame) (r : List ℕ) → read p (at (base wantKey) d (inside (members x) ∷ k)) (c ++ (v ++ (ch ":" ∷ r))) ≡ read (suc (adv (adv p c) v)) (at (base want) d (pair x u ∷ k)) r
+pub key-run : {c u : List ℕ} → Key true c u → {v : List ℕ} → Ws v → (x : Members) (p d : ℕ) (k : List Frame) (r : List ℕ)
+    → read p (at (base wantKey) d (inside (members x) ∷ k)) (c ++ (v ++ (ch ":" ∷ r))) ≡ read (suc (adv (adv p c) v)) (at (base want) d (pair x u ∷ k)) r
 key-run {c} {u} (Key.string y) {v} w x p d k r =
-    string-run as-key y wantKey StartsString.first-key p d (inside (members x) ∷ k) (v ++ (ch ":" ∷ r)) (part-after-layout w _ (one-more r PartEnds.colon (λ e. omega arith)))
+    string-run as-key y wantKey StartsString.first-key p d (inside (members x) ∷ k) (v ++ (ch ":" ∷ r))
+        (part-after-layout w _ (one-more r PartEnds.colon (λ e. omega arith)))
     ∙ layout-run w (got (Got.string as-key u)) (adv p c) d (inside (members x) ∷ k) (ch ":" ∷ r)
     ∙ stepped _ _ _ _ _ refl refl
 key-run {c} (Key.identifier y) {v} w x p d k r =
     name-class y p d (inside (members x) ∷ k) (v ++ (ch ":" ∷ r))
-    ∙ item-run Names.scan Machine.identifier Got.key (λ p s b. refl) (name-goes y p) d (inside (members x) ∷ k) (v ++ (ch ":" ∷ r)) (part-after-layout w _ (one-more r PartEnds.colon (λ e. omega arith)))
+    ∙ item-run Names.scan Machine.identifier Got.key (λ p s b. refl) (name-goes y p) d (inside (members x) ∷ k) (v ++ (ch ":" ∷ r))
+        (part-after-layout w _ (one-more r PartEnds.colon (λ e. omega arith)))
     ∙ layout-run w (got (Got.key c)) (adv p c) d (inside (members x) ∷ k) (ch ":" ∷ r)
     ∙ stepped _ _ _ _ _ refl refl
 
-member-run : (d : ℕ) (x : Members) (c u v w a : List ℕ) (m : Meaning) → Key true c u → Ws v → Ws w → ValueRun d a m → ItemRun d (members x) (c ++ (v ++ (ch ":" ∷ (w ++ a)))) (members (Members.member x u m))
+member-run : (d : ℕ) (x : Members) (c u v w a : List ℕ) (m : Meaning) → Key true c u → Ws v → Ws w → ValueRun d a m
+    → ItemRun d (members x) (c ++ (v ++ (ch ":" ∷ (w ++ a)))) (members (Members.member x u m))
 member-run d x c u v w a m y l j t =
     record {
       frame = pair x u;
@@ -438,7 +476,8 @@ member-run d x c u v w a m y l j t =
           ∙ t (adv (suc (adv (adv p c) v)) w) (pair x u ∷ k) r h);
     }
 
-opened-run : (c : Machine.Bracket) (b : ℕ) → classOf b ≡ Machine.openC c → {d e : ℕ} → Room true d e → (a : List ℕ) (y : Inside) → RestRun e (bareOf c) a y → (p : ℕ) (k : List Frame) (r : List ℕ) → read p (at (base want) d k) (b ∷ (a ++ r)) ≡ read (adv (suc p) a) (at (base (got (Got.value (shut y)))) d k) r
+opened-run : (c : Machine.Bracket) (b : ℕ) → classOf b ≡ Machine.openC c → {d e : ℕ} → Room true d e → (a : List ℕ) (y : Inside) → RestRun e (bareOf c) a y
+    → (p : ℕ) (k : List Frame) (r : List ℕ) → read p (at (base want) d k) (b ∷ (a ++ r)) ≡ read (adv (suc p) a) (at (base (got (Got.value (shut y)))) d k) r
 opened-run c b f Room.falls a y t p k r = stepped _ _ _ _ _ (rw f) (t (suc p) k r)
 
 pub value-run : {d : ℕ} {a : List ℕ} {m : Meaning} → Value true d a m → ValueRun d a m

@@ -16,7 +16,8 @@ use Rattle.grammar.specs.Characters.{Range, _to_, Of, Among, Many}
 use Rattle.grammar.specs.Characters as Characters
 use Rattle.grammar.specs.Comments.{C-begin-line, c-char, C-line, c-no-star, c-no-star-or-slash, Stars, C-inner, C-block, Blank, Line-end, Ws, Last}
 use Rattle.machine.specs.Machine
-use Rattle.machine.specs.Machine.{Base, want, wantKey, wantString, wantBinary, got, Mode, base, slash, line, block, star, Frame, Conf, at, fail, step, read, finish, Verdict, classOf, blankC, noteOf, Note, lineEnd, starN, slashN, plainN, controlN}
+use Rattle.machine.specs.Machine.{Base, want, wantKey, wantString, wantBinary, got, Mode, base, slash, line, block, star, Frame, Conf, at, fail, step,
+    read, finish, Verdict, classOf, blankC, noteOf, Note, lineEnd, starN, slashN, plainN, controlN}
 use Rattle.machine.proofs.Tables.{cut-is}
 use Rattle.machine.proofs.Runs.{adv}
 
@@ -58,7 +59,9 @@ NoteIs b controlN = (b < 0x20) × (b ≡ ch "\t" → ⊥) × (b ≡ ch "\n" → 
 pub note-is : (b : ℕ) → NoteIs b (noteOf b)
 note-is b =
     cut-is NoteIs 0 Machine.notes plainN b (omega arith)
-    ((λ l u. omega arith), ((λ l u. omega arith), ((λ l u. omega arith), ((λ l u. omega arith), ((λ l u. omega arith), ((λ l u. omega arith), ((λ l u. omega arith), ((λ l u. omega arith), ((λ l u. omega arith), ((λ l u. omega arith), λ l. omega arith))))))))))
+    ((λ l u. omega arith), ((λ l u. omega arith), ((λ l u. omega arith), ((λ l u. omega arith),
+        ((λ l u. omega arith), ((λ l u. omega arith), ((λ l u. omega arith), ((λ l u. omega arith),
+        ((λ l u. omega arith), ((λ l u. omega arith), λ l. omega arith))))))))))
 
 -- a byte that a comment of each kind takes
 pub data InLine : Note → Type 0 where
@@ -233,26 +236,31 @@ on-slash p d k (wantString z u) = refl
 on-slash p d k (wantBinary u) = refl
 on-slash p d k (got g) = refl
 
-begin-line : {b : List ℕ} → C-begin-line b → (s : Base) (p d : ℕ) (k : List Frame) (r : List ℕ) → read p (at (base s) d k) (b ++ r) ≡ read (adv p b) (at (line s) d k) r
+begin-line : {b : List ℕ} → C-begin-line b → (s : Base) (p d : ℕ) (k : List Frame) (r : List ℕ) → read p (at (base s) d k) (b ++ r)
+    ≡ read (adv p b) (at (line s) d k) r
 begin-line C-begin-line.hash s p d k r = stepped _ _ _ _ _ (on-hash p d k s) refl
 begin-line C-begin-line.slashes s p d k r = stepped _ _ _ _ _ (on-slash p d k s) (stepped _ _ _ _ _ refl refl)
 
-pub line-run : {c : List ℕ} → C-line c → (s : Base) (p d : ℕ) (k : List Frame) (r : List ℕ) → read p (at (base s) d k) (c ++ r) ≡ read (adv p c) (at (line s) d k) r
+pub line-run : {c : List ℕ} → C-line c → (s : Base) (p d : ℕ) (k : List Frame) (r : List ℕ) → read p (at (base s) d k) (c ++ r)
+    ≡ read (adv p c) (at (line s) d k) r
 line-run (C-line.c-line {b = b} {c = c} x y) s p d k r =
     simp (append-assoc, adv-join) (begin-line x s p d k (c ++ r) ∙ line-chars s d k y (adv p b) r)
 
-block-run : {c : List ℕ} → C-block c → (s : Base) (p d : ℕ) (k : List Frame) (r : List ℕ) → read p (at (base s) d k) (c ++ r) ≡ read (adv p c) (at (base s) d k) r
+block-run : {c : List ℕ} → C-block c → (s : Base) (p d : ℕ) (k : List Frame) (r : List ℕ) → read p (at (base s) d k) (c ++ r)
+    ≡ read (adv p c) (at (base s) d k) r
 block-run (C-block.c-block {a = a} {s = z} x y) s p d k r =
     simp (append-assoc, adv-join)
     (stepped p _ (ch "/") _ _ (on-slash p d k s)
     (stepped (suc p) _ (ch "*") _ _ refl
     (block-inners s d k x (suc (suc p)) (z ++ (ch "/" ∷ r)) ∙ stars-block s d k y (adv (suc (suc p)) a) (ch "/" ∷ r) ∙ stepped _ _ _ _ _ refl refl)))
 
-pub layout-run : {w : List ℕ} → Ws w → (s : Base) (p d : ℕ) (k : List Frame) (r : List ℕ) → read p (at (base s) d k) (w ++ r) ≡ read (adv p w) (at (base s) d k) r
+pub layout-run : {w : List ℕ} → Ws w → (s : Base) (p d : ℕ) (k : List Frame) (r : List ℕ) → read p (at (base s) d k) (w ++ r)
+    ≡ read (adv p w) (at (base s) d k) r
 layout-run Ws.none s p d k r = refl
 layout-run (Ws.blank {b = b} x w) s p d k r = stepped _ _ _ _ _ (on-blank p d k b s (blank-class x)) (layout-run w s (suc p) d k r)
 layout-run (Ws.line {b = b} {c = c} {a = a} x y w) s p d k r =
     simp (append-assoc, adv-join)
-    (line-run x s p d k (b ∷ (a ++ r)) ∙ stepped (adv p c) (at (line s) d k) b (a ++ r) (at (base s) d k) (rw (end-class y)) (layout-run w s (suc (adv p c)) d k r))
+    (line-run x s p d k (b ∷ (a ++ r)) ∙ stepped (adv p c) (at (line s) d k) b (a ++ r) (at (base s) d k) (rw (end-class y))
+        (layout-run w s (suc (adv p c)) d k r))
 layout-run (Ws.block {c = c} {a = a} x w) s p d k r =
     simp (append-assoc, adv-join) (block-run x s p d k (a ++ r) ∙ layout-run w s (adv p c) d k r)

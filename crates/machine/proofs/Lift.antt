@@ -38,7 +38,8 @@ later c c' next p b t q e h =
       reads = rw z (ap (λ (x : Conf). read (suc p) x t) e ∙ h .reads);
     }
 
-module _ {S M : Type 0} (run : ℕ → S → ℕ → Out S M) (f : S → Machine.Item) (g : M → Got) (same : (p : ℕ) (s : S) (b : ℕ) → scan p (f s) b ≡ lift f g (run p s b)) where
+module _ {S M : Type 0} (run : ℕ → S → ℕ → Out S M) (f : S → Machine.Item) (g : M → Got)
+    (same : (p : ℕ) (s : S) (b : ℕ) → scan p (f s) b ≡ lift f g (run p s b)) where
   on : (p : ℕ) (s : S) (b d : ℕ) (k : List Frame) (o : Out S M) → run p s b ≡ o → step p (at (item (f s)) d k) b ≡ onOut p d k b (lift f g o)
   on p s b d k o e = ap (onOut p d k b) (same p s b ∙ ap (lift f g) e)
 
@@ -46,7 +47,8 @@ module _ {S M : Type 0} (run : ℕ → S → ℕ → Out S M) (f : S → Machine
   unfolding read
   at-end p s d k o e = ap (Machine.endOut p k) (same p s over ∙ ap (lift f g) e)
 
-  at-byte : (p : ℕ) (s : S) (b d : ℕ) (k : List Frame) (t : List ℕ) (o : Out S M) → run p s b ≡ o → read p (at (item (f s)) d k) (b ∷ t) ≡ read (suc p) (onOut p d k b (lift f g o)) t
+  at-byte : (p : ℕ) (s : S) (b d : ℕ) (k : List Frame) (t : List ℕ) (o : Out S M) → run p s b ≡ o → read p (at (item (f s)) d k) (b ∷ t)
+      ≡ read (suc p) (onOut p d k b (lift f g o)) t
   unfolding read
   at-byte p s b d k t o e = ap (λ (c : Conf). read (suc p) c t) (on p s b d k o e)
 
@@ -54,7 +56,8 @@ module _ {S M : Type 0} (run : ℕ → S → ℕ → Out S M) (f : S → Machine
   unfolding read
   stop-end p s d k x e = at-end p s d k (stops x) e
 
-  stop-byte : (p : ℕ) (s : S) (b d : ℕ) (k : List Frame) (t : List ℕ) (x : M) → run p s b ≡ stops x → read p (at (item (f s)) d k) (b ∷ t) ≡ read p (at (base (got (g x))) d k) (b ∷ t)
+  stop-byte : (p : ℕ) (s : S) (b d : ℕ) (k : List Frame) (t : List ℕ) (x : M) → run p s b ≡ stops x → read p (at (item (f s)) d k) (b ∷ t)
+      ≡ read p (at (base (got (g x))) d k) (b ∷ t)
   unfolding read
   stop-byte p s b d k t x e = at-byte p s b d k t (stops x) e
 
@@ -62,7 +65,8 @@ module _ {S M : Type 0} (run : ℕ → S → ℕ → Out S M) (f : S → Machine
     abbrev ItemEnds : ℕ → S → List ℕ → M → ℕ → Type 0
     ItemEnds p s t v q = Goes-on (at (item (f s)) d k) p t (at (base (got (g v))) d k) q
 
-    stopped : (p : ℕ) (s : S) (t : List ℕ) (x v : M) (q : ℕ) → _≡_ {A = Ran M} (ended x p) (ended v q) → read p (at (item (f s)) d k) t ≡ read p (at (base (got (g x))) d k) t → ItemEnds p s t v q
+    stopped : (p : ℕ) (s : S) (t : List ℕ) (x v : M) (q : ℕ) → _≡_ {A = Ran M} (ended x p) (ended v q) → read p (at (item (f s)) d k) t
+        ≡ read p (at (base (got (g x))) d k) t → ItemEnds p s t v q
     stopped p s t x v q e h =
         let a : x ≡ v = cc in
         let b : p ≡ q = cc in
@@ -79,7 +83,8 @@ module _ {S M : Type 0} (run : ℕ → S → ℕ → Out S M) (f : S → Machine
         go (breaks r) w h = absurd (let z : _≡_ {A = ℕ} 0 1 = cc in omega arith)
     item-ends (b ∷ t) p s v q e = go (λ s'. item-ends t (suc p) s' v q) (run p s b) refl e
       where
-        go : ((s' : S) → ran run (suc p) s' t ≡ ended v q → ItemEnds (suc p) s' t v q) → (o : Out S M) → run p s b ≡ o → goesOn run p (λ s'. ran run (suc p) s' t) o ≡ ended v q → ItemEnds p s (b ∷ t) v q
+        go : ((s' : S) → ran run (suc p) s' t ≡ ended v q → ItemEnds (suc p) s' t v q) → (o : Out S M) → run p s b ≡ o
+            → goesOn run p (λ s'. ran run (suc p) s' t) o ≡ ended v q → ItemEnds p s (b ∷ t) v q
         go ih (takes s') w h = later _ (at (item (f s')) d k) _ p b t q (on p s b d k (takes s') w) (ih s' h)
         go ih (stops x) w h = stopped p s (b ∷ t) x v q h (stop-byte p s b d k t x w)
         go ih (breaks r) w h = absurd (let z : _≡_ {A = ℕ} 0 1 = cc in omega arith)
@@ -95,7 +100,8 @@ module _ {S M : Type 0} (run : ℕ → S → ℕ → Out S M) (f : S → Machine
         go (breaks x) w h = at-end p s d k (breaks x) w ∙ ap No (let a : x ≡ r = cc in a)
     item-breaks (b ∷ t) p s r e = go (λ s'. item-breaks t (suc p) s' r) (run p s b) refl e
       where
-        go : ((s' : S) → ran run (suc p) s' t ≡ broke r → read (suc p) (at (item (f s')) d k) t ≡ No r) → (o : Out S M) → run p s b ≡ o → goesOn run p (λ s'. ran run (suc p) s' t) o ≡ broke r → read p (at (item (f s)) d k) (b ∷ t) ≡ No r
+        go : ((s' : S) → ran run (suc p) s' t ≡ broke r → read (suc p) (at (item (f s')) d k) t ≡ No r) → (o : Out S M) → run p s b ≡ o
+            → goesOn run p (λ s'. ran run (suc p) s' t) o ≡ broke r → read p (at (item (f s)) d k) (b ∷ t) ≡ No r
         go ih (takes s') w h = at-byte p s b d k t (takes s') w ∙ ih s' h
         go ih (stops x) w h = absurd (let z : _≡_ {A = ℕ} 0 1 = cc in omega arith)
         go ih (breaks x) w h = at-byte p s b d k t (breaks x) w ∙ absorbing (suc p) x t ∙ ap No (let a : x ≡ r = cc in a)

@@ -19,7 +19,8 @@ use Rattle.meaning.specs.Limits.{depthLimit, textLimit}
 use Rattle.meaning.specs.Meaning.{Meaning}
 use Rattle.meaning.specs.Paper.{placeOf}
 use Rattle.meaning.specs.declared.Refusal.{Refusal}
-use Rattle.meaning.specs.declared.Refusal.the-variants.{TextTooLong, NotUtf8, NotGrammar, BadEscape, BadTime, BadNumber, TooDeep, TapeTooShort, StoreTooShort, NotWellFormed, NoJsonForm, OutputTooShort, WrittenTooLong, NoSuchRecord}
+use Rattle.meaning.specs.declared.Refusal.the-variants.{TextTooLong, NotUtf8, NotGrammar, BadEscape, BadTime, BadNumber, TooDeep, TapeTooShort, StoreTooShort,
+    NotWellFormed, NoJsonForm, OutputTooShort, WrittenTooLong, NoSuchRecord}
 use Rattle.grammar.specs.Values.{Inside, elements, members}
 use Rattle.machine.specs.Scan.{Out, takes, stops, breaks, over}
 use Rattle.machine.specs.Strings as S
@@ -27,7 +28,8 @@ use Rattle.machine.specs.Binaries as B
 use Rattle.machine.specs.Names as N
 use Rattle.machine.specs.Numeric as D
 use Rattle.machine.specs.Machine
-use Rattle.machine.specs.Machine.{Got, Base, want, wantKey, wantString, wantBinary, got, base, line, item, Frame, inside, pair, Conf, at, fail, step, read, finish, reading, Verdict, Ok, No, classOf, Class, noteOf, Note, lift, scan}
+use Rattle.machine.specs.Machine.{Got, Base, want, wantKey, wantString, wantBinary, got, base, line, item, Frame, inside, pair, Conf, at, fail, step,
+    read, finish, reading, Verdict, Ok, No, classOf, Class, noteOf, Note, lift, scan}
 use Rattle.machine.specs.Verdict.{decoded, verdict}
 use Rattle.machine.proofs.Runs.{adv}
 use Rattle.machine.proofs.Numeric.{Blame, firstOf, first-begin, numeric-first, numeric-place}
@@ -121,16 +123,19 @@ wait-kept p k q n h l = (lost-kept p (k .bad) (k .high) (h .0) (h .1), l)
 
 alone-kept : (p : ℕ) (k : S.Ctx) (q w : ℕ) → CtxKept p k → q ≤ p → CtxKept p (S.alone k q w)
 unfolding S.alone
-alone-kept p k q w h l = either (CtxKept p) (ltb w 0xD800) (give-kept p k h) (either (CtxKept p) (ltb w 0xDC00) (wait-kept p k q w h l) (either (CtxKept p) (ltb w 0xE000) (blame-kept p k q h l) (give-kept p k h)))
+alone-kept p k q w h l = either (CtxKept p) (ltb w 0xD800) (give-kept p k h) (either (CtxKept p) (ltb w 0xDC00) (wait-kept p k q w h l)
+    (either (CtxKept p) (ltb w 0xE000) (blame-kept p k q h l) (give-kept p k h)))
 
 unit-kept : (p : ℕ) (k : S.Ctx) (q w : ℕ) (c : S.Half) → CtxKept p k → q ≤ p → CtxKept p (S.unit k q w c)
 unfolding S.unit
 unit-kept p k q w S.whole h l = alone-kept p k q w h l
-unit-kept p k q w (S.half r n) h l = either (CtxKept p) (ltb w 0xDC00) (alone-kept p k q w h l) (either (CtxKept p) (ltb w 0xE000) (h .0, tt) (alone-kept p k q w h l))
+unit-kept p k q w (S.half r n) h l = either (CtxKept p) (ltb w 0xDC00) (alone-kept p k q w h l)
+    (either (CtxKept p) (ltb w 0xE000) (h .0, tt) (alone-kept p k q w h l))
 
 braces-kept : (p : ℕ) (k : S.Ctx) (q w : ℕ) → CtxKept p k → q ≤ p → CtxKept p (S.inBraces k q w)
 unfolding S.inBraces
-braces-kept p k q w h l = either (CtxKept p) (ltb w 0xD800) (give-kept p k h) (either (CtxKept p) (ltb w 0xE000) (blame-kept p k q h l) (either (CtxKept p) (leb w 0x10FFFF) (give-kept p k h) (blame-kept p k q h l)))
+braces-kept p k q w h l = either (CtxKept p) (ltb w 0xD800) (give-kept p k h) (either (CtxKept p) (ltb w 0xE000) (blame-kept p k q h l)
+    (either (CtxKept p) (leb w 0x10FFFF) (give-kept p k h) (blame-kept p k q h l)))
 
 abbrev PartNear : ℕ → Out S.St (List ℕ) → Type 0
 PartNear p o = Near PartKept p o
@@ -154,7 +159,12 @@ short-near p k c h = either (PartNear p) (ltb c S.noShort) (give-kept (suc p) k 
 
 body-near : (p : ℕ) (k : S.Ctx) (b : ℕ) → CtxKept p k → PartNear p (S.onBody p k b)
 unfolding S.onBody
-body-near p k b h = either (PartNear p) (eqb b (ch "\\")) (ctx-on p k h, omega arith) (either (PartNear p) (eqb b (k .quote)) (ctx-on p k h) (either (PartNear p) (S.plainByte b) (give-kept (suc p) k (ctx-on p k h)) (place-3 p)))
+body-near p k b h =
+    either (PartNear p)
+    (eqb b
+    (ch
+    "\\")) (ctx-on p k h, omega arith) (either (PartNear p) (eqb b (k .quote)) (ctx-on p k h)
+        (either (PartNear p) (S.plainByte b) (give-kept (suc p) k (ctx-on p k h)) (place-3 p)))
 
 lines-near : (p q n : ℕ) (acc : List ℕ) (b : ℕ) → PartNear p (S.onLines p q n acc b)
 unfolding S.onLines
@@ -177,7 +187,8 @@ part-near p (S.esc k q) b h = either (PartNear p) (eqb b (ch "u")) (ctx-on p k (
 part-near p (S.uni k q) b h = either (PartNear p) (eqb b (ch "{")) (ctx-on p k (h .0), omega arith) (hex-near p k q 3 0 (S.hexOf b) (h .0) (h .1))
 part-near p (S.hex k q n v) b h = hex-near p k q n v (S.hexOf b) (h .0) (h .1)
 part-near p (S.brace0 k q) b h = brace-near p k q 0 (S.hexOf b) (h .0) (h .1)
-part-near p (S.brace k q v) b h = either (PartNear p) (eqb b (ch "}")) (braces-kept (suc p) k q v (ctx-on p k (h .0)) (omega arith)) (brace-near p k q v (S.hexOf b) (h .0) (h .1))
+part-near p (S.brace k q v) b h = either (PartNear p) (eqb b (ch "}")) (braces-kept (suc p) k q v (ctx-on p k (h .0)) (omega arith))
+    (brace-near p k q v (S.hexOf b) (h .0) (h .1))
 part-near p (S.done k) b h = close-near p (k .acc) (S.badNow k) (lost-kept p (k .bad) (k .high) (h .0) (h .1))
 
 -- ---- binary parts, identifiers and words keep no place
@@ -191,12 +202,15 @@ digit-near p x f o h = either (FreeNear p) (ltb x S.noDigit) tt h
 
 text-near : (p q : ℕ) (acc : List ℕ) (b : ℕ) → FreeNear p (B.onText p q acc b)
 unfolding B.onText
-text-near p q acc b = either (FreeNear p) (eqb b (ch "\\")) tt (either (FreeNear p) (eqb b q) tt (either (FreeNear p) (ltb b 0x20) (place-3 p) (either (FreeNear p) (leb b 0x7E) tt (place-3 p))))
+text-near p q acc b =
+    either (FreeNear p)
+    (eqb b (ch "\\")) tt (either (FreeNear p) (eqb b q) tt (either (FreeNear p) (ltb b 0x20) (place-3 p) (either (FreeNear p) (leb b 0x7E) tt (place-3 p))))
 
 binary-near : (p : ℕ) (s : B.St) (b : ℕ) → FreeNear p (B.scan p s b)
 unfolding B.scan B.onShort
 binary-near p B.start b = either (FreeNear p) (eqb b (ch "$")) tt (place-3 p)
-binary-near p B.dollar b = either (FreeNear p) (eqb b (ch "\"")) tt (either (FreeNear p) (eqb b (ch "'")) tt (digit-near p (S.hexOf b) (B.low []) (stops []) tt))
+binary-near p B.dollar b = either (FreeNear p) (eqb b (ch "\"")) tt (either (FreeNear p) (eqb b (ch "'")) tt
+    (digit-near p (S.hexOf b) (B.low []) (stops []) tt))
 binary-near p (B.text q acc) b = text-near p q acc b
 binary-near p (B.esc q acc) b = either (FreeNear p) (eqb b (ch "x")) tt (either (FreeNear p) (ltb (S.shortOf b) S.noShort) tt (place-3 p))
 binary-near p (B.hex q acc) b = digit-near p (S.hexOf b) (B.hexLow q acc) (breaks (NotGrammar p)) (place-3 p)
@@ -271,8 +285,10 @@ numeric-near p s b h = go (D.scan p s b) refl
 item-near : (p : ℕ) (i : Machine.Item) (b : ℕ) → ItemKept p i → Near ItemKept p (scan p i b)
 item-near p (Machine.word w m) b h = lift-near (λ q s. Unit {0}) (λ x. Machine.word x m) (λ x. Got.value m) (λ p s h. tt) p (N.wordScan p w b) (word-near p w b)
 item-near p (Machine.numeric s) b h = lift-near (λ q x. firstOf x ≤ q) Machine.numeric Got.value (λ p s h. h) p (D.scan p s b) (numeric-near p s b h)
-item-near p (Machine.string-part z u s) b h = lift-near PartKept (Machine.string-part z u) (λ x. Got.string z (u ++ x)) (λ p s h. h) p (S.scan p s b) (part-near p s b h)
-item-near p (Machine.binary-part u s) b h = lift-near (λ q s. Unit {0}) (Machine.binary-part u) (λ x. Got.binary (u ++ x)) (λ p s h. tt) p (B.scan p s b) (binary-near p s b)
+item-near p (Machine.string-part z u s) b h = lift-near PartKept (Machine.string-part z u) (λ x. Got.string z (u ++ x)) (λ p s h. h) p (S.scan p s b)
+    (part-near p s b h)
+item-near p (Machine.binary-part u s) b h = lift-near (λ q s. Unit {0}) (Machine.binary-part u) (λ x. Got.binary (u ++ x)) (λ p s h. tt) p (B.scan p s b)
+    (binary-near p s b)
 item-near p (Machine.identifier s) b h = lift-near (λ q s. Unit {0}) Machine.identifier Got.key (λ p s h. tt) p (N.scan p s b) (name-near p s b)
 
 odd-kept : (p : ℕ) → Stepped p (Machine.odd p)
@@ -384,7 +400,8 @@ key-wanted-kept p d k b Machine.otherC = odd-kept p
 key-wanted-kept p d k b (Machine.openC c) = odd-kept p
 key-wanted-kept p d k b (Machine.closeC c) = wanted-kept p d c k
 
-part-wanted-kept : (p d : ℕ) (k : List Frame) (b : ℕ) (s : Base) (x y : Conf) → Stepped p x → Stepped p y → (c : Class) → Stepped p (Machine.onPart p d k b s x y c)
+part-wanted-kept : (p d : ℕ) (k : List Frame) (b : ℕ) (s : Base) (x y : Conf) → Stepped p x → Stepped p y → (c : Class)
+    → Stepped p (Machine.onPart p d k b s x y c)
 part-wanted-kept p d k b s x y f g Machine.blankC = tt
 part-wanted-kept p d k b s x y f g Machine.hashC = tt
 part-wanted-kept p d k b s x y f g Machine.slashC = tt
@@ -404,7 +421,8 @@ part-wanted-kept p d k b s x y f g (Machine.closeC c) = odd-kept p
 base-kept : (p d : ℕ) (k : List Frame) (b : ℕ) (s : Base) → Stepped p (Machine.onBase p d k b s)
 base-kept p d k b want = want-kept p d k b (classOf b)
 base-kept p d k b wantKey = key-wanted-kept p d k b (classOf b)
-base-kept p d k b (wantString z u) = part-wanted-kept p d k b (wantString z u) _ _ (start-kept p d k b (Machine.string-part z u S.begin) tt) (odd-kept p) (classOf b)
+base-kept p d k b (wantString z u) = part-wanted-kept p d k b (wantString z u) _ _ (start-kept p d k b (Machine.string-part z u S.begin) tt) (odd-kept p)
+    (classOf b)
 base-kept p d k b (wantBinary u) = part-wanted-kept p d k b (wantBinary u) _ _ (odd-kept p) (start-kept p d k b (Machine.binary-part u B.begin) tt) (classOf b)
 base-kept p d k b (got g) = got-kept p d k g (classOf b)
 

@@ -59,7 +59,8 @@ module _ {S M : Type 0} (scan : ℕ → S → ℕ → Out S M) where
     ends : {p : ℕ} {s : S} → ((b : ℕ) → F b → HaltTo Q p s b) → GoesTo Q F p s []
     goes : {p c : ℕ} {s s' : S} {a : List ℕ} → GoesTo Q F (suc p) s' a → scan p s c ≡ takes s' → GoesTo Q F p s (c ∷ a)
 
-  pub took-to : {Q : Out S M → Type 0} {F : ℕ → Type 0} {p c : ℕ} {s s' : S} {a : List ℕ} → GoesTo Q F (suc p) s' a → scan p s c ≡ takes s' → GoesTo Q F p s (c ∷ a)
+  pub took-to : {Q : Out S M → Type 0} {F : ℕ → Type 0} {p c : ℕ} {s s' : S} {a : List ℕ} → GoesTo Q F (suc p) s' a → scan p s c ≡ takes s'
+      → GoesTo Q F p s (c ∷ a)
   took-to k e = GoesTo.goes k e
 
   pub halts-to : {Q : Out S M → Type 0} {F : ℕ → Type 0} {p : ℕ} {s : S} → ((b : ℕ) → F b → Q (scan p s b)) → GoesTo Q F p s []
@@ -107,7 +108,8 @@ module _ {S M : Type 0} (scan : ℕ → S → ℕ → Out S M) where
   steps-go Steps.stay y = y
   steps-go (Steps.eat x e) y = Goes.goes (steps-go x y) e
 
-  pub steps-to : {Q : Out S M → Type 0} {F : ℕ → Type 0} {p : ℕ} {s s' : S} {a b : List ℕ} → Steps p s a s' → GoesTo Q F (adv p a) s' b → GoesTo Q F p s (a ++ b)
+  pub steps-to : {Q : Out S M → Type 0} {F : ℕ → Type 0} {p : ℕ} {s s' : S} {a b : List ℕ} → Steps p s a s' → GoesTo Q F (adv p a) s' b
+      → GoesTo Q F p s (a ++ b)
   steps-to Steps.stay y = y
   steps-to (Steps.eat x e) y = GoesTo.goes (steps-to x y) e
 

@@ -28,7 +28,8 @@ use Rattle.grammar.proofs.Utf8 as Utf8
 use Rattle.grammar.proofs.Bytewise
 use Rattle.machine.specs.Scan.{Out, takes, stops, breaks, over}
 use Rattle.machine.specs.Machine
-use Rattle.machine.specs.Machine.{Use, as-value, as-key, Got, Base, want, wantKey, wantString, wantBinary, got, Mode, base, line, item, Frame, inside, pair, Conf, at, fail, step, read, finish, reading, Verdict, Ok, No, classOf, Class, lift, scan, asValue, asKey, wanted, shut, bareOf, onOut}
+use Rattle.machine.specs.Machine.{Use, as-value, as-key, Got, Base, want, wantKey, wantString, wantBinary, got, Mode, base, line, item, Frame, inside,
+    pair, Conf, at, fail, step, read, finish, reading, Verdict, Ok, No, classOf, Class, lift, scan, asValue, asKey, wanted, shut, bareOf, onOut}
 use Rattle.machine.specs.Numeric
 use Rattle.machine.specs.Strings
 use Rattle.machine.specs.Binaries
@@ -138,34 +139,43 @@ lay-join (Ws.line {c = c} l e x) y = rw append-assoc (Ws.line l e (lay-join x y)
 lay-join (Ws.block {c = c} b x) y = rw append-assoc (Ws.block b (lay-join x y))
 
 after-pre : {g a : List ℕ} {d : ℕ} {x y : Inside} → Ws g → After true d x a y → After true d x (g ++ a) y
-after-pre {g} l (After.end {d = d} {b = b} {x = x} {w = w} m c) = subst (λ (a : List ℕ). After true d x a x) (append-assoc g w (b ∷ [])) (After.end (lay-join l m) c)
-after-pre {g} l (After.comma {d = d} {x = x} {y = y} {w = w} {a = a} m r) = subst (λ (c : List ℕ). After true d x c y) (append-assoc g w (ch "," ∷ a)) (After.comma (lay-join l m) r)
+after-pre {g} l (After.end {d = d} {b = b} {x = x} {w = w} m c) = subst (λ (a : List ℕ). After true d x a x) (append-assoc g w (b ∷ []))
+    (After.end (lay-join l m) c)
+after-pre {g} l (After.comma {d = d} {x = x} {y = y} {w = w} {a = a} m r) = subst (λ (c : List ℕ). After true d x c y) (append-assoc g w (ch "," ∷ a))
+    (After.comma (lay-join l m) r)
 
 pub rest-pre : {f : Bool} {g a : List ℕ} {d : ℕ} {x y : Inside} → Ws g → Rest f d x a y → Rest f d x (g ++ a) y
-rest-pre {f} {g} l (Rest.close {d = d} {b = b} {x = x} {w = w} m c) = subst (λ (a : List ℕ). Rest f d x a x) (append-assoc g w (b ∷ [])) (Rest.close (lay-join l m) c)
-rest-pre {f} {g} l (Rest.item {d = d} {x = x} {z = z} {w = w} {a = a} {b = b} m i t) = subst (λ (c : List ℕ). Rest f d x c z) (append-assoc g w (a ++ b)) (Rest.item (lay-join l m) i t)
+rest-pre {f} {g} l (Rest.close {d = d} {b = b} {x = x} {w = w} m c) = subst (λ (a : List ℕ). Rest f d x a x) (append-assoc g w (b ∷ []))
+    (Rest.close (lay-join l m) c)
+rest-pre {f} {g} l (Rest.item {d = d} {x = x} {z = z} {w = w} {a = a} {b = b} m i t) =
+    subst (λ (c : List ℕ). Rest f d x c z) (append-assoc g w (a ++ b)) (Rest.item (lay-join l m) i t)
 
 last-pre : {g a : List ℕ} → Ws g → Last a → Last (g ++ a)
 last-pre g (Last.ended w) = Last.ended (lay-join g w)
 last-pre g (Last.unended w c) = rw append-assoc at (Last.unended (lay-join g w) c)
 
-on-pre : {P : Inside → List ℕ → Inside → Type 0} {Q : Inside → List ℕ → Type 0} (g t : List ℕ) (y : Inside) → ((a : List ℕ) (z : Inside) → P y a z → P y (g ++ a) z) → On P Q y t → On P Q y (g ++ t)
-on-pre g t y f h = record { first = g ++ h .first; rest = h .rest; whole = h .whole; split = rw (append-assoc, ← h .split); does = f (h .first) (h .whole) (h .does); goes = h .goes }
+on-pre : {P : Inside → List ℕ → Inside → Type 0} {Q : Inside → List ℕ → Type 0} (g t : List ℕ) (y : Inside)
+    → ((a : List ℕ) (z : Inside) → P y a z → P y (g ++ a) z) → On P Q y t → On P Q y (g ++ t)
+on-pre g t y f h = record { first = g ++ h .first; rest = h .rest; whole = h .whole; split = rw (append-assoc, ← h .split); does =
+    f (h .first) (h .whole) (h .does); goes = h .goes }
 
 settled-pre : {g : List ℕ} → Ws g → (k : List Frame) (d : ℕ) (m x : Meaning) (t : List ℕ) → Settled k d m x t → Settled k d m x (g ++ t)
 settled-pre l [] d m x t h = (last-pre l (h .0), h .1)
 settled-pre {g} l (f ∷ k) d m x t h = (h .0, h .1, on-pre g t (h .0) (λ a z. after-pre l) (h .2))
 
 valued-pre : {g : List ℕ} → Ws g → (k : List Frame) (d : ℕ) (x : Meaning) (t : List ℕ) → Valued k d x t → Valued k d x (g ++ t)
-valued-pre {g} l k d x t h = record { lead = g ++ h .lead; body = h .body; rest = h .rest; mean = h .mean; split = rw (append-assoc, ← h .split); layout = lay-join l (h .layout); value = h .value; goes = h .goes }
+valued-pre {g} l k d x t h = record { lead = g ++ h .lead; body = h .body; rest = h .rest; mean = h .mean; split = rw (append-assoc, ← h .split); layout =
+    lay-join l (h .layout); value = h .value; goes = h .goes }
 
 keyed-pre : {g : List ℕ} → Ws g → (k : List Frame) (d : ℕ) (u : List ℕ) (x : Meaning) (t : List ℕ) → Keyed k d u x t → Keyed k d u x (g ++ t)
 keyed-pre l [] d u x t h = h
 keyed-pre l (inside (elements y) ∷ k) d u x t h = h
-keyed-pre {g} l (inside (members y) ∷ k) d u x t h = record { lead = g ++ h .lead; rest = h .rest; split = rw (append-assoc, ← h .split); layout = lay-join l (h .layout); value = h .value }
+keyed-pre {g} l (inside (members y) ∷ k) d u x t h = record { lead = g ++ h .lead; rest = h .rest; split = rw (append-assoc, ← h .split); layout = lay-join
+    l (h .layout); value = h .value }
 keyed-pre l (pair y w ∷ k) d u x t h = h
 
-joined-pre : {P Q : List ℕ → List ℕ → Type 0} {g u a m : List ℕ} → Ws g → ((u r : List ℕ) → Q u r → Q u (g ++ r)) → (t r : List ℕ) → Joined P u a m → t ≡ a ++ r → Q m r → Parts P Q u (g ++ t)
+joined-pre : {P Q : List ℕ → List ℕ → Type 0} {g u a m : List ℕ} → Ws g → ((u r : List ℕ) → Q u r → Q u (g ++ r)) → (t r : List ℕ) → Joined P u a m → t ≡ a ++ r
+    → Q m r → Parts P Q u (g ++ t)
 joined-pre {g = g} l f t r (Joined.no-more {u = u}) e q = record { first = []; rest = g ++ r; mean = u; split = rw e; does = Joined.no-more; goes = f u r q }
 joined-pre {g = g} l f t r (Joined.plus {v = v} {w = w} {b = b} {c = c} {z = z} x y part j) e q =
     record {
@@ -177,11 +187,13 @@ joined-pre {g = g} l f t r (Joined.plus {v = v} {w = w} {b = b} {c = c} {z = z} 
       goes = q;
     }
 
-parts-pre : {P Q : List ℕ → List ℕ → Type 0} {g : List ℕ} → Ws g → ((u r : List ℕ) → Q u r → Q u (g ++ r)) → (u t : List ℕ) → Parts P Q u t → Parts P Q u (g ++ t)
+parts-pre : {P Q : List ℕ → List ℕ → Type 0} {g : List ℕ} → Ws g → ((u r : List ℕ) → Q u r → Q u (g ++ r)) → (u t : List ℕ) → Parts P Q u t
+    → Parts P Q u (g ++ t)
 parts-pre l f u t h = joined-pre l f t (h .rest) (h .does) (h .split) (h .goes)
 
 part-pre : {P Q : List ℕ → List ℕ → Type 0} {g : List ℕ} → Ws g → (u t : List ℕ) → Part P Q u t → Part P Q u (g ++ t)
-part-pre {g = g} l u t h = record { lead = g ++ h .lead; body = h .body; rest = h .rest; mean = h .mean; split = rw (append-assoc, ← h .split); layout = lay-join l (h .layout); part = h .part; goes = h .goes }
+part-pre {g = g} l u t h = record { lead = g ++ h .lead; body = h .body; rest = h .rest; mean = h .mean; split = rw (append-assoc, ← h .split); layout =
+    lay-join l (h .layout); part = h .part; goes = h .goes }
 
 use-pre : {g : List ℕ} → Ws g → (z : Use) (k : List Frame) (d : ℕ) (x : Meaning) (u r : List ℕ) → AfterUse z k d x u r → AfterUse z k d x u (g ++ r)
 use-pre l as-value k d x u r h = settled-pre l k d (Meaning.string u) x r h
@@ -320,9 +332,11 @@ back-line {b} y k d s x t (inl h) o =
     let c : Octets (h .body) = split-ascii r (h .body) (h .last) (h .rest) (end-low (h .ends)) refl in
     let v : Octets (h .rest) = Bytewise.behind (h .last) (h .rest) (end-low (h .ends)) (after c (h .last ∷ h .rest) r) in
     let l : C-line (b ++ h .body) = C-line.c-line y (Bytewise.line-chars (h .chars) c) in
-    subst (ToCome k d s x) (append-assoc (b ++ h .body) (h .last ∷ []) (h .rest) ∙ append-assoc b (h .body) (h .last ∷ h .rest) ∙ ap (λ (a : List ℕ). b ++ a) (sym (h .split)))
+    subst (ToCome k d s x) (append-assoc (b ++ h .body) (h .last ∷ []) (h .rest) ∙ append-assoc b (h .body) (h .last ∷ h .rest)
+        ∙ ap (λ (a : List ℕ). b ++ a) (sym (h .split)))
     (pre (Ws.line l (h .ends) Ws.none) k d s x (h .rest) (h .goes v))
-back-line {b} y k d s x t (inr h) o = ended-come k d s x (b ++ t) (h .1) (Last.unended Ws.none (C-line.c-line y (Bytewise.line-chars (h .0) (begin-octets y t o))))
+back-line {b} y k d s x t (inr h) o = ended-come k d s x (b ++ t) (h .1) (Last.unended Ws.none
+    (C-line.c-line y (Bytewise.line-chars (h .0) (begin-octets y t o))))
 
 pub stars-octets : {z : List ℕ} → Stars z → Octets z
 stars-octets Stars.one = Utf8.literal (letters "*") tt
@@ -337,8 +351,10 @@ back-block k d s x t h o =
     let q : Octets t = Bytewise.behind (ch "*") t (omega arith) (Bytewise.behind (ch "/") (ch "*" ∷ t) (omega arith) o) in
     let r = subst Octets (h .split) q in
     let f = stars-first (h .closing) in
-    let c : Octets (h .inner) = split-ascii r (h .inner) (ch "*") (f .0 ++ (ch "/" ∷ h .rest)) (omega arith) (ap (λ (a : List ℕ). h .inner ++ (a ++ (ch "/" ∷ h .rest))) (f .1)) in
-    let v : Octets (h .rest) = Bytewise.behind (ch "/") (h .rest) (omega arith) (after (stars-octets (h .closing)) (ch "/" ∷ h .rest) (after c (h .stars ++ (ch "/" ∷ h .rest)) r)) in
+    let c : Octets (h .inner) = split-ascii r (h .inner) (ch "*") (f .0 ++ (ch "/" ∷ h .rest)) (omega arith)
+        (ap (λ (a : List ℕ). h .inner ++ (a ++ (ch "/" ∷ h .rest))) (f .1)) in
+    let v : Octets (h .rest) = Bytewise.behind (ch "/") (h .rest) (omega arith) (after (stars-octets (h .closing)) (ch "/" ∷ h .rest)
+        (after c (h .stars ++ (ch "/" ∷ h .rest)) r)) in
     let l : C-block (letters "/*" ++ (h .inner ++ (h .stars ++ letters "/"))) = C-block.c-block (Bytewise.block-inner (h .chars) c) (h .closing) in
     let e : (letters "/*" ++ (h .inner ++ (h .stars ++ letters "/")) ++ []) ++ h .rest ≡ letters "/*" ++ t = rw (h .split) (simp (append-assoc, append-nil)) in
     subst (ToCome k d s x) e (pre (Ws.block l Ws.none) k d s x (h .rest) (h .goes v))
@@ -364,8 +380,10 @@ no-star-byte b h f = Bytewise.Byte.byte (go (decLt b 0x80) (decLt b 0x20) (ℕ-d
     go (yes l) (no a) q r (yes w) = inl (l, inr (inr (inr (inl (omega arith)))))
     go (yes l) (no a) q r (no w) = inl (l, inr (inr (inr (inr (inl (omega arith))))))
 
-pub no-slash-byte : (b : ℕ) → (b < 0x20 → (b ≡ ch "\t" → ⊥) → (b ≡ ch "\n" → ⊥) → b ≡ ch "\r") → (b ≡ ch "*" → ⊥) → (b ≡ ch "/" → ⊥) → Bytewise.Byte c-no-star-or-slash (b ∷ [])
-no-slash-byte b h f g = Bytewise.Byte.byte (go (decLt b 0x80) (decLt b 0x20) (ℕ-discrete b (ch "\t")) (ℕ-discrete b (ch "\n")) (decLt b (ch "*")) (decLt b (ch "/")))
+pub no-slash-byte : (b : ℕ) → (b < 0x20 → (b ≡ ch "\t" → ⊥) → (b ≡ ch "\n" → ⊥) → b ≡ ch "\r") → (b ≡ ch "*" → ⊥) → (b ≡ ch "/" → ⊥)
+    → Bytewise.Byte c-no-star-or-slash (b ∷ [])
+no-slash-byte b h f g = Bytewise.Byte.byte (go (decLt b 0x80) (decLt b 0x20) (ℕ-discrete b (ch "\t")) (ℕ-discrete b (ch "\n")) (decLt b (ch "*"))
+    (decLt b (ch "/")))
   where
     go : Dec (b < 0x80) → Dec (b < 0x20) → Dec (b ≡ ch "\t") → Dec (b ≡ ch "\n") → Dec (b < ch "*") → Dec (b < ch "/") → Bytewise.Raw c-no-star-or-slash b
     go (no l) a q r w v = inr (omega arith)
@@ -384,17 +402,23 @@ line-end-of b y = go (ℕ-discrete b (ch "\n"))
     go (no f) = rw (y .2 f) Line-end.carriage-return
 
 line-more : (b : ℕ) → (b < 0x20 → b ≡ ch "\t") → (k : List Frame) (d : ℕ) (s : Base) (x : Meaning) (t : List ℕ) → LineCome k d s x t → LineCome k d s x (b ∷ t)
-line-more b l k d s x t (inl h) = inl (record { body = b ∷ h .body; last = h .last; rest = h .rest; split = rw (h .split); chars = Many.more (line-byte b l) (h .chars); ends = h .ends; goes = h .goes })
+line-more b l k d s x t (inl h) = inl (record { body = b ∷ h .body; last = h .last; rest = h .rest; split = rw (h .split); chars =
+    Many.more (line-byte b l) (h .chars); ends = h .ends; goes = h .goes })
 line-more b l k d s x t (inr h) = inr (Many.more (line-byte b l) (h .0), h .1)
 
-block-more : (c : List ℕ) → Bytewise.Inner-byte c → (k : List Frame) (d : ℕ) (s : Base) (x : Meaning) (t : List ℕ) → BlockCome k d s x t → BlockCome k d s x (c ++ t)
+block-more : (c : List ℕ) → Bytewise.Inner-byte c → (k : List Frame) (d : ℕ) (s : Base) (x : Meaning) (t : List ℕ) → BlockCome k d s x t
+    → BlockCome k d s x (c ++ t)
 block-more c y k d s x t h =
-    record { inner = c ++ h .inner; stars = h .stars; rest = h .rest; split = rw (append-assoc, ← h .split); chars = Many.more y (h .chars); closing = h .closing; goes = h .goes }
+    record { inner = c ++ h .inner; stars = h .stars; rest = h .rest; split = rw (append-assoc, ← h .split); chars = Many.more y (h .chars); closing =
+        h .closing; goes = h .goes }
 
 -- one star more before a star
-star-again : {a : List ℕ} → Many Bytewise.Inner-byte a → (k : List Frame) (d : ℕ) (s : Base) (x : Meaning) (z r t : List ℕ) → Stars z → ch "*" ∷ t ≡ a ++ (z ++ (ch "/" ∷ r)) → BaseCome k d s x r → BlockCome k d s x (ch "*" ∷ ch "*" ∷ t)
-star-again Many.none k d s x z r t y e h = record { inner = []; stars = ch "*" ∷ z; rest = r; split = ap (λ (c : List ℕ). ch "*" ∷ c) e; chars = Many.none; closing = Stars.more y; goes = h }
-star-again (Many.more (Bytewise.Inner-byte.no-star (Bytewise.Byte.byte {b = b} (inl w))) m) k d s x z r t y e h = absurd (star-class b (w .1) .1 (sym (same-head e)))
+star-again : {a : List ℕ} → Many Bytewise.Inner-byte a → (k : List Frame) (d : ℕ) (s : Base) (x : Meaning) (z r t : List ℕ) → Stars z → ch "*" ∷ t ≡ a
+    ++ (z ++ (ch "/" ∷ r)) → BaseCome k d s x r → BlockCome k d s x (ch "*" ∷ ch "*" ∷ t)
+star-again Many.none k d s x z r t y e h = record { inner = []; stars = ch "*" ∷ z; rest = r; split = ap (λ (c : List ℕ). ch "*" ∷ c) e; chars = Many.none;
+    closing = Stars.more y; goes = h }
+star-again (Many.more (Bytewise.Inner-byte.no-star (Bytewise.Byte.byte {b = b} (inl w))) m) k d s x z r t y e h =
+    absurd (star-class b (w .1) .1 (sym (same-head e)))
 star-again (Many.more (Bytewise.Inner-byte.no-star (Bytewise.Byte.byte {b = b} (inr w))) m) k d s x z r t y e h = absurd (omega (arith, same-head e))
 star-again (Many.more {a = a} (Bytewise.Inner-byte.stars {s = v} {c = c} st w) m) k d s x z r t y e h =
     record {
@@ -425,7 +449,8 @@ module _ (p d : ℕ) (k : List Frame) (s : Base) (b : ℕ) (x : Meaning) (t : Li
   back-in-block : (n : Machine.Note) → NoteIs b n → Comes (Machine.onBlock p d k s n) x t → BlockCome k d s x (b ∷ t)
   back-in-block Machine.starN y h = rw y h
   back-in-block Machine.controlN y h = absurd h
-  back-in-block Machine.slashN y h = block-more (b ∷ []) (Bytewise.Inner-byte.no-star (no-star-byte b (λ l. absurd (omega arith)) (λ e. omega arith))) k d s x t h
+  back-in-block Machine.slashN y h = block-more (b ∷ []) (Bytewise.Inner-byte.no-star (no-star-byte b (λ l. absurd (omega arith)) (λ e. omega arith))) k d s x t
+      h
   back-in-block Machine.lineEnd y h = block-more (b ∷ []) (Bytewise.Inner-byte.no-star (no-star-byte b (λ l f g. y .2 g) (λ e. omega arith))) k d s x t h
   back-in-block Machine.plainN y h = block-more (b ∷ []) (Bytewise.Inner-byte.no-star (no-star-byte b (λ l f g. absurd (f (y .0 l))) (y .1))) k d s x t h
 
@@ -433,8 +458,10 @@ module _ (p d : ℕ) (k : List Frame) (s : Base) (b : ℕ) (x : Meaning) (t : Li
   back-in-star Machine.slashN y h = record { inner = []; stars = letters "*"; rest = t; split = rw y; chars = Many.none; closing = Stars.one; goes = h }
   back-in-star Machine.starN y h = rw y (star-again (h .chars) k d s x (h .stars) (h .rest) t (h .closing) (h .split) (h .goes))
   back-in-star Machine.controlN y h = absurd h
-  back-in-star Machine.lineEnd y h = block-more (ch "*" ∷ b ∷ []) (Bytewise.Inner-byte.stars Stars.one (no-slash-byte b (λ l f g. y .2 g) (λ e. omega arith) (λ e. omega arith))) k d s x t h
-  back-in-star Machine.plainN y h = block-more (ch "*" ∷ b ∷ []) (Bytewise.Inner-byte.stars Stars.one (no-slash-byte b (λ l f g. absurd (f (y .0 l))) (y .1) (y .2))) k d s x t h
+  back-in-star Machine.lineEnd y h = block-more (ch "*" ∷ b ∷ []) (Bytewise.Inner-byte.stars Stars.one
+      (no-slash-byte b (λ l f g. y .2 g) (λ e. omega arith) (λ e. omega arith))) k d s x t h
+  back-in-star Machine.plainN y h = block-more (ch "*" ∷ b ∷ []) (Bytewise.Inner-byte.stars Stars.one
+      (no-slash-byte b (λ l f g. absurd (f (y .0 l))) (y .1) (y .2))) k d s x t h
 
   back-hash : b ≡ ch "#" → LineCome k d s x t → BaseCome k d s x (b ∷ t)
   back-hash e h = rw e (back-line C-begin-line.hash k d s x t h)
@@ -449,8 +476,10 @@ value-then : (k : List Frame) (d : ℕ) (a : List ℕ) (m x : Meaning) (r t : Li
 value-then [] d a m x r t e v h = record { lead = []; body = a; rest = r; mean = m; split = e; layout = Ws.none; value = v; goes = h }
 value-then (inside (elements y) ∷ k) d a m x r t e v h = go (h .0) (h .1) (h .2)
   where
-    go : (z : Inside) → Adds (inside (elements y)) m z → On (After true d) (λ z r. Settled k (suc d) (shut z) x r) z r → On (Rest true d) (λ z r. Settled k (suc d) (shut z) x r) (elements y) t
-    go z Adds.element q = record { first = a ++ q .first; rest = q .rest; whole = q .whole; split = rw (append-assoc, ← q .split) e; does = Rest.item Ws.none (Item.element v) (q .does); goes = q .goes }
+    go : (z : Inside) → Adds (inside (elements y)) m z → On (After true d) (λ z r. Settled k (suc d) (shut z) x r) z r
+        → On (Rest true d) (λ z r. Settled k (suc d) (shut z) x r) (elements y) t
+    go z Adds.element q = record { first = a ++ q .first; rest = q .rest; whole = q .whole; split = rw (append-assoc, ← q .split) e; does =
+        Rest.item Ws.none (Item.element v) (q .does); goes = q .goes }
 value-then (inside (members y) ∷ k) d a m x r t e v h = absurd (none-adds (h .1))
   where
     none-adds : {z : Inside} → Adds (inside (members y)) m z → ⊥
@@ -462,13 +491,15 @@ key-then [] d c u x r t e v h = h
 key-then (inside (elements y) ∷ k) d c u x r t e v h = absurd h
 key-then (inside (members y) ∷ k) d c u x r t e v h = go (h .value .goes .0) (h .value .goes .1) (h .value .goes .2)
   where
-    go : (z : Inside) → Adds (pair y u) (h .value .mean) z → On (After true d) (λ z r. Settled k (suc d) (shut z) x r) z (h .value .rest) → On (Rest true d) (λ z r. Settled k (suc d) (shut z) x r) (members y) t
+    go : (z : Inside) → Adds (pair y u) (h .value .mean) z → On (After true d) (λ z r. Settled k (suc d) (shut z) x r) z (h .value .rest)
+        → On (Rest true d) (λ z r. Settled k (suc d) (shut z) x r) (members y) t
     go z Adds.member q =
         record {
           first = (c ++ (h .lead ++ (ch ":" ∷ (h .value .lead ++ h .value .body)))) ++ q .first;
           rest = q .rest;
           whole = q .whole;
-          split = e ∙ ap (λ (a : List ℕ). c ++ a) (h .split ∙ ap (λ (a : List ℕ). h .lead ++ (ch ":" ∷ a)) (h .value .split ∙ ap (λ (a : List ℕ). h .value .lead ++ (h .value .body ++ a)) (q .split))) ∙ simp append-assoc;
+          split = e ∙ ap (λ (a : List ℕ). c ++ a) (h .split ∙ ap (λ (a : List ℕ). h .lead ++ (ch ":" ∷ a))
+              (h .value .split ∙ ap (λ (a : List ℕ). h .value .lead ++ (h .value .body ++ a)) (q .split))) ∙ simp append-assoc;
           does = Rest.item Ws.none (Item.member v (h .layout) (h .value .layout) (h .value .value)) (q .does);
           goes = q .goes;
         }
@@ -492,49 +523,63 @@ concats P a t v p (Joined.plus {v = y} {w = z} {b = b} {t = u} {c = c} l m q j) 
 
 -- ---- items, backwards
 
-module _ {S M : Type 0} (Sub : S → List ℕ → M → Type 0) (f : S → Machine.Item) (g : M → Got) (same : (s : S) (a : List ℕ) (y : Got) (v : M) → Sub s a v → y ≡ g v → ItemRest (f s) a y) (open-up : (s : S) (a : List ℕ) (y : Got) → ItemRest (f s) a y → (v : M) × Sub s a v × (y ≡ g v)) where
+module _ {S M : Type 0} (Sub : S → List ℕ → M → Type 0) (f : S → Machine.Item) (g : M → Got)
+    (same : (s : S) (a : List ℕ) (y : Got) (v : M) → Sub s a v → y ≡ g v → ItemRest (f s) a y)
+    (open-up : (s : S) (a : List ℕ) (y : Got) → ItemRest (f s) a y → (v : M) × Sub s a v × (y ≡ g v)) where
   lifted : (s : S) (b : ℕ) (o : Out S M) → OutIs Sub s b o → OutIs ItemRest (f s) b (lift f g o)
   lifted s b (takes s') h = λ a y r. let w = open-up s' a y r in same s (b ∷ a) y (w .0) (h a (w .0) (w .1)) (w .2)
   lifted s b (stops v) h = same s [] (g v) v h refl
   lifted s b (breaks r) h = tt
 
 item-is : (p : ℕ) (i : Machine.Item) (b : ℕ) → OutIs ItemRest i b (scan p i b)
-item-is p (Machine.word w m) b = lifted WordRest (λ a. Machine.word a m) (λ v. Got.value m) (λ s a y v r e. (v, r, e)) (λ s a y r. r) w b (Names.wordScan p w b) (word-is p w b)
-item-is p (Machine.numeric s) b = lifted (NumericRest true) Machine.numeric Got.value (λ s a y v r e. (v, r, e)) (λ s a y r. r) s b (Numeric.scan p s b) (numeric-is true p s b)
-item-is p (Machine.string-part z u s) b = lifted PartRest (Machine.string-part z u) (λ v. Got.string z (u ++ v)) (λ s a y v r e. (v, r, e)) (λ s a y r. r) s b (Strings.scan p s b) (part-is p s b)
-item-is p (Machine.binary-part u s) b = lifted BinaryRest (Machine.binary-part u) (λ v. Got.binary (u ++ v)) (λ s a y v r e. (v, r, e)) (λ s a y r. r) s b (Binaries.scan p s b) (binary-is p s b)
+item-is p (Machine.word w m) b = lifted WordRest (λ a. Machine.word a m) (λ v. Got.value m) (λ s a y v r e. (v, r, e)) (λ s a y r. r) w b (Names.wordScan p w b)
+    (word-is p w b)
+item-is p (Machine.numeric s) b = lifted (NumericRest true) Machine.numeric Got.value (λ s a y v r e. (v, r, e)) (λ s a y r. r) s b (Numeric.scan p s b)
+    (numeric-is true p s b)
+item-is p (Machine.string-part z u s) b = lifted PartRest (Machine.string-part z u) (λ v. Got.string z (u ++ v)) (λ s a y v r e. (v, r, e)) (λ s a y r. r) s b
+    (Strings.scan p s b) (part-is p s b)
+item-is p (Machine.binary-part u s) b = lifted BinaryRest (Machine.binary-part u) (λ v. Got.binary (u ++ v)) (λ s a y v r e. (v, r, e)) (λ s a y r. r) s b
+    (Binaries.scan p s b) (binary-is p s b)
 item-is p (Machine.identifier s) b = lifted NameRest Machine.identifier Got.key (λ s a y v r e. (v, r, e)) (λ s a y r. r) s b (Names.scan p s b) (name-is p s b)
 
 -- ---- a comma, a closing bracket, a colon and a plus, backwards
 
-comma-back : (p d : ℕ) (k : List Frame) (b : ℕ) (m x : Meaning) (t : List ℕ) → b ≡ ch "," → Octets t → Comes (Machine.commaAfter p d k m) x t → Settled k d m x (b ∷ t)
+comma-back : (p d : ℕ) (k : List Frame) (b : ℕ) (m x : Meaning) (t : List ℕ) → b ≡ ch "," → Octets t → Comes (Machine.commaAfter p d k m) x t
+    → Settled k d m x (b ∷ t)
 comma-back p d [] b m x t e o h = absurd h
 comma-back p d (inside (elements y) ∷ k) b m x t e o h =
     let q = h o in
-    (elements (Meanings.more y m), Adds.element, record { first = ch "," ∷ q .first; rest = q .rest; whole = q .whole; split = rw (e, ← q .split); does = After.comma Ws.none (q .does); goes = q .goes })
+    (elements (Meanings.more y m), Adds.element, record { first = ch "," ∷ q .first; rest = q .rest; whole = q .whole; split = rw (e, ← q .split); does =
+        After.comma Ws.none (q .does); goes = q .goes })
 comma-back p d (inside (members y) ∷ k) b m x t e o h = absurd h
 comma-back p d (pair y u ∷ k) b m x t e o h =
     let q = h o in
-    (members (Members.member y u m), Adds.member, record { first = ch "," ∷ q .first; rest = q .rest; whole = q .whole; split = rw (e, ← q .split); does = After.comma Ws.none (q .does); goes = q .goes })
+    (members (Members.member y u m), Adds.member, record { first = ch "," ∷ q .first; rest = q .rest; whole = q .whole; split = rw (e, ← q .split); does =
+        After.comma Ws.none (q .does); goes = q .goes })
 
 -- the closing bracket of y
-closed-back : (p d : ℕ) (k : List Frame) (b : ℕ) (c : Machine.Bracket) (y : Inside) (x : Meaning) (t : List ℕ) → b ≡ closing c → Octets t → Comes (Machine.closed p d k c y) x t → Closes y b × Settled k (suc d) (shut y) x t
+closed-back : (p d : ℕ) (k : List Frame) (b : ℕ) (c : Machine.Bracket) (y : Inside) (x : Meaning) (t : List ℕ) → b ≡ closing c → Octets t
+    → Comes (Machine.closed p d k c y) x t → Closes y b × Settled k (suc d) (shut y) x t
 closed-back p d k b Machine.square (elements y) x t e o h = (rw e Closes.bracket, h o)
 closed-back p d k b Machine.square (members y) x t e o h = absurd h
 closed-back p d k b Machine.curly (elements y) x t e o h = absurd h
 closed-back p d k b Machine.curly (members y) x t e o h = (rw e Closes.brace, h o)
 
-close-back : (p d : ℕ) (k : List Frame) (b : ℕ) (c : Machine.Bracket) (m x : Meaning) (t : List ℕ) → b ≡ closing c → Octets t → Comes (Machine.closeAfter p d c k m) x t → Settled k d m x (b ∷ t)
+close-back : (p d : ℕ) (k : List Frame) (b : ℕ) (c : Machine.Bracket) (m x : Meaning) (t : List ℕ) → b ≡ closing c → Octets t
+    → Comes (Machine.closeAfter p d c k m) x t → Settled k d m x (b ∷ t)
 close-back p d [] b c m x t e o h = absurd h
 close-back p d (inside (elements y) ∷ k) b c m x t e o h =
     let q = closed-back p d k b c (elements (Meanings.more y m)) x t e o h in
-    (elements (Meanings.more y m), Adds.element, record { first = b ∷ []; rest = t; whole = elements (Meanings.more y m); split = refl; does = After.end Ws.none (q .0); goes = q .1 })
+    (elements (Meanings.more y m), Adds.element, record { first = b ∷ []; rest = t; whole = elements (Meanings.more y m); split = refl; does =
+        After.end Ws.none (q .0); goes = q .1 })
 close-back p d (inside (members y) ∷ k) b c m x t e o h = absurd h
 close-back p d (pair y u ∷ k) b c m x t e o h =
     let q = closed-back p d k b c (members (Members.member y u m)) x t e o h in
-    (members (Members.member y u m), Adds.member, record { first = b ∷ []; rest = t; whole = members (Members.member y u m); split = refl; does = After.end Ws.none (q .0); goes = q .1 })
+    (members (Members.member y u m), Adds.member, record { first = b ∷ []; rest = t; whole = members (Members.member y u m); split = refl; does =
+        After.end Ws.none (q .0); goes = q .1 })
 
-colon-back : (p d : ℕ) (k : List Frame) (b : ℕ) (u : List ℕ) (x : Meaning) (t : List ℕ) → b ≡ ch ":" → Octets t → Comes (Machine.colonAfter p d k u) x t → Keyed k d u x (b ∷ t)
+colon-back : (p d : ℕ) (k : List Frame) (b : ℕ) (u : List ℕ) (x : Meaning) (t : List ℕ) → b ≡ ch ":" → Octets t → Comes (Machine.colonAfter p d k u) x t
+    → Keyed k d u x (b ∷ t)
 colon-back p d [] b u x t e o h = absurd h
 colon-back p d (inside (elements y) ∷ k) b u x t e o h = absurd h
 colon-back p d (inside (members y) ∷ k) b u x t e o h = record { lead = []; rest = t; split = rw e; layout = Ws.none; value = h o }
@@ -556,32 +601,37 @@ plus-back b u t e h =
       goes = h .goes .goes;
     }
 
-need-value : (p d : ℕ) (k : List Frame) (g : Got) (b : ℕ) (x : Meaning) (t : List ℕ) (f : Meaning → Conf) → ((m : Meaning) → Comes (f m) x t → Settled k d m x (b ∷ t)) → Comes (Machine.needValue p f (asValue g)) x t → GotCome k d g x (b ∷ t)
+need-value : (p d : ℕ) (k : List Frame) (g : Got) (b : ℕ) (x : Meaning) (t : List ℕ) (f : Meaning → Conf)
+    → ((m : Meaning) → Comes (f m) x t → Settled k d m x (b ∷ t)) → Comes (Machine.needValue p f (asValue g)) x t → GotCome k d g x (b ∷ t)
 need-value p d k (Got.value m) b x t f n h = n m h
 need-value p d k (Got.key u) b x t f n h = absurd h
 need-value p d k (Got.string as-value u) b x t f n h = alone u (b ∷ t) (n (Meaning.string u) h)
 need-value p d k (Got.string as-key u) b x t f n h = absurd h
 need-value p d k (Got.binary u) b x t f n h = alone u (b ∷ t) (n (Meaning.binary u) h)
 
-need-key : (p d : ℕ) (k : List Frame) (g : Got) (b : ℕ) (x : Meaning) (t : List ℕ) (f : List ℕ → Conf) → ((u : List ℕ) → Comes (f u) x t → Keyed k d u x (b ∷ t)) → Comes (Machine.needKey p f (asKey g)) x t → GotCome k d g x (b ∷ t)
+need-key : (p d : ℕ) (k : List Frame) (g : Got) (b : ℕ) (x : Meaning) (t : List ℕ) (f : List ℕ → Conf)
+    → ((u : List ℕ) → Comes (f u) x t → Keyed k d u x (b ∷ t)) → Comes (Machine.needKey p f (asKey g)) x t → GotCome k d g x (b ∷ t)
 need-key p d k (Got.value m) b x t f n h = absurd h
 need-key p d k (Got.key u) b x t f n h = n u h
 need-key p d k (Got.string as-value u) b x t f n h = absurd h
 need-key p d k (Got.string as-key u) b x t f n h = alone u (b ∷ t) (n u h)
 need-key p d k (Got.binary u) b x t f n h = absurd h
 
-got-plus : (p d : ℕ) (k : List Frame) (g : Got) (b : ℕ) (x : Meaning) (t : List ℕ) → b ≡ ch "+" → Octets t → Comes (Machine.plusAfter p d k g) x t → GotCome k d g x (b ∷ t)
+got-plus : (p d : ℕ) (k : List Frame) (g : Got) (b : ℕ) (x : Meaning) (t : List ℕ) → b ≡ ch "+" → Octets t → Comes (Machine.plusAfter p d k g) x t
+    → GotCome k d g x (b ∷ t)
 got-plus p d k (Got.value m) b x t e o h = absurd h
 got-plus p d k (Got.key u) b x t e o h = absurd h
 got-plus p d k (Got.string z u) b x t e o h = plus-back b u t e (h o)
 got-plus p d k (Got.binary u) b x t e o h = plus-back b u t e (h o)
 
-back-got : (p d : ℕ) (k : List Frame) (g : Got) (b : ℕ) (x : Meaning) (t : List ℕ) (c : Class) → ClassIs b c → Comes (Machine.onGot p d k g c) x t → BaseCome k d (got g) x (b ∷ t)
+back-got : (p d : ℕ) (k : List Frame) (g : Got) (b : ℕ) (x : Meaning) (t : List ℕ) (c : Class) → ClassIs b c → Comes (Machine.onGot p d k g c) x t
+    → BaseCome k d (got g) x (b ∷ t)
 back-got p d k g b x t Machine.blankC y h = blank-laid b y k d (got g) x t h
 back-got p d k g b x t Machine.hashC y h = back-hash p d k (got g) b x t y h
 back-got p d k g b x t Machine.slashC y h = back-slash p d k (got g) b x t y h
 back-got p d k g b x t Machine.commaC y h = λ o. need-value p d k g b x t _ (λ m. comma-back p d k b m x t y (Bytewise.behind b t (omega arith) o)) h
-back-got p d k g b x t (Machine.closeC c) y h = λ o. need-value p d k g b x t _ (λ m. close-back p d k b c m x t y (Bytewise.behind b t (closing-low b c y) o)) h
+back-got p d k g b x t (Machine.closeC c) y h = λ o. need-value p d k g b x t _ (λ m. close-back p d k b c m x t y (Bytewise.behind b t (closing-low b c y) o))
+    h
   where
     closing-low : (b : ℕ) (c : Machine.Bracket) → b ≡ closing c → b < 0x80
     closing-low b Machine.square e = omega arith
@@ -597,9 +647,12 @@ back-got p d k g b x t Machine.letterF y h = absurd h
 back-got p d k g b x t Machine.letterC y h = absurd h
 back-got p d k g b x t Machine.otherC y h = absurd h
 
-back-out : (p d : ℕ) (k : List Frame) (i : Machine.Item) (b : ℕ) (x : Meaning) (t : List ℕ) (o : Out Machine.Item Got) → OutIs ItemRest i b o → Comes (onOut p d k b o) x t → ItemCome k d i x (b ∷ t)
-back-out p d k i b x t (takes j) y h = record { first = b ∷ h .first; rest = h .rest; gives = h .gives; split = rw (h .split); does = y (h .first) (h .gives) (h .does); goes = h .goes }
-back-out p d k i b x t (stops g) y h = record { first = []; rest = b ∷ t; gives = g; split = refl; does = y; goes = back-got p d k g b x t (classOf b) (class-is b) h }
+back-out : (p d : ℕ) (k : List Frame) (i : Machine.Item) (b : ℕ) (x : Meaning) (t : List ℕ) (o : Out Machine.Item Got) → OutIs ItemRest i b o
+    → Comes (onOut p d k b o) x t → ItemCome k d i x (b ∷ t)
+back-out p d k i b x t (takes j) y h = record { first = b ∷ h .first; rest = h .rest; gives = h .gives; split = rw (h .split); does =
+    y (h .first) (h .gives) (h .does); goes = h .goes }
+back-out p d k i b x t (stops g) y h = record { first = []; rest = b ∷ t; gives = g; split = refl; does = y; goes =
+    back-got p d k g b x t (classOf b) (class-is b) h }
 back-out p d k i b x t (breaks r) y h = absurd h
 
 back-item : (p d : ℕ) (k : List Frame) (i : Machine.Item) (b : ℕ) (x : Meaning) (t : List ℕ) → Comes (Machine.start p d k b i) x t → ItemCome k d i x (b ∷ t)
@@ -646,7 +699,8 @@ rest-alike t = elim t as (λ d a m _. Unit {0}) (λ d x a y _. Alike x y) (λ d 
 ]
 
 -- an item that is a value of ASCII bytes
-plain-value : (k : List Frame) (d : ℕ) (a : List ℕ) (m x : Meaning) (r t : List ℕ) → t ≡ a ++ r → Value true d a m → BaseCome k d (got (Got.value m)) x r → BaseCome k d want x t
+plain-value : (k : List Frame) (d : ℕ) (a : List ℕ) (m x : Meaning) (r t : List ℕ) → t ≡ a ++ r → Value true d a m → BaseCome k d (got (Got.value m)) x r
+    → BaseCome k d want x t
 plain-value k d a m x r t e v h o = value-then k d a m x r t e v (h (after (Utf8.value-octets v) r (subst Octets e o)))
 
 word-value : (k : List Frame) (d : ℕ) (w : List ℕ) (m x : Meaning) (t : List ℕ) → Value true d w m → ItemCome k d (Machine.word w m) x t → BaseCome k d want x t
@@ -656,7 +710,8 @@ pub numeric-value : {a : List ℕ} {m : Meaning} → NumericItem true a m → (d
 numeric-value (NumericItem.number y) d = Value.number y
 numeric-value (NumericItem.time-value y) d = Value.time-value y
 
-numeric-wanted : {a : List ℕ} {m : Meaning} → Taken true a m → (k : List Frame) (d : ℕ) (x : Meaning) (r t : List ℕ) → t ≡ a ++ r → BaseCome k d (got (Got.value m)) x r → BaseCome k d want x t
+numeric-wanted : {a : List ℕ} {m : Meaning} → Taken true a m → (k : List Frame) (d : ℕ) (x : Meaning) (r t : List ℕ) → t ≡ a ++ r
+    → BaseCome k d (got (Got.value m)) x r → BaseCome k d want x t
 numeric-wanted (Taken.item {a = a} {m = m} y) k d x r t e h = plain-value k d a m x r t e (numeric-value y d) h
 numeric-wanted (Taken.trailed {a = a} {d = q} y) k d x r t e h =
     plain-value k d a (Meaning.time (LocalDate q)) x (ch " " ∷ r) t (e ∙ append-assoc a (ch " " ∷ []) r) (Value.time-value (Time-value.local-date y))
@@ -669,7 +724,9 @@ string-wanted k d x t h o =
     let p = part-of y (c .0) in
     let g : GotCome k d (Got.string as-value (h .does .0)) x (h .rest) = rw (h .does .2) at (h .goes) (c .1) in
     let w = concats (String-part true) (h .first) (h .does .0) [] p (g .does) refl in
-    value-then k d (h .first ++ g .first) (Meaning.string (w .mean)) x (g .rest) t (h .split ∙ ap (λ (a : List ℕ). h .first ++ a) (g .split) ∙ sym (append-assoc (h .first) (g .first) (g .rest))) (Value.string (w .whole)) (rw (w .is) at (g .goes))
+    value-then k d (h .first ++ g .first) (Meaning.string (w .mean)) x (g .rest) t
+        (h .split ∙ ap (λ (a : List ℕ). h .first ++ a) (g .split) ∙ sym (append-assoc (h .first) (g .first) (g .rest))) (Value.string (w .whole))
+        (rw (w .is) at (g .goes))
 
 binary-wanted : (k : List Frame) (d : ℕ) (x : Meaning) (t : List ℕ) → ItemCome k d (Machine.binary-part [] Binaries.begin) x t → BaseCome k d want x t
 binary-wanted k d x t h o =
@@ -677,28 +734,36 @@ binary-wanted k d x t h o =
     let q : Octets (h .rest) = after (Utf8.binary-octets (Concat.part p)) (h .rest) (subst Octets (h .split) o) in
     let g : GotCome k d (Got.binary (h .does .0)) x (h .rest) = rw (h .does .2) at (h .goes) q in
     let w = concats B-value (h .first) (h .does .0) [] p (g .does) refl in
-    value-then k d (h .first ++ g .first) (Meaning.binary (w .mean)) x (g .rest) t (h .split ∙ ap (λ (a : List ℕ). h .first ++ a) (g .split) ∙ sym (append-assoc (h .first) (g .first) (g .rest))) (Value.binary (w .whole)) (rw (w .is) at (g .goes))
+    value-then k d (h .first ++ g .first) (Meaning.binary (w .mean)) x (g .rest) t
+        (h .split ∙ ap (λ (a : List ℕ). h .first ++ a) (g .split) ∙ sym (append-assoc (h .first) (g .first) (g .rest))) (Value.binary (w .whole))
+        (rw (w .is) at (g .goes))
 
-close-wanted : (p d : ℕ) (k : List Frame) (b : ℕ) (c : Machine.Bracket) (y : Inside) (x : Meaning) (t : List ℕ) → b ≡ closing c → Octets t → Comes (Machine.closed p d k c y) x t → On (Rest true d) (λ z r. Settled k (suc d) (shut z) x r) y (b ∷ t)
+close-wanted : (p d : ℕ) (k : List Frame) (b : ℕ) (c : Machine.Bracket) (y : Inside) (x : Meaning) (t : List ℕ) → b ≡ closing c → Octets t
+    → Comes (Machine.closed p d k c y) x t → On (Rest true d) (λ z r. Settled k (suc d) (shut z) x r) y (b ∷ t)
 close-wanted p d k b c y x t e o h =
     let q = closed-back p d k b c y x t e o h in
     record { first = b ∷ []; rest = t; whole = y; split = refl; does = Rest.close Ws.none (q .0); goes = q .1 }
 
-opened-array : (k : List Frame) (d : ℕ) (x : Meaning) (t : List ℕ) → On (Rest true d) (λ z r. Settled k (suc d) (shut z) x r) (elements Meanings.none) t → ToCome k (suc d) want x (ch "[" ∷ t)
+opened-array : (k : List Frame) (d : ℕ) (x : Meaning) (t : List ℕ) → On (Rest true d) (λ z r. Settled k (suc d) (shut z) x r) (elements Meanings.none) t
+    → ToCome k (suc d) want x (ch "[" ∷ t)
 opened-array k d x t h = go (h .whole) (h .does) (rest-alike (h .does)) (h .goes)
   where
-    go : (z : Inside) → Rest true d (elements Meanings.none) (h .first) z → Alike (elements Meanings.none) z → Settled k (suc d) (shut z) x (h .rest) → ToCome k (suc d) want x (ch "[" ∷ t)
+    go : (z : Inside) → Rest true d (elements Meanings.none) (h .first) z → Alike (elements Meanings.none) z → Settled k (suc d) (shut z) x (h .rest)
+        → ToCome k (suc d) want x (ch "[" ∷ t)
     go (elements y) r a q = value-then k (suc d) (ch "[" ∷ h .first) (Meaning.array y) x (h .rest) (ch "[" ∷ t) (rw (h .split)) (Value.array Room.falls r) q
     go (members y) r a q = absurd a
 
-opened-object : (k : List Frame) (d : ℕ) (x : Meaning) (t : List ℕ) → On (Rest true d) (λ z r. Settled k (suc d) (shut z) x r) (members Members.bare) t → ToCome k (suc d) want x (ch "{" ∷ t)
+opened-object : (k : List Frame) (d : ℕ) (x : Meaning) (t : List ℕ) → On (Rest true d) (λ z r. Settled k (suc d) (shut z) x r) (members Members.bare) t
+    → ToCome k (suc d) want x (ch "{" ∷ t)
 opened-object k d x t h = go (h .whole) (h .does) (rest-alike (h .does)) (h .goes)
   where
-    go : (z : Inside) → Rest true d (members Members.bare) (h .first) z → Alike (members Members.bare) z → Settled k (suc d) (shut z) x (h .rest) → ToCome k (suc d) want x (ch "{" ∷ t)
+    go : (z : Inside) → Rest true d (members Members.bare) (h .first) z → Alike (members Members.bare) z → Settled k (suc d) (shut z) x (h .rest)
+        → ToCome k (suc d) want x (ch "{" ∷ t)
     go (elements y) r a q = absurd a
     go (members y) r a q = value-then k (suc d) (ch "{" ∷ h .first) (Meaning.object y) x (h .rest) (ch "{" ∷ t) (rw (h .split)) (Value.object Room.falls r) q
 
-back-open : (p d : ℕ) (k : List Frame) (b : ℕ) (c : Machine.Bracket) (x : Meaning) (t : List ℕ) → b ≡ opening c → Comes (Machine.opened p d k (bareOf c)) x t → BaseCome k d want x (b ∷ t)
+back-open : (p d : ℕ) (k : List Frame) (b : ℕ) (c : Machine.Bracket) (x : Meaning) (t : List ℕ) → b ≡ opening c → Comes (Machine.opened p d k (bareOf c)) x t
+    → BaseCome k d want x (b ∷ t)
 back-open p zero k b c x t e h = absurd h
 back-open p (suc d) k b Machine.square x t e h = λ o. rw e (opened-array k d x t (h (Bytewise.behind b t (omega arith) o)))
 back-open p (suc d) k b Machine.curly x t e h = λ o. rw e (opened-object k d x t (h (Bytewise.behind b t (omega arith) o)))
@@ -707,15 +772,18 @@ closing-low : (b : ℕ) (c : Machine.Bracket) → b ≡ closing c → b < 0x80
 closing-low b Machine.square e = omega arith
 closing-low b Machine.curly e = omega arith
 
-back-close-want : (p d : ℕ) (k : List Frame) (b : ℕ) (c : Machine.Bracket) (x : Meaning) (t : List ℕ) → b ≡ closing c → Comes (Machine.closeWanted p d c k) x t → BaseCome k d want x (b ∷ t)
+back-close-want : (p d : ℕ) (k : List Frame) (b : ℕ) (c : Machine.Bracket) (x : Meaning) (t : List ℕ) → b ≡ closing c → Comes (Machine.closeWanted p d c k) x t
+    → BaseCome k d want x (b ∷ t)
 back-close-want p d [] b c x t e h = absurd h
 back-close-want p d (inside y ∷ k) b c x t e h = λ o. close-wanted p d k b c y x t e (Bytewise.behind b t (closing-low b c e) o) h
 back-close-want p d (pair y u ∷ k) b c x t e h = absurd h
 
-back-numeric : (p d : ℕ) (k : List Frame) (b : ℕ) (x : Meaning) (t : List ℕ) → ItemCome k d (Machine.numeric Numeric.begin) x (b ∷ t) → BaseCome k d want x (b ∷ t)
+back-numeric : (p d : ℕ) (k : List Frame) (b : ℕ) (x : Meaning) (t : List ℕ) → ItemCome k d (Machine.numeric Numeric.begin) x (b ∷ t)
+    → BaseCome k d want x (b ∷ t)
 back-numeric p d k b x t h = numeric-wanted (numeric-taken (h .does .1)) k d x (h .rest) (b ∷ t) (h .split) (rw (h .does .2) at (h .goes))
 
-back-want : (p d : ℕ) (k : List Frame) (b : ℕ) (x : Meaning) (t : List ℕ) (c : Class) → ClassIs b c → Comes (Machine.onWant p d k b c) x t → BaseCome k d want x (b ∷ t)
+back-want : (p d : ℕ) (k : List Frame) (b : ℕ) (x : Meaning) (t : List ℕ) (c : Class) → ClassIs b c → Comes (Machine.onWant p d k b c) x t
+    → BaseCome k d want x (b ∷ t)
 back-want p d k b x t Machine.blankC y h = blank-laid b y k d want x t h
 back-want p d k b x t Machine.hashC y h = back-hash p d k want b x t y h
 back-want p d k b x t Machine.slashC y h = back-slash p d k want b x t y h
@@ -723,9 +791,12 @@ back-want p d k b x t (Machine.openC c) y h = back-open p d k b c x t y h
 back-want p d k b x t (Machine.closeC c) y h = back-close-want p d k b c x t y h
 back-want p d k b x t Machine.quoteC y h = string-wanted k d x (b ∷ t) (back-item p d k (Machine.string-part as-value [] Strings.begin) b x t h)
 back-want p d k b x t Machine.dollarC y h = binary-wanted k d x (b ∷ t) (back-item p d k (Machine.binary-part [] Binaries.begin) b x t h)
-back-want p d k b x t Machine.letterN y h = word-value k d (letters "null") Meaning.null x (b ∷ t) Value.null-word (back-item p d k (Machine.word (letters "null") Meaning.null) b x t h)
-back-want p d k b x t Machine.letterT y h = word-value k d (letters "true") (Meaning.bool true) x (b ∷ t) Value.true-word (back-item p d k (Machine.word (letters "true") (Meaning.bool true)) b x t h)
-back-want p d k b x t Machine.letterF y h = word-value k d (letters "false") (Meaning.bool false) x (b ∷ t) Value.false-word (back-item p d k (Machine.word (letters "false") (Meaning.bool false)) b x t h)
+back-want p d k b x t Machine.letterN y h = word-value k d (letters "null") Meaning.null x (b ∷ t) Value.null-word
+    (back-item p d k (Machine.word (letters "null") Meaning.null) b x t h)
+back-want p d k b x t Machine.letterT y h = word-value k d (letters "true") (Meaning.bool true) x (b ∷ t) Value.true-word
+    (back-item p d k (Machine.word (letters "true") (Meaning.bool true)) b x t h)
+back-want p d k b x t Machine.letterF y h = word-value k d (letters "false") (Meaning.bool false) x (b ∷ t) Value.false-word
+    (back-item p d k (Machine.word (letters "false") (Meaning.bool false)) b x t h)
 back-want p d k b x t Machine.plusC y h = back-numeric p d k b x t (back-item p d k (Machine.numeric Numeric.begin) b x t h)
 back-want p d k b x t Machine.letterC y h = back-numeric p d k b x t (back-item p d k (Machine.numeric Numeric.begin) b x t h)
 back-want p d k b x t Machine.otherC y h = back-numeric p d k b x t (back-item p d k (Machine.numeric Numeric.begin) b x t h)
@@ -741,7 +812,8 @@ string-key k d x t h o =
     let p = part-of y (c .0) in
     let g : GotCome k d (Got.string as-key (h .does .0)) x (h .rest) = rw (h .does .2) at (h .goes) (c .1) in
     let w = concats (String-part true) (h .first) (h .does .0) [] p (g .does) refl in
-    key-then k d (h .first ++ g .first) (w .mean) x (g .rest) t (h .split ∙ ap (λ (a : List ℕ). h .first ++ a) (g .split) ∙ sym (append-assoc (h .first) (g .first) (g .rest))) (Key.string (w .whole)) (rw (w .is) at (g .goes))
+    key-then k d (h .first ++ g .first) (w .mean) x (g .rest) t (h .split ∙ ap (λ (a : List ℕ). h .first ++ a) (g .split)
+        ∙ sym (append-assoc (h .first) (g .first) (g .rest))) (Key.string (w .whole)) (rw (w .is) at (g .goes))
 
 name-key : (k : List Frame) (d : ℕ) (x : Meaning) (t : List ℕ) → ItemCome k d (Machine.identifier Names.begin) x t → BaseCome k d wantKey x t
 name-key k d x t h o =
@@ -750,12 +822,14 @@ name-key k d x t h o =
     let g : Keyed k d (h .does .0) x (h .rest) = rw (h .does .2) at (h .goes) q in
     key-then k d (h .first) (h .first) x (h .rest) t (h .split) (Key.identifier (n .0)) (rw (sym (n .1)) at g)
 
-back-close-key : (p d : ℕ) (k : List Frame) (b : ℕ) (c : Machine.Bracket) (x : Meaning) (t : List ℕ) → b ≡ closing c → Comes (Machine.closeWanted p d c k) x t → BaseCome k d wantKey x (b ∷ t)
+back-close-key : (p d : ℕ) (k : List Frame) (b : ℕ) (c : Machine.Bracket) (x : Meaning) (t : List ℕ) → b ≡ closing c → Comes (Machine.closeWanted p d c k) x t
+    → BaseCome k d wantKey x (b ∷ t)
 back-close-key p d [] b c x t e h = absurd h
 back-close-key p d (inside y ∷ k) b c x t e h = λ o. close-wanted p d k b c y x t e (Bytewise.behind b t (closing-low b c e) o) h
 back-close-key p d (pair y u ∷ k) b c x t e h = absurd h
 
-back-key : (p d : ℕ) (k : List Frame) (b : ℕ) (x : Meaning) (t : List ℕ) (c : Class) → ClassIs b c → Comes (Machine.onKey p d k b c) x t → BaseCome k d wantKey x (b ∷ t)
+back-key : (p d : ℕ) (k : List Frame) (b : ℕ) (x : Meaning) (t : List ℕ) (c : Class) → ClassIs b c → Comes (Machine.onKey p d k b c) x t
+    → BaseCome k d wantKey x (b ∷ t)
 back-key p d k b x t Machine.blankC y h = blank-laid b y k d wantKey x t h
 back-key p d k b x t Machine.hashC y h = back-hash p d k wantKey b x t y h
 back-key p d k b x t Machine.slashC y h = back-slash p d k wantKey b x t y h
@@ -774,19 +848,24 @@ back-key p d k b x t Machine.otherC y h = absurd h
 
 -- ---- where a part is wanted
 
-string-more : (z : Use) (u : List ℕ) (k : List Frame) (d : ℕ) (x : Meaning) (t : List ℕ) → ItemCome k d (Machine.string-part z u Strings.begin) x t → BaseCome k d (wantString z u) x t
+string-more : (z : Use) (u : List ℕ) (k : List Frame) (d : ℕ) (x : Meaning) (t : List ℕ) → ItemCome k d (Machine.string-part z u Strings.begin) x t
+    → BaseCome k d (wantString z u) x t
 string-more z u k d x t h o =
     let y = raw-part (h .does .1) in
     let c = part-cut y (h .rest) (subst Octets (h .split) o) in
-    record { lead = []; body = h .first; rest = h .rest; mean = h .does .0; split = h .split; layout = Ws.none; part = part-of y (c .0); goes = rw (h .does .2) at (h .goes) (c .1) }
+    record { lead = []; body = h .first; rest = h .rest; mean = h .does .0; split = h .split; layout = Ws.none; part = part-of y (c .0); goes =
+        rw (h .does .2) at (h .goes) (c .1) }
 
-binary-more : (u : List ℕ) (k : List Frame) (d : ℕ) (x : Meaning) (t : List ℕ) → ItemCome k d (Machine.binary-part u Binaries.begin) x t → BaseCome k d (wantBinary u) x t
+binary-more : (u : List ℕ) (k : List Frame) (d : ℕ) (x : Meaning) (t : List ℕ) → ItemCome k d (Machine.binary-part u Binaries.begin) x t
+    → BaseCome k d (wantBinary u) x t
 binary-more u k d x t h o =
     let p = binary-of (h .does .1) in
     let q : Octets (h .rest) = after (Utf8.binary-octets (Concat.part p)) (h .rest) (subst Octets (h .split) o) in
-    record { lead = []; body = h .first; rest = h .rest; mean = h .does .0; split = h .split; layout = Ws.none; part = p; goes = rw (h .does .2) at (h .goes) q }
+    record { lead = []; body = h .first; rest = h .rest; mean = h .does .0; split = h .split; layout = Ws.none; part = p; goes =
+        rw (h .does .2) at (h .goes) q }
 
-back-part : (p d : ℕ) (k : List Frame) (b : ℕ) (x : Meaning) (t : List ℕ) (s : Base) (q r : Conf) → (Comes q x t → BaseCome k d s x (b ∷ t)) → (Comes r x t → BaseCome k d s x (b ∷ t)) → (c : Class) → ClassIs b c → Comes (Machine.onPart p d k b s q r c) x t → BaseCome k d s x (b ∷ t)
+back-part : (p d : ℕ) (k : List Frame) (b : ℕ) (x : Meaning) (t : List ℕ) (s : Base) (q r : Conf) → (Comes q x t → BaseCome k d s x (b ∷ t))
+    → (Comes r x t → BaseCome k d s x (b ∷ t)) → (c : Class) → ClassIs b c → Comes (Machine.onPart p d k b s q r c) x t → BaseCome k d s x (b ∷ t)
 back-part p d k b x t s q r f g Machine.blankC y h = blank-laid b y k d s x t h
 back-part p d k b x t s q r f g Machine.hashC y h = back-hash p d k s b x t y h
 back-part p d k b x t s q r f g Machine.slashC y h = back-slash p d k s b x t y h
@@ -809,9 +888,11 @@ back-base : (p d : ℕ) (k : List Frame) (b : ℕ) (x : Meaning) (t : List ℕ) 
 back-base p d k b x t want h = back-want p d k b x t (classOf b) (class-is b) h
 back-base p d k b x t wantKey h = back-key p d k b x t (classOf b) (class-is b) h
 back-base p d k b x t (wantString z u) h =
-    back-part p d k b x t (wantString z u) _ _ (λ q. string-more z u k d x (b ∷ t) (back-item p d k (Machine.string-part z u Strings.begin) b x t q)) (λ q. absurd q) (classOf b) (class-is b) h
+    back-part p d k b x t (wantString z u) _ _ (λ q. string-more z u k d x (b ∷ t) (back-item p d k (Machine.string-part z u Strings.begin) b x t q))
+        (λ q. absurd q) (classOf b) (class-is b) h
 back-base p d k b x t (wantBinary u) h =
-    back-part p d k b x t (wantBinary u) _ _ (λ q. absurd q) (λ q. binary-more u k d x (b ∷ t) (back-item p d k (Machine.binary-part u Binaries.begin) b x t q)) (classOf b) (class-is b) h
+    back-part p d k b x t (wantBinary u) _ _ (λ q. absurd q) (λ q. binary-more u k d x (b ∷ t) (back-item p d k (Machine.binary-part u Binaries.begin) b x t q))
+        (classOf b) (class-is b) h
 back-base p d k b x t (got g) h = back-got p d k g b x t (classOf b) (class-is b) h
 
 back : (p : ℕ) (c : Conf) (b : ℕ) (x : Meaning) (t : List ℕ) → Comes (step p c b) x t → Comes c x (b ∷ t)
@@ -846,7 +927,8 @@ end-base p (f ∷ k) (got g) x e = absurd (never (end-complete p (f ∷ k) x (as
 ended : (k : List Frame) (d : ℕ) (s : Base) (x : Meaning) → Ended k s x → BaseCome k d s x []
 ended k d s x e o = ended-come k d s x [] e (Last.ended Ws.none)
 
-end-out : (p d : ℕ) (k : List Frame) (i : Machine.Item) (x : Meaning) (o : Out Machine.Item Got) → OutIs ItemRest i over o → Machine.endOut p k o ≡ Ok x → ItemCome k d i x []
+end-out : (p d : ℕ) (k : List Frame) (i : Machine.Item) (x : Meaning) (o : Out Machine.Item Got) → OutIs ItemRest i over o → Machine.endOut p k o ≡ Ok x
+    → ItemCome k d i x []
 end-out p d k i x (takes j) y e = absurd (refused e)
 end-out p d k i x (stops g) y e = record { first = []; rest = []; gives = g; split = refl; does = y; goes = ended k d (got g) x (end-base p k (got g) x e) }
 end-out p d k i x (breaks r) y e = absurd (refused e)
@@ -879,10 +961,12 @@ pub derived : (t : List ℕ) (m : Meaning) → Octets t → reading t ≡ Ok m �
 unfolding reading
 derived t m o e =
     let h = comes t 0 (at (base want) depthLimit []) m e o in
-    record { lead = h .lead; body = h .body; rest = h .rest; split = h .split; layout = h .layout; value = subst (Value true depthLimit (h .body)) (h .goes .1) (h .value); last = h .goes .0 }
+    record { lead = h .lead; body = h .body; rest = h .rest; split = h .split; layout = h .layout; value =
+        subst (Value true depthLimit (h .body)) (h .goes .1) (h .value); last = h .goes .0 }
 
 -- in UTF-8 and within the length, what the machine accepts, the grammar derives
 pub derives : (t : List ℕ) (m : Meaning) → Octets t → length t ≤ textLimit → reading t ≡ Ok m → Text true t m
 derives t m o l e =
     let h = derived t m o e in
-    subst (λ (s : List ℕ). Text true s m) (sym (h .split)) (Text.text (h .layout) (h .value) (h .last) (subst (λ (s : List ℕ). length s ≤ textLimit) (h .split) l))
+    subst (λ (s : List ℕ). Text true s m) (sym (h .split)) (Text.text (h .layout) (h .value) (h .last)
+        (subst (λ (s : List ℕ). length s ≤ textLimit) (h .split) l))

@@ -1,5 +1,5 @@
--- The pushdown over the items: what is expected, the open arrays and objects with what they hold so far, the room left.
--- Assumes nothing.
+-- The pushdown over the items (docs/FORMAT.md, 1.2 and 7): what is expected, the open arrays and objects with what they
+-- hold so far, the room left. Assumes nothing.
 use mathlib.Core.Bool.{Bool, true, false, cond}
 use mathlib.Core.List.{List, [], _∷_, _++_}
 use mathlib.Core.Option.{Option, none, some}
@@ -110,12 +110,16 @@ pub data Class : Type 0 where
 
 abbrev pub classes : List (ℕ × Class)
 classes =
-    (0x08, otherC) ∷ (ch "\n", blankC) ∷ (0x0C, otherC) ∷ (ch "\r", blankC) ∷ (0x1F, otherC) ∷ (ch " ", blankC) ∷ (ch "!", otherC)
+    (0x08, otherC) ∷ (ch "\n", blankC) ∷ (0x0C, otherC) ∷ (ch "\r", blankC) ∷ (0x1F, otherC) ∷ (ch " ", blankC) ∷
+        (ch "!", otherC)
     ∷ (ch "\"", quoteC) ∷ (ch "#", hashC) ∷ (ch "$", dollarC) ∷ (ch "&", otherC) ∷ (ch "'", quoteC) ∷ (ch "*", otherC)
     ∷ (ch "+", plusC) ∷ (ch ",", commaC) ∷ (ch ".", otherC) ∷ (ch "/", slashC) ∷ (ch "9", otherC) ∷ (ch ":", colonC)
-    ∷ (ch "@", otherC) ∷ (ch "Z", letterC) ∷ (ch "[", openC square) ∷ (ch "\\", otherC) ∷ (ch "]", closeC square) ∷ (ch "^", otherC)
-    ∷ (ch "_", letterC) ∷ (ch "`", otherC) ∷ (ch "e", letterC) ∷ (ch "f", letterF) ∷ (ch "m", letterC) ∷ (ch "n", letterN)
-    ∷ (ch "s", letterC) ∷ (ch "t", letterT) ∷ (ch "z", letterC) ∷ (ch "{", openC curly) ∷ (ch "|", otherC) ∷ (ch "}", closeC curly) ∷ []
+    ∷ (ch "@", otherC) ∷ (ch "Z", letterC) ∷ (ch "[", openC square) ∷
+        (ch "\\", otherC) ∷ (ch "]", closeC square) ∷ (ch "^", otherC)
+    ∷ (ch "_", letterC) ∷ (ch "`", otherC) ∷ (ch "e", letterC) ∷ (ch "f", letterF) ∷ (ch "m", letterC) ∷
+        (ch "n", letterN)
+    ∷ (ch "s", letterC) ∷ (ch "t", letterT) ∷ (ch "z", letterC) ∷ (ch "{", openC curly) ∷ (ch "|", otherC) ∷
+        (ch "}", closeC curly) ∷ []
 
 abbrev pub classOf : ℕ → Class
 classOf = cut classes otherC
@@ -287,8 +291,10 @@ onPart p d k b s quoted dollared otherC = odd p
 abbrev pub onBase : ℕ → ℕ → List Frame → ℕ → Base → Conf
 onBase p d k b want = onWant p d k b (classOf b)
 onBase p d k b wantKey = onKey p d k b (classOf b)
-onBase p d k b (wantString z u) = onPart p d k b (wantString z u) (start p d k b (string-part z u Strings.begin)) (odd p) (classOf b)
-onBase p d k b (wantBinary u) = onPart p d k b (wantBinary u) (odd p) (start p d k b (binary-part u Binaries.begin)) (classOf b)
+onBase p d k b (wantString z u) = onPart p d k b (wantString z u) (start p d k b (string-part z u Strings.begin))
+    (odd p) (classOf b)
+onBase p d k b (wantBinary u) = onPart p d k b (wantBinary u) (odd p) (start p d k b (binary-part u Binaries.begin))
+    (classOf b)
 onBase p d k b (got g) = onGot p d k g (classOf b)
 
 -- ---- a byte in layout

@@ -1,4 +1,4 @@
--- A key identifier, and a word, a byte at a time. Assumes nothing.
+-- A key identifier (docs/FORMAT.md, 7.2), and a word, a byte at a time. Assumes nothing.
 use Prim.Native.Nat.{ℕ, _-_}
 use mathlib.Core.Bool.{cond}
 use mathlib.Core.List.{List, [], _∷_, _++_}

@@ -1,5 +1,6 @@
 -- The scanner of a number or a time value (docs/FORMAT.md, 5 and 6). Digits with no sign stay open as number and as
--- time while both are possible; a date goes on with a time after T, or after one space followed by a digit. Assumes nothing.
+-- time while both are possible; a date goes on with a time after T, or after one space followed by a digit. Assumes
+-- nothing.
 use Prim.Native.Nat.{ℕ, zero, suc, _+_, _*_, _-_, _/_, _%_, _^_}
 use mathlib.Core.Bool.{Bool, true, false, cond, _&&_}
 use mathlib.Core.List.{List, [], _∷_}
@@ -21,8 +22,9 @@ use Rattle.grammar.specs.Times.{signed}
 use Rattle.machine.specs.Scan.{Out, takes, stops, breaks}
 
 -- ---- states
--- q: the item's first place; g: minus; m: the value so far; f: how many fraction digits it has; s: the exponent's minus; e: the
--- exponent. d: a date; w: what stands before a time of day; h, m, s, n: hour, minute, second, nanoseconds.
+-- q: the item's first place; g: minus; m: the value so far; f: how many fraction digits it has; s: the exponent's
+-- minus; e: the exponent. d: a date; w: what stands before a time of day; h, m, s, n: hour, minute, second,
+-- nanoseconds.
 
 -- what stands before a time of day
 pub data When : Type 0 where
@@ -111,7 +113,8 @@ pub data Fst : Type 0 where
   noughtF digitF plusF minusF pointF nF iF otherF : Fst
 
 abbrev pub fstTable : List (Row Fst)
-fstTable = row (ch "1") (ch "9") digitF ∷ one (ch "0") noughtF ∷ one (ch "+") plusF ∷ one (ch "-") minusF ∷ one (ch ".") pointF ∷ one (ch "N") nF ∷ one (ch "I") iF ∷ []
+fstTable = row (ch "1") (ch "9") digitF ∷ one (ch "0") noughtF ∷ one (ch "+") plusF ∷ one (ch "-") minusF ∷
+    one (ch ".") pointF ∷ one (ch "N") nF ∷ one (ch "I") iF ∷ []
 
 abbrev pub fstOf : ℕ → Fst
 fstOf = pick fstTable otherF
@@ -121,7 +124,8 @@ pub data Num : Type 0 where
   digitN pointN eN xN colonN minusN otherN : Num
 
 abbrev pub numTable : List (Row Num)
-numTable = row (ch "0") (ch "9") digitN ∷ one (ch ".") pointN ∷ one (ch "e") eN ∷ one (ch "E") eN ∷ one (ch "x") xN ∷ one (ch "X") xN ∷ one (ch ":") colonN ∷ one (ch "-") minusN ∷ []
+numTable = row (ch "0") (ch "9") digitN ∷ one (ch ".") pointN ∷ one (ch "e") eN ∷ one (ch "E") eN ∷ one (ch "x") xN ∷
+    one (ch "X") xN ∷ one (ch ":") colonN ∷ one (ch "-") minusN ∷ []
 
 abbrev pub numOf : ℕ → Num
 numOf = pick numTable otherN
@@ -142,7 +146,8 @@ pub data HexB : Type 0 where
   noHex : HexB
 
 abbrev pub hexTable : ℕ → List (Row HexB)
-hexTable b = row (ch "0") (ch "9") (value (b - ch "0")) ∷ row (ch "A") (ch "F") (value (b - ch "A" + 10)) ∷ row (ch "a") (ch "f") (value (b - ch "a" + 10)) ∷ []
+hexTable b = row (ch "0") (ch "9") (value (b - ch "0")) ∷ row (ch "A") (ch "F") (value (b - ch "A" + 10)) ∷
+    row (ch "a") (ch "f") (value (b - ch "a" + 10)) ∷ []
 
 abbrev pub hexOf : ℕ → HexB
 hexOf b = pick (hexTable b) noHex b
@@ -162,7 +167,8 @@ pub data Sec : Type 0 where
   digitS pointS zuluS plusS minusS otherS : Sec
 
 abbrev pub secTable : List (Row Sec)
-secTable = row (ch "0") (ch "9") digitS ∷ one (ch ".") pointS ∷ one (ch "Z") zuluS ∷ one (ch "+") plusS ∷ one (ch "-") minusS ∷ []
+secTable = row (ch "0") (ch "9") digitS ∷ one (ch ".") pointS ∷ one (ch "Z") zuluS ∷ one (ch "+") plusS ∷
+    one (ch "-") minusS ∷ []
 
 abbrev pub secOf : ℕ → Sec
 secOf = pick secTable otherS
@@ -179,7 +185,8 @@ finite g c n = stops (Meaning.number (Finite g c n))
 
 -- c × 10 ^ u / 10 ^ d
 abbrev pub ranged : ℕ → Bool → ℕ → ℕ → ℕ → Res
-ranged q g c u d = cond (leb d u) (cond (leb (u - d) powerLimit) (finite g c (pos (u - d))) (breaks (BadNumber q))) (cond (leb (d - u) powerLimit) (finite g c (negsuc (d - u - 1))) (breaks (BadNumber q)))
+ranged q g c u d = cond (leb d u) (cond (leb (u - d) powerLimit) (finite g c (pos (u - d))) (breaks (BadNumber q)))
+    (cond (leb (d - u) powerLimit) (finite g c (negsuc (d - u - 1))) (breaks (BadNumber q)))
 
 abbrev pub checked : ℕ → Bool → ℕ → ℕ → ℕ → Res
 checked q g c u d = cond (ltb c coefficientLimit) (ranged q g c u d) (breaks (BadNumber q))
@@ -342,7 +349,8 @@ onFull p q (hour d) v b = only p (ch ":") (field q (minute (on d) v) 2 0) b
 onFull p q (minute w h) v b = only p (ch ":") (field q (second w h v) 2 0) b
 onFull p q (second w h m) v b = onSec q w h m v (secOf b)
 onFull p q (offsetHour d h m s n g) v b = only p (ch ":") (field q (offsetMinute d h m s n g v) 2 0) b
-onFull p q (offsetMinute d h m s n g i) v b = tested q ((okDate d && okClock h m s) && (leb i 23 && leb v 59)) (OffsetDateTime d (timeOfDay h m s n) (signed g (i * 60 + v)))
+onFull p q (offsetMinute d h m s n g i) v b = tested q ((okDate d && okClock h m s) && (leb i 23 && leb v 59))
+    (OffsetDateTime d (timeOfDay h m s n) (signed g (i * 60 + v)))
 
 abbrev pub onField : ℕ → ℕ → Slot → ℕ → ℕ → ℕ → Dg → Res
 onField p q l n v b digit = takes (field q l n (dig v b))

@@ -1,6 +1,7 @@
--- What a byte does to an item, at its place: it is taken, the item stops before it with its value, or the item breaks with a
--- refusal. An item takes each next byte that some rule lets it take; its grammar comes before its checks, and its checks before the
--- byte after it: a check breaks only where the item would stop. The text's end is one more byte, 256. Assumes nothing.
+-- What a byte does to an item (docs/FORMAT.md, 1.3), at its place: it is taken, the item stops before it with its
+-- value, or the item breaks with a refusal. An item takes each next byte that some rule lets it take; its grammar comes
+-- before its checks, and its checks before the byte after it: a check breaks only where the item would stop. The text's
+-- end is one more byte, 256. Assumes nothing.
 use Prim.Native.Nat.{ℕ, suc}
 use mathlib.Core.List.{List, [], _∷_}
 use Rattle.meaning.specs.declared.Refusal.{Refusal}
@@ -14,7 +15,8 @@ pub data Out (S M : Type 0) : Type 0 where
 abbrev pub over : ℕ
 over = 256
 
--- The run of an item over the rest of a text: its value and the place that stops it, or its refusal. No item takes the text's end.
+-- The run of an item over the rest of a text: its value and the place that stops it, or its refusal. No item takes the
+-- text's end.
 pub data Ran (M : Type 0) : Type 0 where
   ended : M → ℕ → Ran M
   broke : Refusal → Ran M

@@ -1,6 +1,7 @@
--- A string part, a byte at a time, from its opening quote to its closing one. Its value is the bytes meant. A byte that no rule allows is
--- NotGrammar at its place; a part that has closed with a bad escape in it is BadEscape at the backslash of its first. The bytes of a
--- character above U+007F are taken one by one: the text has been found to be UTF-8 before. Assumes nothing.
+-- A string part (docs/FORMAT.md, 3), a byte at a time, from its opening quote to its closing one. Its value is the
+-- bytes meant. A byte that no rule allows is NotGrammar at its place; a part that has closed with a bad escape in it is
+-- BadEscape at the backslash of its first. The bytes of a character above U+007F are taken one by one: the text has
+-- been found to be UTF-8 before. Assumes nothing.
 use Prim.Native.Nat.{ℕ, zero, suc, _+_, _*_, _-_}
 use mathlib.Core.Bool.{Bool, true, false, cond}
 use mathlib.Core.List.{List, [], _∷_, _++_}
@@ -89,9 +90,10 @@ blame k at = mk (k .quote) (first (badNow k) at) whole (k .acc)
 abbrev pub wait : Ctx → ℕ → ℕ → Ctx
 wait k at h = mk (k .quote) (badNow k) (half at h) (k .acc)
 
--- one, two: after so many quotes. lines0, linesCR: after three, and after a CR behind them. lines q n acc: in a multiline part, after n
--- quotes more. body: between two characters. esc, uni: after a backslash at that place, and its `u`. hex k at n v: n more digits after the next
--- one, v so far. brace0, brace: in braces, before the first digit and after one. done: after the closing quote.
+-- one, two: after so many quotes. lines0, linesCR: after three, and after a CR behind them. lines q n acc: in a
+-- multiline part, after n quotes more. body: between two characters. esc, uni: after a backslash at that place, and its
+-- `u`. hex k at n v: n more digits after the next one, v so far. brace0, brace: in braces, before the first digit and
+-- after one. done: after the closing quote.
 pub data St : Type 0 where
   start : St
   one : ℕ → St
@@ -157,7 +159,8 @@ onBody p k b =
 
 -- tab, LF, CR, and all from U+0020 up
 unfoldable pub lineByte : ℕ → Bool
-lineByte b = cond (ltb b 0x20) (cond (eqb b (ch "\t")) true (cond (eqb b (ch "\n")) true (eqb b (ch "\r")))) (ltb b over)
+lineByte b = cond (ltb b 0x20) (cond (eqb b (ch "\t")) true (cond (eqb b (ch "\n")) true (eqb b (ch "\r"))))
+    (ltb b over)
 
 -- the quotes before a byte that is none are the part's own
 unfoldable pub onLines : ℕ → ℕ → ℕ → List ℕ → ℕ → Out St (List ℕ)
@@ -174,7 +177,8 @@ unfoldable pub scan : ℕ → St → ℕ → Out St (List ℕ)
 scan p start b = cond (eqb b (ch "\"")) (takes (one b)) (cond (eqb b (ch "'")) (takes (one b)) (breaks (NotGrammar p)))
 scan p (one q) b = cond (eqb b q) (takes (two q)) (onBody p (mk q fine whole []) b)
 scan p (two q) b = cond (eqb b q) (takes (lines0 q)) (stops [])
-scan p (lines0 q) b = cond (eqb b (ch "\n")) (takes (lines q 0 [])) (cond (eqb b (ch "\r")) (takes (linesCR q)) (onLines p q 0 [] b))
+scan p (lines0 q) b = cond (eqb b (ch "\n")) (takes (lines q 0 []))
+    (cond (eqb b (ch "\r")) (takes (linesCR q)) (onLines p q 0 [] b))
 scan p (linesCR q) b = cond (eqb b (ch "\n")) (takes (lines q 0 [])) (onLines p q 0 (letters "\r") b)
 scan p (lines q n acc) b = onLines p q n acc b
 scan p (body k) b = onBody p k b

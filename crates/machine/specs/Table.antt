@@ -1,4 +1,5 @@
--- A byte's class by thresholds: the first row whose bound the byte does not pass decides. Assumes nothing.
+-- A byte's class by thresholds, for the scanners of docs/FORMAT.md, 2 to 7: the first row whose bound the byte does not
+-- pass decides. Assumes nothing.
 use mathlib.Core.Bool.{cond}
 use mathlib.Core.List.{List, [], _∷_}
 use Prim.Native.Nat.{ℕ}

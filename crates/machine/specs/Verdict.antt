@@ -1,4 +1,5 @@
--- What a text comes to: 1, then 2 over the whole text, then 3 to 7 from left to right; otherwise its meaning. Assumes nothing.
+-- What a text comes to (docs/FORMAT.md, 10.2): 1, then 2 over the whole text, then 3 to 7 from left to right; otherwise
+-- its meaning. Assumes nothing.
 use mathlib.Core.Bool.{cond}
 use mathlib.Core.List.{List}
 use Prim.Native.Nat.{ℕ}

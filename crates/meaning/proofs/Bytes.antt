@@ -9,7 +9,8 @@ use lib.Arith.{digits-lt}
 use lib.ListN.{length, getD, take, drop}
 use lib.Seq.{getD-append-add, drop-cons, take-at, drop-at}
 use Rattle.meaning.specs.Good.{Bytes}
-use Rattle.meaning.specs.Bytes.{le, get}
+use Rattle.meaning.specs.Bytes.{le}
+use Rattle.meaning.specs.Between.Words.{get}
 
 -- ---- lists of bytes
 

@@ -103,7 +103,8 @@ mutual
   records-fit (array ms) i at p h g = (omega arith, elements-fit ms (i + 1) at p (omega arith) g)
   records-fit (object ms) i at p h g = (omega arith, members-fit ms (i + 1) at p (omega arith) g)
 
-  pub elements-fit : (ms : Meanings) (i at : ℕ) → GoodElements ms → i + elementsRecords ms ≤ recordLimit → at + length (elementsStore ms) ≤ storeLimit → Fits (elementsOf ms i at)
+  pub elements-fit : (ms : Meanings) (i at : ℕ) → GoodElements ms → i + elementsRecords ms ≤ recordLimit → at + length (elementsStore ms) ≤ storeLimit
+      → Fits (elementsOf ms i at)
   elements-fit none i at p h g = tt
   elements-fit (more ms m) i at p h g =
       let l = length-append (elementsStore ms) (storeOf m) in
@@ -111,13 +112,16 @@ mutual
       (elements-fit ms i at (p .0) (omega arith) (omega arith))
       (records-fit m (i + elementsRecords ms) (at + length (elementsStore ms)) (p .1) (omega arith) (omega arith))
 
-  pub members-fit : (ms : Members) (i at : ℕ) → GoodMembers ms → i + membersRecords ms ≤ recordLimit → at + length (membersStore ms) ≤ storeLimit → Fits (membersOf ms i at)
+  pub members-fit : (ms : Members) (i at : ℕ) → GoodMembers ms → i + membersRecords ms ≤ recordLimit → at + length (membersStore ms) ≤ storeLimit
+      → Fits (membersOf ms i at)
   members-fit bare i at p h g = tt
   members-fit (member ms k m) i at p h g =
       let l = length-append (membersStore ms ++ k) (storeOf m) in
       let l′ = length-append (membersStore ms) k in
-      fits-append (membersOf ms i at ++ (Record.Key (length k) (at + length (membersStore ms)) ∷ [])) (recordsOf m (i + membersRecords ms + 1) (at + length (membersStore ms) + length k))
-      (fits-append (membersOf ms i at) (Record.Key (length k) (at + length (membersStore ms)) ∷ []) (members-fit ms i at (p .0) (omega arith) (omega arith)) ((omega arith, omega arith), tt))
+      fits-append (membersOf ms i at ++ (Record.Key (length k) (at + length (membersStore ms)) ∷ []))
+          (recordsOf m (i + membersRecords ms + 1) (at + length (membersStore ms) + length k))
+      (fits-append (membersOf ms i at) (Record.Key (length k) (at + length (membersStore ms)) ∷ []) (members-fit ms i at (p .0) (omega arith) (omega arith))
+          ((omega arith, omega arith), tt))
       (records-fit m (i + membersRecords ms + 1) (at + length (membersStore ms) + length k) (p .2) (omega arith) (omega arith))
 
 mutual

@@ -9,7 +9,8 @@ use Rattle.rules.specs.Rfc3629.{Octets}
 use Rattle.meaning.specs.declared.Record.{Record}
 use Rattle.meaning.specs.Meaning.{Meaning, Meanings, Members, null, bool, number, string, binary, time, array, object, none, more, bare, member}
 use Rattle.meaning.specs.Good.{GoodParts, GoodElements, GoodMembers}
-use Rattle.meaning.specs.Tape.{records, elementsRecords, membersRecords, storeOf, elementsStore, membersStore, recordsOf, elementsOf, membersOf, recordBytes, WellFormed}
+use Rattle.meaning.specs.Tape.{records, elementsRecords, membersRecords, storeOf, elementsStore, membersStore, recordsOf, elementsOf, membersOf,
+    recordBytes, WellFormed}
 use Rattle.meaning.specs.Look.{Inside, Utf8Inside, OwnFields, wholeRecords, RecordAt}
 use Rattle.meaning.proofs.Bytes.{part-is}
 use Rattle.meaning.proofs.Sizes.{records-length, elements-length, members-length}
@@ -24,7 +25,8 @@ abbrev AllOwn : List Record → ℕ → ℕ → List ℕ → Type 0
 AllOwn [] i whole store = Unit {0}
 AllOwn (r ∷ rs) i whole store = OwnFields r i whole store × AllOwn rs (i + 1) whole store
 
-own-append : (a b : List Record) (i j whole : ℕ) (store : List ℕ) → i + length a ≡ j → AllOwn a i whole store → AllOwn b j whole store → AllOwn (a ++ b) i whole store
+own-append : (a b : List Record) (i j whole : ℕ) (store : List ℕ) → i + length a ≡ j → AllOwn a i whole store → AllOwn b j whole store
+    → AllOwn (a ++ b) i whole store
 own-append [] b i j whole store e f g = let z : j ≡ i = omega arith in rw z at g
 own-append (r ∷ a) b i j whole store e f g = (f .0, own-append a b (i + 1) j whole store (omega arith) (f .1) g)
 
@@ -54,7 +56,8 @@ module _ (store : List ℕ) (whole : ℕ) where
     value (array ms) i at pre post p h e a = ((omega arith, omega arith), values ms (i + 1) at pre post p (omega arith) e a)
     value (object ms) i at pre post p h e a = ((omega arith, omega arith), pairs ms (i + 1) at pre post p (omega arith) e a)
 
-    values : (ms : Meanings) (i at : ℕ) (pre post : List ℕ) → GoodElements ms → i + elementsRecords ms ≤ whole → store ≡ pre ++ (elementsStore ms ++ post) → at ≡ length pre
+    values : (ms : Meanings) (i at : ℕ) (pre post : List ℕ) → GoodElements ms → i + elementsRecords ms ≤ whole → store ≡ pre ++ (elementsStore ms ++ post) → at
+        ≡ length pre
         → AllOwn (elementsOf ms i at) i whole store
     values none i at pre post p h e a = tt
     values (more ms m) i at pre post p h e a =
@@ -64,7 +67,8 @@ module _ (store : List ℕ) (whole : ℕ) where
         (values ms i at pre (storeOf m ++ post) (p .0) (omega arith) (e ∙ simp append-assoc) a)
         (value m i′ at′ (pre ++ elementsStore ms) post (p .1) (omega arith) (e ∙ simp append-assoc) (simp length-append (omega arith)))
 
-    pairs : (ms : Members) (i at : ℕ) (pre post : List ℕ) → GoodMembers ms → i + membersRecords ms ≤ whole → store ≡ pre ++ (membersStore ms ++ post) → at ≡ length pre
+    pairs : (ms : Members) (i at : ℕ) (pre post : List ℕ) → GoodMembers ms → i + membersRecords ms ≤ whole → store ≡ pre ++ (membersStore ms ++ post) → at
+        ≡ length pre
         → AllOwn (membersOf ms i at) i whole store
     pairs bare i at pre post p h e a = tt
     pairs (member ms k m) i at pre post p h e a =

@@ -166,7 +166,8 @@ escapes-octets (one-char {c = c} {t = t} h o) = rw (escapes-append c t) (octets-
 pub quoted-octets : {s : List ℕ} → Octets s → Octets (quoted s)
 unfolding quoted
 quoted-octets {s} o =
-    octets-append (letters "\"") (octets-append (escapes s) (ascii-octets (letters "\"") (omega arith)) (escapes-octets o)) (ascii-octets (letters "\"") (omega arith))
+    octets-append (letters "\"") (octets-append (escapes s) (ascii-octets (letters "\"") (omega arith)) (escapes-octets o))
+        (ascii-octets (letters "\"") (omega arith))
 
 -- ---- binary
 

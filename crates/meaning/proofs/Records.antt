@@ -17,9 +17,9 @@ use Rattle.meaning.specs.declared.Time.the-variants.{LocalDate, LocalTim
 use Rattle.meaning.specs.declared.Record.{Record}
 use Rattle.meaning.specs.Letters.{letters}
 use Rattle.meaning.specs.Good.{Bytes}
-use Rattle.meaning.specs.Bytes.{le, get, flag}
+use Rattle.meaning.specs.Bytes.{le, flag}
 use Rattle.meaning.specs.Tape.{recordBytes, recordsBytes}
-use Rattle.meaning.specs.Between.Words.{mark, markOf, lowOf, monthDay, midOf, highOf, fourWords, FitDate, Fit}
+use Rattle.meaning.specs.Between.Words.{get, mark, markOf, lowOf, monthDay, midOf, highOf, fourWords, FitDate, Fit}
 use Rattle.meaning.proofs.Bytes.{bytes-append, le-length, le-join, get-le, get-at, le-drop}
 
 -- ---- sixteen bytes
@@ -260,7 +260,8 @@ records-are-bytes (r ∷ rs) = bytes-append (recordBytes r) (recordsBytes rs) (r
 pub records-append : (a b : List Record) → recordsBytes (a ++ b) ≡ recordsBytes a ++ recordsBytes b
 unfolding recordsBytes
 records-append [] b = refl
-records-append (r ∷ rs) b = ap (λ (l : List ℕ). recordBytes r ++ l) (records-append rs b) ∙ sym (append-assoc (recordBytes r) (recordsBytes rs) (recordsBytes b))
+records-append (r ∷ rs) b = ap (λ (l : List ℕ). recordBytes r ++ l) (records-append rs b)
+    ∙ sym (append-assoc (recordBytes r) (recordsBytes rs) (recordsBytes b))
 
 pub records-injective : (rs ss : List Record) → Fits rs → Fits ss → recordsBytes rs ≡ recordsBytes ss → rs ≡ ss
 unfolding recordsBytes
@@ -272,8 +273,10 @@ records-injective (r ∷ rs) [] f g e =
 records-injective (r ∷ rs) (s ∷ ss) f g e =
     let h = record-length r in
     let k = record-length s in
-    let a : recordBytes r ≡ recordBytes s = sym (take-at (recordBytes r) (recordsBytes rs) 16 h) ∙ ap (take 16) e ∙ take-at (recordBytes s) (recordsBytes ss) 16 k in
-    let b : recordsBytes rs ≡ recordsBytes ss = sym (drop-at (recordBytes r) (recordsBytes rs) 16 h) ∙ ap (drop 16) e ∙ drop-at (recordBytes s) (recordsBytes ss) 16 k in
+    let a : recordBytes r ≡ recordBytes s = sym (take-at (recordBytes r) (recordsBytes rs) 16 h) ∙ ap (take 16) e
+        ∙ take-at (recordBytes s) (recordsBytes ss) 16 k in
+    let b : recordsBytes rs ≡ recordsBytes ss = sym (drop-at (recordBytes r) (recordsBytes rs) 16 h) ∙ ap (drop 16) e
+        ∙ drop-at (recordBytes s) (recordsBytes ss) 16 k in
     ap₂ (λ (x : Record) (y : List Record). x ∷ y) (record-injective r s (f .0) (g .0) a) (records-injective rs ss (f .1) (g .1) b)
 
 past : (r : Record) (l : List ℕ) (n i : ℕ) → 16 + n ≡ i → drop i (recordBytes r ++ l) ≡ drop n l

@@ -20,7 +20,8 @@ use Rattle.meaning.specs.Clock.{timeOfDay}
 use Rattle.meaning.specs.Meaning.{Meaning, null, bool, number, string, binary, time, array, object, none, more, bare, member}
 use Rattle.meaning.specs.Good.{GoodFinite, nonzero, GoodDate, most, depth, Good}
 use Rattle.meaning.specs.Tape.{records, storeOf, bytes, recordsOf, recordBytes}
-use Rattle.meaning.specs.Canonical.{decimalIn, decimal, fixed, trimmed, escaped, escapes, quoted, hexPairs, binaryText, powerText, numberText, dateText, fractionText, clockText, offsetText, timeText, canonical}
+use Rattle.meaning.specs.Canonical.{decimalIn, decimal, fixed, trimmed, escaped, escapes, quoted, hexPairs, binaryText, powerText, numberText, dateText,
+    fractionText, clockText, offsetText, timeText, canonical}
 use Rattle.meaning.specs.Json.{firstWithout, noJson}
 
 abbrev pub march : Date
@@ -77,7 +78,8 @@ meanings =
     ∷ shows (number (Finite true 12 (negsuc 9998))) 1 0 "" "-12e-9999" nowhere
     ∷ shows (number (Infinite false)) 1 0 "" "Infinity" (first 0)
     ∷ shows (number (Infinite true)) 1 0 "" "-Infinity" (first 0)
-    ∷ shows (string (letters "a\"\\\u{8}\u{c}\n\r\t\u{1}\u{1f}/\u{7f}")) 1 12 "a\"\\\u{8}\u{c}\n\r\t\u{1}\u{1f}/\u{7f}" "\"a\\\"\\\\\\b\\f\\n\\r\\t\\u0001\\u001f/\u{7f}\"" nowhere
+    ∷ shows (string (letters "a\"\\\u{8}\u{c}\n\r\t\u{1}\u{1f}/\u{7f}")) 1 12 "a\"\\\u{8}\u{c}\n\r\t\u{1}\u{1f}/\u{7f}"
+        "\"a\\\"\\\\\\b\\f\\n\\r\\t\\u0001\\u001f/\u{7f}\"" nowhere
     ∷ shows (binary (letters "\0\nÿ")) 1 3 "\0\nÿ" "$000aff" (first 0)
     ∷ shows (time (LocalDate march)) 1 0 "" "2021-03-04" (first 0)
     ∷ shows (time (LocalTime 86399999999999)) 1 0 "" "23:59:59.999999999" (first 0)
@@ -89,7 +91,8 @@ meanings =
     ∷ []
 
 pub meanings-hold : gots meanings ≡ wants meanings
-unfolding gots wants meanings shows records storeOf recordsOf decimalIn decimal fixed trimmed escaped escapes quoted hexPairs binaryText powerText numberText dateText fractionText clockText offsetText timeText canonical firstWithout noJson
+unfolding gots wants meanings shows records storeOf recordsOf decimalIn decimal fixed trimmed escaped escapes quoted hexPairs binaryText powerText numberText
+    dateText fractionText clockText offsetText timeText canonical firstWithout noJson
 meanings-hold = refl
 
 -- ---- records: the 16 bytes

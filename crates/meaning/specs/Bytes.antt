@@ -1,18 +1,14 @@
--- Numbers in bytes, the lowest first; bytes laid over others. Assumes nothing.
+-- Numbers in bytes, the lowest first, as the tape has them (docs/FORMAT.md, 11); bytes laid over others (13).
+-- Assumes nothing.
 use mathlib.Core.Bool.{Bool, true, false}
 use mathlib.Core.List.{List, [], _∷_, _++_}
-use Prim.Native.Nat.{ℕ, zero, suc, _+_, _*_, _/_, _%_}
-use lib.ListN.{length, getD, drop}
+use Prim.Native.Nat.{ℕ, zero, suc, _/_, _%_}
+use lib.ListN.{length, drop}
 
 -- v in w bytes, little-endian
 unfoldable pub le : ℕ → ℕ → List ℕ
 le zero v = []
 le (suc w) v = v % 256 ∷ le w (v / 256)
-
--- the number in the w bytes from place i
-unfoldable pub get : ℕ → List ℕ → ℕ → ℕ
-get zero s i = 0
-get (suc w) s i = get w s (i + 1) * 256 + getD s i 0
 
 -- w unnamed bytes are zero
 abbrev pub unnamed : ℕ → List ℕ

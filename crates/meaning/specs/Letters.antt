@@ -1,4 +1,4 @@
--- Bytes with their names: a text literal of ASCII characters is its bytes. Assumes nothing.
+-- Bytes with their names (docs/FORMAT.md, 1.1): a text literal of ASCII characters is its bytes. Assumes nothing.
 use mathlib.Core.List.{List, [], _∷_}
 use Prim.Native.Nat.{ℕ}
 use Prim.Native.String.{String, [] as []ₛ, _∷_ as _∷ₛ_}

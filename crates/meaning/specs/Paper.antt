@@ -8,51 +8,41 @@ use Rattle.meaning.specs.declared.Refusal.the-variants.{WrittenTooLong, 
 use Rattle.rules.specs.Paper.{Said, refused}
 use Rattle.meaning.specs.Limits.{textLimit}
 
+abbrev pub row : Refusal → ℕ × ℕ
+-- text over 16,777,216 bytes
+row TextTooLong = (1, textLimit)
+-- not UTF-8: first byte of the first ill-formed sequence
+row (NotUtf8 place) = (2, place)
+-- not the grammar: first byte no rule allows there, or the text's length
+row (NotGrammar place) = (3, place)
+-- lone surrogate, surrogate in `\u{}`, above 10FFFF: its backslash
+row (BadEscape place) = (4, place)
+-- time field outside its range or calendar: first byte of the time value
+row (BadTime place) = (5, place)
+-- number outside the range: its first byte, sign included
+row (BadNumber place) = (6, place)
+-- more than 64 arrays and objects open: the opening bracket
+row (TooDeep place) = (7, place)
+-- tape too short: tape bytes needed
+row (TapeTooShort needed) = (8, needed)
+-- store too short: store bytes needed
+row (StoreTooShort needed) = (9, needed)
+-- not a well-formed tape: 0; for look, the index
+row (NotWellFormed place) = (10, place)
+-- no JSON form: index of the first such record
+row (NoJsonForm index) = (11, index)
+-- output too short: bytes needed
+row (OutputTooShort needed) = (12, needed)
+-- written text over 16,777,216 bytes: length it would have
+row (WrittenTooLong size) = (13, size)
+-- index not below the number of whole records: the index
+row (NoSuchRecord index) = (14, index)
+
 abbrev pub numberOf : Refusal → ℕ
-numberOf TextTooLong = 1
-numberOf (NotUtf8 place) = 2
-numberOf (NotGrammar place) = 3
-numberOf (BadEscape place) = 4
-numberOf (BadTime place) = 5
-numberOf (BadNumber place) = 6
-numberOf (TooDeep place) = 7
-numberOf (TapeTooShort needed) = 8
-numberOf (StoreTooShort needed) = 9
-numberOf (NotWellFormed place) = 10
-numberOf (NoJsonForm index) = 11
-numberOf (OutputTooShort needed) = 12
-numberOf (WrittenTooLong size) = 13
-numberOf (NoSuchRecord index) = 14
+numberOf why = row why .0
 
 abbrev pub placeOf : Refusal → ℕ
--- 16777216
-placeOf TextTooLong = textLimit
--- first byte of the first ill-formed sequence
-placeOf (NotUtf8 place) = place
--- first byte no rule allows there, or the text's length
-placeOf (NotGrammar place) = place
--- its backslash
-placeOf (BadEscape place) = place
--- first byte of the time value
-placeOf (BadTime place) = place
--- its first byte, sign included
-placeOf (BadNumber place) = place
--- the opening bracket
-placeOf (TooDeep place) = place
--- tape bytes needed
-placeOf (TapeTooShort needed) = needed
--- store bytes needed
-placeOf (StoreTooShort needed) = needed
--- 0; for look, the index
-placeOf (NotWellFormed place) = place
--- index of the first such record
-placeOf (NoJsonForm index) = index
--- bytes needed
-placeOf (OutputTooShort needed) = needed
--- length it would have
-placeOf (WrittenTooLong size) = size
--- the index
-placeOf (NoSuchRecord index) = index
+placeOf why = row why .1
 
 -- a refusal, in the table's terms
 abbrev pub refusalSaid : {X : Type 0} → Refusal → Said X

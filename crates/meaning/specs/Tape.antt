@@ -12,7 +12,8 @@ use Rattle.meaning.specs.declared.Time.the-variants.{LocalDate, LocalTim
 use Rattle.meaning.specs.declared.Record.{Record}
 use Rattle.meaning.specs.Letters.{letters}
 use Rattle.meaning.specs.Limits.{recordLimit, storeLimit}
-use Rattle.meaning.specs.Meaning.{Meaning, Meanings, Members, null, bool, number, string, binary, time, array, object, none, more, bare, member}
+use Rattle.meaning.specs.Meaning.{Meaning, Meanings, Members, null, bool, number, string, binary, time, array,
+    object, none, more, bare, member}
 use Rattle.meaning.specs.Good.{Good}
 use Rattle.meaning.specs.Bytes.{le, unnamed, flag}
 
@@ -99,7 +100,8 @@ dateFields d = le 2 (d .year) ++ le 1 (d .month) ++ le 1 (d .day)
 abbrev pub containerFields : ℕ → List ℕ
 containerFields end = unnamed 6 ++ le 8 end
 
--- One record: a two-byte mark before its fields; numbers little-endian, signed ones two's complement; unnamed bytes zero.
+-- One record: a two-byte mark before its fields; numbers little-endian, signed ones two's complement; unnamed bytes
+-- zero.
 unfoldable pub recordBytes : Record → List ℕ
 -- null
 recordBytes Record.Null = letters "nu" ++ unnamed 14
@@ -133,8 +135,8 @@ recordsBytes (r ∷ rs) = recordBytes r ++ recordsBytes rs
 unfoldable pub tapeOf : Meaning → List ℕ
 tapeOf m = recordsBytes (recordsOf m 0 0)
 
--- A tape and store are well formed when they are those of one meaning within the limits, with at most 16,777,216 records
--- and at most 16,777,216 store bytes.
+-- A tape and store are well formed when they are those of one meaning within the limits, with at most 16,777,216
+-- records and at most 16,777,216 store bytes.
 pub record WellFormed (tape store : List ℕ) : Type 0 where
   pub meaning : Meaning
   pub good : Good meaning

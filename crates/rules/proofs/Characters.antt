@@ -95,9 +95,11 @@ long (utf8-3a y z) h = all-more (exactly 0xE0 (omega arith) (omega arith)) (all-
 long (utf8-3b x y z) h = all-more (high x (omega arith) (omega arith)) (all-more (tail-high y) (all-more (tail-high z) all-none))
 long (utf8-3c y z) h = all-more (exactly 0xED (omega arith) (omega arith)) (all-more (high y (omega arith) (omega arith)) (all-more (tail-high z) all-none))
 long (utf8-3d x y z) h = all-more (high x (omega arith) (omega arith)) (all-more (tail-high y) (all-more (tail-high z) all-none))
-long (utf8-4a y z w) h = all-more (exactly 0xF0 (omega arith) (omega arith)) (all-more (high y (omega arith) (omega arith)) (all-more (tail-high z) (all-more (tail-high w) all-none)))
+long (utf8-4a y z w) h = all-more (exactly 0xF0 (omega arith) (omega arith)) (all-more (high y (omega arith) (omega arith))
+    (all-more (tail-high z) (all-more (tail-high w) all-none)))
 long (utf8-4b x y z w) h = all-more (high x (omega arith) (omega arith)) (all-more (tail-high y) (all-more (tail-high z) (all-more (tail-high w) all-none)))
-long (utf8-4c y z w) h = all-more (exactly 0xF4 (omega arith) (omega arith)) (all-more (high y (omega arith) (omega arith)) (all-more (tail-high z) (all-more (tail-high w) all-none)))
+long (utf8-4c y z w) h = all-more (exactly 0xF4 (omega arith) (omega arith)) (all-more (high y (omega arith) (omega arith))
+    (all-more (tail-high z) (all-more (tail-high w) all-none)))
 
 -- a character of one byte is that ASCII byte
 pub record Short (c : List ℕ) : Type 0 where

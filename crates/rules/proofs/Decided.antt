@@ -135,7 +135,8 @@ unfolding faultFrom
 fault-is zero s i p h = all-passed s i p (omega arith)
 fault-is (suc f) s i p h = go (fault-is f s (i + lengthAt s i)) (leb (length s) i) refl (eqb (lengthAt s i) 0) refl
   where
-    go : (Passed s (i + lengthAt s i) → length s ≤ i + lengthAt s i + f → Judged s (faultFrom f s (i + lengthAt s i))) → (x : Bool) → leb (length s) i ≡ x → (y : Bool) → eqb (lengthAt s i) 0 ≡ y → Judged s (cond x Done (cond y (IllFormed i) (faultFrom f s (i + lengthAt s i))))
+    go : (Passed s (i + lengthAt s i) → length s ≤ i + lengthAt s i + f → Judged s (faultFrom f s (i + lengthAt s i))) → (x : Bool) → leb (length s) i ≡ x
+        → (y : Bool) → eqb (lengthAt s i) 0 ≡ y → Judged s (cond x Done (cond y (IllFormed i) (faultFrom f s (i + lengthAt s i))))
     go k true e y g = all-passed s i p (leb-true _ _ e)
     go k false e true g = fault-at s i _ p (leb-false _ _ e) (length-is s i (leb-false _ _ e)) (eqb-true _ _ g)
     go k false e false g =

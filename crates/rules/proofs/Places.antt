@@ -201,7 +201,8 @@ module _ (s : List ℕ) (i : ℕ) where
 
   take-4 : i + 4 ≤ length s → take 4 (drop i s) ≡ getD s i 0 ∷ getD s (i + 1) 0 ∷ getD s (i + 2) 0 ∷ getD s (i + 3) 0 ∷ []
   take-4 h =
-      rw (add-one i, add-two i, add-three i, drop-cons s i 0 (omega arith), drop-cons s (suc i) 0 (omega arith), drop-cons s (suc (suc i)) 0 (omega arith), drop-cons s (suc (suc (suc i))) 0 (omega arith))
+      rw (add-one i, add-two i, add-three i, drop-cons s i 0 (omega arith), drop-cons s (suc i) 0 (omega arith), drop-cons s (suc (suc i)) 0 (omega arith),
+          drop-cons s (suc (suc (suc i))) 0 (omega arith))
 
   -- the bounds give the rule
   pub ascii-char : i < length s → getD s i 0 < 0x80 → CharAt s i 1
@@ -214,7 +215,8 @@ module _ (s : List ℕ) (i : ℕ) where
       char {n = 2} (omega arith) (w .fits) (rw (take-2 (w .fits)) (utf8-2 {a = getD s i 0} {b = getD s (i + 1) 0} (omega arith) (omega arith)))
 
   pub back3 : Wide s i 3 → CharAt s i 3
-  back3 w = char {n = 3} (omega arith) (w .fits) (rw (take-3 (w .fits)) (go (getD s i 0) (getD s (i + 1) 0) (getD s (i + 2) 0) refl refl refl (ℕ-discrete (getD s i 0) 0xE0) (ℕ-discrete (getD s i 0) 0xED) (decLt (getD s i 0) 0xED)))
+  back3 w = char {n = 3} (omega arith) (w .fits) (rw (take-3 (w .fits)) (go (getD s i 0) (getD s (i + 1) 0) (getD s (i + 2) 0) refl refl refl
+      (ℕ-discrete (getD s i 0) 0xE0) (ℕ-discrete (getD s i 0) 0xED) (decLt (getD s i 0) 0xED)))
     where
       u : 224 ≤ getD s i 0
       u = up⁻ step3 (getD s i 0) (omega arith) (omega arith)
@@ -225,7 +227,8 @@ module _ (s : List ℕ) (i : ℕ) where
       t : (0x80 ≤ getD s (i + 2) 0) × (getD s (i + 2) 0 ≤ 0xBF)
       t = w .third (omega arith)
 
-      go : (a b c : ℕ) → getD s i 0 ≡ a → getD s (i + 1) 0 ≡ b → getD s (i + 2) 0 ≡ c → Dec (getD s i 0 ≡ 0xE0) → Dec (getD s i 0 ≡ 0xED) → Dec (getD s i 0 < 0xED) → Char (a ∷ b ∷ c ∷ [])
+      go : (a b c : ℕ) → getD s i 0 ≡ a → getD s (i + 1) 0 ≡ b → getD s (i + 2) 0 ≡ c → Dec (getD s i 0 ≡ 0xE0) → Dec (getD s i 0 ≡ 0xED)
+          → Dec (getD s i 0 < 0xED) → Char (a ∷ b ∷ c ∷ [])
       go a b c ea eb ec (yes e) q r =
           let l : lowOf (getD s i 0) ≡ 0xA0 = ap lowOf e ∙ low-e0 in
           let g = high-else (getD s i 0) (λ x. omega arith) (λ x. omega arith) in
@@ -242,7 +245,8 @@ module _ (s : List ℕ) (i : ℕ) where
           utf8-3d {a = a} {b = b} {c = c} (omega (arith, u, v, t)) (omega (arith, u, v, t)) (omega (arith, u, v, t))
 
   pub back4 : Wide s i 4 → CharAt s i 4
-  back4 w = char {n = 4} (omega arith) (w .fits) (rw (take-4 (w .fits)) (go (getD s i 0) (getD s (i + 1) 0) (getD s (i + 2) 0) (getD s (i + 3) 0) refl refl refl refl (ℕ-discrete (getD s i 0) 0xF0) (ℕ-discrete (getD s i 0) 0xF4)))
+  back4 w = char {n = 4} (omega arith) (w .fits) (rw (take-4 (w .fits)) (go (getD s i 0) (getD s (i + 1) 0) (getD s (i + 2) 0) (getD s (i + 3) 0) refl refl refl
+      refl (ℕ-discrete (getD s i 0) 0xF0) (ℕ-discrete (getD s i 0) 0xF4)))
     where
       u : 240 ≤ getD s i 0
       u = up⁻ step4 (getD s i 0) (omega arith) (omega arith)
@@ -253,7 +257,8 @@ module _ (s : List ℕ) (i : ℕ) where
       f : (0x80 ≤ getD s (i + 3) 0) × (getD s (i + 3) 0 ≤ 0xBF)
       f = w .fourth (omega arith)
 
-      go : (a b c d : ℕ) → getD s i 0 ≡ a → getD s (i + 1) 0 ≡ b → getD s (i + 2) 0 ≡ c → getD s (i + 3) 0 ≡ d → Dec (getD s i 0 ≡ 0xF0) → Dec (getD s i 0 ≡ 0xF4) → Char (a ∷ b ∷ c ∷ d ∷ [])
+      go : (a b c d : ℕ) → getD s i 0 ≡ a → getD s (i + 1) 0 ≡ b → getD s (i + 2) 0 ≡ c → getD s (i + 3) 0 ≡ d → Dec (getD s i 0 ≡ 0xF0)
+          → Dec (getD s i 0 ≡ 0xF4) → Char (a ∷ b ∷ c ∷ d ∷ [])
       go a b c d ea eb ec ed (yes e) q =
           let l : lowOf (getD s i 0) ≡ 0x90 = ap lowOf e ∙ low-f0 in
           let g = high-else (getD s i 0) (λ x. omega arith) (λ x. omega arith) in

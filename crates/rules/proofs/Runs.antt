@@ -59,7 +59,8 @@ ascii-block s at r h m b =
 -- ---- from runs and characters to UTF-8
 
 -- UTF-8 up to a place, and n bytes of ASCII from there
-octets-bytes : (s : List ℕ) (n from : ℕ) → Octets (take from s) → ((k : ℕ) → from ≤ k → k < from + n → getD s k 0 < 0x80) → from + n ≤ length s → Octets (take (from + n) s)
+octets-bytes : (s : List ℕ) (n from : ℕ) → Octets (take from s) → ((k : ℕ) → from ≤ k → k < from + n → getD s k 0 < 0x80) → from + n ≤ length s
+    → Octets (take (from + n) s)
 octets-bytes s zero from o each h = let e : from + 0 ≡ from = omega arith in rw e o
 octets-bytes s (suc n) from o each h =
     let e : from + suc n ≡ suc from + n = omega arith in

@@ -1,4 +1,5 @@
--- Each answer in the terms of docs/FORMAT.md, 10.1: done with what it hands over, or a refusal's number and place. Assumes nothing.
+-- Each answer in the terms of docs/FORMAT.md, 10.1: done with what it hands over, or a refusal's number and place.
+-- Assumes nothing.
 use Prim.Native.Nat.{ℕ}
 use Rattle.rules.specs.declared.Utf8Answer
 use Rattle.rules.specs.declared.DateAnswer

@@ -1,5 +1,5 @@
--- The calendar as RFC 3339 has it: appendix C's leap years and section 5.7's days of a month, row for row.
--- Assumes nothing.
+-- The calendar as RFC 3339 has it (docs/FORMAT.md, 6): appendix C's leap years and section 5.7's days of a month, row
+-- for row. Assumes nothing.
 use mathlib.Core.Path.{_≡_}
 use Prim.Native.Nat.{ℕ, _%_, _≤_}
 use Rattle.rules.specs.declared.DateAnswer.{DateAnswer}
@@ -39,8 +39,3 @@ pub record Date (y m d : ℕ) : Type 0 where
 pub data Dated (y m d : ℕ) (a : DateAnswer) : Type 0 where
   done : Date y m d → dateSaid a ≡ paper.done tt → Dated y m d a
   none : (Date y m d → ⊥) → dateSaid a ≡ refused 5 0 → Dated y m d a
-
--- what `days` may answer: the days of the month, or 0 where the number is no month
-pub data Lasts (y m : ℕ) : ℕ → Type 0 where
-  month : {n : ℕ} → Days y m n → Lasts y m n
-  no-month : ((n : ℕ) → Days y m n → ⊥) → Lasts y m 0

@@ -1,5 +1,5 @@
--- UTF-8 as RFC 3629 has it: section 4's ABNF, rule for rule, and section 3's table of character numbers.
--- Assumes nothing.
+-- UTF-8 as RFC 3629 has it (docs/FORMAT.md, 1.1): section 4's ABNF, rule for rule, and section 3's table of character
+-- numbers. Assumes nothing.
 use mathlib.Core.Path.{_≡_}
 use mathlib.Core.Logic.{_⊎_}
 use mathlib.Core.Bool.{cond}
@@ -41,7 +41,8 @@ pub data Octets : List ℕ → Type 0 where
 abbrev pub NoChar : List ℕ → Type 0
 NoChar s = (c t : List ℕ) → Char c → s ≡ c ++ t → ⊥
 
--- the bytes before the place k are UTF-8, k is no end, and no character stands at k: the first ill-formed sequence begins there
+-- the bytes before the place k are UTF-8, k is no end, and no character stands at k: the first ill-formed sequence
+-- begins there
 pub record Fault (s : List ℕ) (k : ℕ) : Type 0 where
   pub before : List ℕ
   pub rest : List ℕ

@@ -1,5 +1,5 @@
--- What the two calls for C hand over (include/lanternrung_rules.h): the number and the place of an answer that the call inside may
--- give. Assumes nothing.
+-- What the two calls for C hand over (include/lanternrung_rules.h; docs/FORMAT.md, 13): the number and the place of an
+-- answer that the call inside may give. Assumes nothing.
 use mathlib.Core.Path.{_≡_}
 use mathlib.Core.List.{List}
 use Prim.Native.Nat.{ℕ}

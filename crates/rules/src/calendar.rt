@@ -1,6 +1,5 @@
 // Leap years and the days of a month.
-ghost use Rattle.rules.specs.Between.Posts.{IsLeap};
-ghost use Rattle.rules.specs.Rfc3339.{Lasts};
+ghost use Rattle.rules.specs.Between.Posts.{IsLeap, Lasts};
 
 const DAYS: [u64; 13] = [0, 31, 28, 31, 30, 31, 30, 31, 31, 30, 31, 30, 31];
 

@@ -7,7 +7,8 @@ use native.Mathlib.Numerals.{add-one}
 use native.Mathlib.Omega.{arith}
 use lib.ListN.{getD, set}
 use lib.Seq.{sets}
-use Rattle.meaning.specs.Bytes.{le, get}
+use Rattle.meaning.specs.Bytes.{le}
+use Rattle.meaning.specs.Between.Words.{get}
 use Rattle.meaning.proofs.Bytes.{le-length}
 use Rattle.tape.proofs.PuttingLaws.{sets-append}
 

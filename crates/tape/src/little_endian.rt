@@ -5,7 +5,8 @@ ghost use lib.ListN.{length};
 ghost use lib.Seq.{sets};
 ghost use mir.Syntax.{w16, w32};
 ghost use mir.Val.{ofZ, toZ};
-ghost use Rattle.meaning.specs.Bytes.{le, get, flag};
+ghost use Rattle.meaning.specs.Bytes.{le, flag};
+ghost use Rattle.meaning.specs.Between.Words.{get};
 
 // v in two, four or eight bytes from the place `at`: byte by byte with no loop, which is compiled to one store.
 pub fn store2(bytes: &mut [u8], at: usize, v: u64)

@@ -30,7 +30,8 @@ hex-digit-is x h = go (ltb x 10) refl
 
 -- two hex digits behind others
 pub hex-pair-is : (b : ℕ) → b < 256 → Hexadecimal 2 (hexPair b) b
-hex-pair-is b h = subst (λ (w : ℕ). Hexadecimal 2 (hexPair b) w) (omega arith) (Digits.next (hex-digit-is (b / 16) (omega arith)) (Digits.next (hex-digit-is (b % 16) (omega arith)) Digits.over))
+hex-pair-is b h = subst (λ (w : ℕ). Hexadecimal 2 (hexPair b) w) (omega arith) (Digits.next (hex-digit-is (b / 16) (omega arith))
+    (Digits.next (hex-digit-is (b % 16) (omega arith)) Digits.over))
 
 -- the quotient and the digit that is left
 ten-times : (n : ℕ) → 10 * (n / 10) + n % 10 ≡ n
@@ -59,11 +60,13 @@ unfolding decimalIn
 lead-in zero n h l = absurd (omega arith)
 lead-in (suc count) n h l = go (λ p q. lead-in count (n / 10) p q) (ltb n 10) refl
   where
-    go : (n / 10 ≤ count → 0 < n / 10 → Lead (decimalIn count (n / 10)) (n / 10)) → (t : Bool) → ltb n 10 ≡ t → Lead (cond t (digit n ∷ []) (decimalIn count (n / 10) ++ (digit (n % 10) ∷ []))) n
+    go : (n / 10 ≤ count → 0 < n / 10 → Lead (decimalIn count (n / 10)) (n / 10)) → (t : Bool) → ltb n 10 ≡ t
+        → Lead (cond t (digit n ∷ []) (decimalIn count (n / 10) ++ (digit (n % 10) ∷ []))) n
     go f true e = lead-one n l (ltb-true n 10 e)
     go f false e =
         let g = ltb-false n 10 e in
-        subst (Lead (decimalIn count (n / 10) ++ (digit (n % 10) ∷ []))) (ten-times n) (lead-behind (f (omega (arith, div-lt-self {n = n} {k = 10} l (omega arith))) (omega arith)) (digit-is (n % 10) (omega arith)))
+        subst (Lead (decimalIn count (n / 10) ++ (digit (n % 10) ∷ []))) (ten-times n)
+            (lead-behind (f (omega (arith, div-lt-self {n = n} {k = 10} l (omega arith))) (omega arith)) (digit-is (n % 10) (omega arith)))
 
 pub decimal-lead : (n : ℕ) → 0 < n → Lead (decimal n) n
 unfolding decimal

@@ -38,7 +38,8 @@ value : (g : Bool) {c : ℕ} {p : ℤ} → GoodFinite c p → Unsigned true g (d
 value g GoodFinite.nought = Unsigned.dec (dec 0 0 0 none) (Finite.nought refl)
 value g (GoodFinite.nonzero {c = c} {p = pos zero} l e h) = Unsigned.dec (dec c 0 0 none) (Finite.whole (sym (mul-one (c * 1))) e l h)
 value g (GoodFinite.nonzero {c = c} {p = pos (suc n)} l e h) = Unsigned.dec (dec c (suc n) 0 (raised n)) (Finite.whole (sym (mul-one (c * 10 ^ suc n))) e l h)
-value g (GoodFinite.nonzero {c = c} {p = negsuc n} l e h) = Unsigned.dec (dec c 0 (suc n) (lowered n)) (Finite.part (ap (λ (x : ℕ). x * 10 ^ suc n) (mul-one c)) e l h)
+value g (GoodFinite.nonzero {c = c} {p = negsuc n} l e h) = Unsigned.dec (dec c 0 (suc n) (lowered n))
+    (Finite.part (ap (λ (x : ℕ). x * 10 ^ suc n) (mul-one c)) e l h)
 
 pub number-derived : (n : NumberMeant) → GoodNumber n → Number true (numberText n) n
 unfolding numberText

@@ -18,7 +18,8 @@ use Rattle.meaning.specs.Clock.{timeOfDay}
 use Rattle.meaning.specs.Good.{GoodDate, GoodTime}
 use Rattle.meaning.specs.Canonical.{fixed, trimmed, dateText, fractionText, clockText, minutesText, offsetText, timeText}
 use Rattle.grammar.specs.Characters.{Digit, Digits, Decimal}
-use Rattle.grammar.specs.Times.{Fraction, Time-secfrac, Time-hour, Time-minute, Local-time, Local-date, Separator, Zulu, signed, Plus-minus, Time-offset, Time-value}
+use Rattle.grammar.specs.Times.{Fraction, Time-secfrac, Time-hour, Time-minute, Local-time, Local-date, Separator, Zulu, signed, Plus-minus, Time-offset,
+    Time-value}
 use Rattle.grammar.proofs.Canonical.Digits.{fixed-is}
 
 -- ---- dates
@@ -42,14 +43,16 @@ pub date-derived : (d : DateMeant) → GoodDate d → Local-date true (dateText 
 unfolding dateText
 date-derived d g =
     let h = month-least (g .month) in
-    simp append-assoc (Local-date.local-date (fixed-is 4 (d .year) (omega (arith, g .year))) (fixed-is 2 (d .month) (omega (arith, h .0))) (fixed-is 2 (d .day) (omega (arith, h .1, g .to))) g)
+    simp append-assoc (Local-date.local-date (fixed-is 4 (d .year) (omega (arith, g .year))) (fixed-is 2 (d .month) (omega (arith, h .0)))
+        (fixed-is 2 (d .day) (omega (arith, h .1, g .to))) g)
 
 -- ---- clocks
 
 -- digits before j more that could count
 counted : {w v m : ℕ} {a : List ℕ} (j : ℕ) → Decimal w v a m → Fraction (w + j) v a (m * 10 ^ j)
 counted {v = v} j Digits.over = subst (λ (n : ℕ). Fraction n v [] (v * 10 ^ j)) (sym (zero-add j)) Fraction.over
-counted {v = v} {m = m} j (Digits.next {n = n} {b = b} {a = a} d r) = subst (λ (k : ℕ). Fraction k v (b ∷ a) (m * 10 ^ j)) (sym (suc-add n j)) (Fraction.counts d (counted j r))
+counted {v = v} {m = m} j (Digits.next {n = n} {b = b} {a = a} d r) = subst (λ (k : ℕ). Fraction k v (b ∷ a) (m * 10 ^ j)) (sym (suc-add n j))
+    (Fraction.counts d (counted j r))
 
 -- without the zeros at the end
 trimmed-is : (w n j : ℕ) → n < 10 ^ w → 0 < n → Fraction (w + j) 0 (trimmed w n) (n * 10 ^ j)
@@ -57,12 +60,15 @@ unfolding trimmed
 trimmed-is zero n j h l = absurd (omega arith)
 trimmed-is (suc w) n j h l = go (λ p q. trimmed-is w (n / 10) (suc j) p q) (eqb (n % 10) 0) refl
   where
-    go : (n / 10 < 10 ^ w → 0 < n / 10 → Fraction (w + suc j) 0 (trimmed w (n / 10)) (n / 10 * 10 ^ suc j)) → (t : Bool) → eqb (n % 10) 0 ≡ t → Fraction (suc w + j) 0 (cond t (trimmed w (n / 10)) (fixed (suc w) n)) (n * 10 ^ j)
+    go : (n / 10 < 10 ^ w → 0 < n / 10 → Fraction (w + suc j) 0 (trimmed w (n / 10)) (n / 10 * 10 ^ suc j)) → (t : Bool) → eqb (n % 10) 0 ≡ t
+        → Fraction (suc w + j) 0 (cond t (trimmed w (n / 10)) (fixed (suc w) n)) (n * 10 ^ j)
     go f true e =
         let z : n / 10 * 10 ≡ n = omega (arith, eqb-true (n % 10) 0 e) in
-        let p : n / 10 * 10 ^ suc j ≡ n * 10 ^ j = ap (λ (x : ℕ). n / 10 * x) (pow-succ' 10 j) ∙ sym (mul-assoc (n / 10) 10 (10 ^ j)) ∙ ap (λ (x : ℕ). x * 10 ^ j) z in
+        let p : n / 10 * 10 ^ suc j ≡ n * 10 ^ j = ap (λ (x : ℕ). n / 10 * x) (pow-succ' 10 j) ∙ sym (mul-assoc (n / 10) 10 (10 ^ j))
+            ∙ ap (λ (x : ℕ). x * 10 ^ j) z in
         let k : w + suc j ≡ suc w + j = omega arith in
-        subst (λ (x : ℕ). Fraction x 0 (trimmed w (n / 10)) (n * 10 ^ j)) k (subst (Fraction (w + suc j) 0 (trimmed w (n / 10))) p (f (omega (arith, pow-suc 10 w)) (omega arith)))
+        subst (λ (x : ℕ). Fraction x 0 (trimmed w (n / 10)) (n * 10 ^ j)) k (subst (Fraction (w + suc j) 0 (trimmed w (n / 10))) p
+            (f (omega (arith, pow-suc 10 w)) (omega arith)))
     go f false e = counted j (fixed-is (suc w) n h)
 
 -- a fraction that is not 0 has a digit
@@ -94,7 +100,8 @@ pub clock-derived : (t : ℕ) → t < day → Local-time true (clockText t) t
 unfolding clockText
 clock-derived t h =
     subst (Local-time true _) (clock-is t)
-    (simp append-assoc (Local-time.local-time (hour (t / (60 * 60 * second)) (omega arith)) (minute (t / (60 * second) % 60) (omega arith)) (minute (t / second % 60) (omega arith)) (secfrac (t % second) (omega arith))))
+    (simp append-assoc (Local-time.local-time (hour (t / (60 * 60 * second)) (omega arith)) (minute (t / (60 * second) % 60) (omega arith))
+        (minute (t / second % 60) (omega arith)) (secfrac (t % second) (omega arith))))
 
 -- ---- offsets
 
@@ -115,4 +122,5 @@ unfolding timeText
 time-derived (LocalDate d) g = Time-value.local-date (date-derived d g)
 time-derived (LocalTime t) g = Time-value.local-time (clock-derived t g)
 time-derived (LocalDateTime d t) g = simp append-assoc (Time-value.local-date-time (date-derived d (g .0)) Separator.letter (clock-derived t (g .1)))
-time-derived (OffsetDateTime d t o) g = simp append-assoc (Time-value.offset-date-time (date-derived d (g .0)) Separator.letter (clock-derived t (g .1)) (offset-derived o (g .2)))
+time-derived (OffsetDateTime d t o) g = simp append-assoc (Time-value.offset-date-time (date-derived d (g .0)) Separator.letter (clock-derived t (g .1))
+    (offset-derived o (g .2)))

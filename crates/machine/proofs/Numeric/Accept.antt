@@ -24,16 +24,20 @@ use Rattle.grammar.specs.Characters.{Digit, Digits}
 use Rattle.grammar.specs.Numbers.{Sign, Unsigned, Number, raised, lowered}
 use Rattle.grammar.specs.Times.{Fraction, Time-secfrac, Time-hour, Time-minute, Separator, Plus-minus, Time-offset, signed}
 use Rattle.machine.specs.Scan.{takes, stops, breaks}
-use Rattle.machine.specs.Numeric.{St, Res, begin, sign, word, nought, int, point, frac, exp, expSign, expDigits, hexMark, hex, both, field, spaced, secPoint, nanos, zulu, Len, d1, d2, d3, d4, When, alone, on, Slot, month, day, hour, minute, second, offsetHour, offsetMinute, scan, settle, dig, okDate, okClock, onZone, tested, only, dated}
+use Rattle.machine.specs.Numeric.{St, Res, begin, sign, word, nought, int, point, frac, exp, expSign, expDigits, hexMark, hex, both, field, spaced,
+    secPoint, nanos, zulu, Len, d1, d2, d3, d4, When, alone, on, Slot, month, day, hour, minute, second, offsetHour, offsetMinute, scan, settle, dig, okDate,
+    okClock, onZone, tested, only, dated}
 use Rattle.machine.specs.Numeric as S
 use Rattle.machine.proofs.Runs.{OutIs}
-use Rattle.machine.proofs.Numeric.Rows.{Decimal-digit, NumIs, num-class, DgIs, dg-class, ExpIs, exp-class, FstIs, fst-class, HexIs, hex-class, SecIs, sec-class, DayIs, day-class}
+use Rattle.machine.proofs.Numeric.Rows.{Decimal-digit, NumIs, num-class, DgIs, dg-class, ExpIs, exp-class, FstIs, fst-class, HexIs, hex-class, SecIs,
+    sec-class, DayIs, day-class}
 use Rattle.machine.proofs.Numeric.Value.{settle-is, some-finite, finite-by}
 use Rattle.machine.proofs.Numeric.CompleteTime.{by-check}
 use Rattle.machine.proofs.Numeric.Items.{NumericItem, Taken}
 use Rattle.machine.proofs.Numeric.Sound.{Fin, Bare, ExpDigitsRest, SignRest, PowerRest, FracRest, PointRest, IntRest, HexRest, MarkRest, NoughtRest}
 use Rattle.machine.proofs.Numeric.Sound as Sound
-use Rattle.machine.proofs.Numeric.SoundTime.{FieldRest, Then, OffsetMinute, OffsetHour, EndRest, NanosRest, SecPointRest, Second, Hour, DateRest, SpacedRest, Year, SlotRest, field-digit, field-full, hour-taken, year-taken, and-both}
+use Rattle.machine.proofs.Numeric.SoundTime.{FieldRest, Then, OffsetMinute, OffsetHour, EndRest, NanosRest, SecPointRest, Second, Hour, DateRest,
+    SpacedRest, Year, SlotRest, field-digit, field-full, hour-taken, year-taken, and-both}
 
 check : (k : Bool) {P : Type 0} → P → Checked k P
 check true x = x
@@ -76,7 +80,8 @@ module _ (ck : Bool) where
   NumericRest (spaced q d) a w = SpacedRest ck d a w
   NumericRest (secPoint q c h m s) a w = SecPointRest ck c h m s a w
   NumericRest (nanos q c h m s k v) a w = NanosRest ck c h m s k v a w
-  NumericRest (zulu q d h m s n) a w = (a ≡ []) × Checked ck (okDate d ≡ true) × Checked ck (okClock h m s ≡ true) × (Meaning.time (OffsetDateTime d (timeOfDay h m s n) (pos 0)) ≡ w)
+  NumericRest (zulu q d h m s n) a w = (a ≡ []) × Checked ck (okDate d ≡ true) × Checked ck (okClock h m s ≡ true)
+      × (Meaning.time (OffsetDateTime d (timeOfDay h m s n) (pos 0)) ≡ w)
 
   -- a check that fails: without checks, the item may end here
   abbrev pub Loose : Bool → Type 0 → Type 0
@@ -224,16 +229,20 @@ module _ (ck : Bool) where
 
   module _ (q : ℕ) where
     -- after a clock
-    offset-of : (d : D.Date) (h m s n x : ℕ) (g : Bool) → Plus-minus x g → (a : List ℕ) (w : Meaning) → FieldRest 2 0 (OffsetHour ck d h m s n g) a w → EndRest ck (on d) h m s n (x ∷ a) w
+    offset-of : (d : D.Date) (h m s n x : ℕ) (g : Bool) → Plus-minus x g → (a : List ℕ) (w : Meaning) → FieldRest 2 0 (OffsetHour ck d h m s n g) a w
+        → EndRest ck (on d) h m s n (x ∷ a) w
     offset-of d h m s n x g p a w k =
         let i = k .5 .2 in
         let j = i .5 in
-        let e : a ≡ k .0 ++ (ch ":" ∷ i .0) = k .3 ∙ ap (λ (l : List ℕ). k .0 ++ l) (k .5 .1 ∙ ap (λ (l : List ℕ). ch ":" ∷ l) (i .3 ∙ ap (λ (l : List ℕ). i .0 ++ l) (j .0) ∙ append-nil (i .0))) in
-        (j .1, j .2, inr (signed g (k .2 * 60 + i .2), rw e (Time-offset.numoffset p (Time-hour.hour (k .4) (j .3)) (Time-minute.sixtieth (i .4) (j .4))), j .5))
+        let e : a ≡ k .0 ++ (ch ":" ∷ i .0) = k .3 ∙ ap (λ (l : List ℕ). k .0 ++ l)
+            (k .5 .1 ∙ ap (λ (l : List ℕ). ch ":" ∷ l) (i .3 ∙ ap (λ (l : List ℕ). i .0 ++ l) (j .0) ∙ append-nil (i .0))) in
+        (j .1, j .2, inr (signed g (k .2 * 60 + i .2), rw e (Time-offset.numoffset p (Time-hour.hour (k .4) (j .3)) (Time-minute.sixtieth (i .4) (j .4))),
+            j .5))
 
     done-step : (c : When) (h m s n b : ℕ) → From (EndRest ck c h m s n) b (S.clockDone q c h m s n)
     done-step alone h m s n b = test-is (EndRest ck alone h m s n) q b (okClock h m s) (LocalTime (timeOfDay h m s n)) (λ e. (e, refl, refl))
-    done-step (on d) h m s n b = test-is (EndRest ck (on d) h m s n) q b (okDate d && okClock h m s) (LocalDateTime d (timeOfDay h m s n)) (λ e. let k = and-checked ck _ _ e in (k .0, k .1, inl (refl, refl)))
+    done-step (on d) h m s n b = test-is (EndRest ck (on d) h m s n) q b (okDate d && okClock h m s) (LocalDateTime d (timeOfDay h m s n))
+        (λ e. let k = and-checked ck _ _ e in (k .0, k .1, inl (refl, refl)))
 
     zone-step : (c : When) (h m s n : ℕ) {b : ℕ} {k : S.Sec} → SecIs b k → From (EndRest ck c h m s n) b (onZone q c h m s n k)
     zone-step alone h m s n {b} i = done-step alone h m s n b
@@ -246,11 +255,13 @@ module _ (ck : Bool) where
 
     module _ (c : When) (h m s : ℕ) where
       second-zone : {b : ℕ} {k : S.Sec} → SecIs b k → From (Second ck c h m s) b (onZone q c h m s 0 k)
-      second-zone {b} {k} i = widen (EndRest ck c h m s 0) (Second ck c h m s) (λ a w e. ([], a, 0, refl, Time-secfrac.absent, e)) b (onZone q c h m s 0 k) (zone-step c h m s 0 i)
+      second-zone {b} {k} i = widen (EndRest ck c h m s 0) (Second ck c h m s) (λ a w e. ([], a, 0, refl, Time-secfrac.absent, e)) b (onZone q c h m s 0 k)
+          (zone-step c h m s 0 i)
 
       second-step : {b : ℕ} {k : S.Sec} → SecIs b k → From (Second ck c h m s) b (S.onSec q c h m s k)
       second-step {b} (SecIs.digit i) = second-zone (SecIs.digit i)
-      second-step SecIs.point = λ a w k. (ch "." ∷ (k .0 ∷ k .4 .0), k .4 .1, k .4 .2, cc (k .2, k .4 .3), Time-secfrac.given (Fraction.counts (Digit.digit (k .3)) (k .4 .4)), k .4 .5)
+      second-step SecIs.point = λ a w k. (ch "." ∷ (k .0 ∷ k .4 .0), k .4 .1, k .4 .2, cc (k .2, k .4 .3),
+          Time-secfrac.given (Fraction.counts (Digit.digit (k .3)) (k .4 .4)), k .4 .5)
       second-step (SecIs.zIs z) = second-zone (SecIs.zIs z)
       second-step SecIs.plus = second-zone SecIs.plus
       second-step SecIs.minus = second-zone SecIs.minus
@@ -261,7 +272,8 @@ module _ (ck : Bool) where
       sec-point-step p DgIs.other = inl (p, refl)
 
       nanos-zone : (j v : ℕ) {b : ℕ} {k : S.Sec} → SecIs b k → From (NanosRest ck c h m s j v) b (onZone q c h m s (v * 10 ^ j) k)
-      nanos-zone j v {b} {k} i = widen (EndRest ck c h m s (v * 10 ^ j)) (NanosRest ck c h m s j v) (λ a w e. ([], a, v * 10 ^ j, refl, Fraction.over, e)) b (onZone q c h m s (v * 10 ^ j) k) (zone-step c h m s (v * 10 ^ j) i)
+      nanos-zone j v {b} {k} i = widen (EndRest ck c h m s (v * 10 ^ j)) (NanosRest ck c h m s j v) (λ a w e. ([], a, v * 10 ^ j, refl, Fraction.over, e)) b
+          (onZone q c h m s (v * 10 ^ j) k) (zone-step c h m s (v * 10 ^ j) i)
 
       nanos-step : (j v : ℕ) {b : ℕ} {k : S.Sec} → SecIs b k → From (NanosRest ck c h m s j v) b (S.onNanos q c h m s j v b k)
       nanos-step zero v {b} (SecIs.digit i) = λ a w k. (b ∷ k .0, k .1, k .2, rw (k .3), Fraction.cut (Digit.digit i) (k .4), k .5)
@@ -293,37 +305,46 @@ module _ (ck : Bool) where
     full-step p (second c h m) v b = second-step c h m v (sec-class b)
     full-step p (offsetHour d h m s n g) v b = only-is p b (ch ":") (field q (offsetMinute d h m s n g v) 2 0)
     full-step p (offsetMinute d h m s n g i) v b =
-        test-is (OffsetMinute ck d h m s n g i v) q b ((okDate d && okClock h m s) && (leb i 23 && leb v 59)) (OffsetDateTime d (timeOfDay h m s n) (signed g (i * 60 + v)))
-        (λ e. let k = and-checked ck _ _ e in let j = and-checked ck _ _ (k .0) in let o = and-checked ck _ _ (k .1) in (refl, j .0, j .1, by-check ck (leb-true i 23) (o .0), by-check ck (leb-true v 59) (o .1), refl))
+        test-is (OffsetMinute ck d h m s n g i v) q b ((okDate d && okClock h m s) && (leb i 23 && leb v 59))
+            (OffsetDateTime d (timeOfDay h m s n) (signed g (i * 60 + v)))
+        (λ e. let k = and-checked ck _ _ e in let j = and-checked ck _ _ (k .0) in let o = and-checked ck _ _ (k .1) in
+            (refl, j .0, j .1, by-check ck (leb-true i 23) (o .0), by-check ck (leb-true v 59) (o .1), refl))
 
     field-step : (p : ℕ) (l : Slot) (n v : ℕ) {b : ℕ} {k : S.Dg} → DgIs b k → From (FieldRest (suc n) v (SlotRest ck l)) b (S.onField p q l n v b k)
     field-step p l n v {b} (DgIs.digit i) = λ a w k. field-digit n v b (SlotRest ck l) a w i k
     field-step p l n v DgIs.other = inl (p, refl)
 
-    zulu-step : (d : D.Date) (h m s n b : ℕ) → From (NumericRest (zulu q d h m s n)) b (tested q (okDate d && okClock h m s) (OffsetDateTime d (timeOfDay h m s n) (pos 0)))
-    zulu-step d h m s n b = test-is (NumericRest (zulu q d h m s n)) q b (okDate d && okClock h m s) (OffsetDateTime d (timeOfDay h m s n) (pos 0)) (λ e. let k = and-checked ck _ _ e in (refl, k .0, k .1, refl))
+    zulu-step : (d : D.Date) (h m s n b : ℕ) → From (NumericRest (zulu q d h m s n)) b
+        (tested q (okDate d && okClock h m s) (OffsetDateTime d (timeOfDay h m s n) (pos 0)))
+    zulu-step d h m s n b = test-is (NumericRest (zulu q d h m s n)) q b (okDate d && okClock h m s) (OffsetDateTime d (timeOfDay h m s n) (pos 0))
+        (λ e. let k = and-checked ck _ _ e in (refl, k .0, k .1, refl))
 
     -- ---- digits with no sign
 
     as-number : (p : ℕ) (k : Len) (z : Bool) (v : ℕ) {b : ℕ} {c : S.Num} → NumIs b c → From (NumericRest (both q k z v)) b (S.asNumber p q k z v b c)
-    as-number p k false v {b} {c} i = widen (IntRest ck false v) (NumericRest (both q k false v)) (λ a w h. inl h) b (S.onInt q false v b c) (int-step q false v i)
-    as-number p d1 true v {b} {c} i = widen (NoughtRest ck false) (NumericRest (both q d1 true v)) (λ a w h. inl h) b (S.onNought q false c) (nought-step q false i)
+    as-number p k false v {b} {c} i = widen (IntRest ck false v) (NumericRest (both q k false v)) (λ a w h. inl h) b (S.onInt q false v b c)
+        (int-step q false v i)
+    as-number p d1 true v {b} {c} i = widen (NoughtRest ck false) (NumericRest (both q d1 true v)) (λ a w h. inl h) b (S.onNought q false c)
+        (nought-step q false i)
     as-number p d2 true v i = inl (p, refl)
     as-number p d3 true v i = inl (p, refl)
     as-number p d4 true v i = inl (p, refl)
 
-    digit-2 : (z : Bool) (v b : ℕ) → Decimal-digit b → (a : List ℕ) (w : Meaning) → NumericRest (both q d2 z (dig v b)) a w → NumericRest (both q d1 z v) (b ∷ a) w
+    digit-2 : (z : Bool) (v b : ℕ) → Decimal-digit b → (a : List ℕ) (w : Meaning) → NumericRest (both q d2 z (dig v b)) a w
+        → NumericRest (both q d1 z v) (b ∷ a) w
     digit-2 false v b i a w (inl h) = inl (Sound.int-digit ck false v b a w i h)
     digit-2 true v b i a w (inl h) = absurd h
     digit-2 z v b i a w (inr (inl h)) = inr (inl (field-digit 0 v b (Hour ck alone) a w i h))
     digit-2 z v b i a w (inr (inr h)) = inr (inr (field-digit 2 v b (Year ck) a w i h))
 
-    digit-3 : (z : Bool) (v b : ℕ) → Decimal-digit b → (a : List ℕ) (w : Meaning) → NumericRest (both q d3 z (dig v b)) a w → NumericRest (both q d2 z v) (b ∷ a) w
+    digit-3 : (z : Bool) (v b : ℕ) → Decimal-digit b → (a : List ℕ) (w : Meaning) → NumericRest (both q d3 z (dig v b)) a w
+        → NumericRest (both q d2 z v) (b ∷ a) w
     digit-3 false v b i a w (inl h) = inl (Sound.int-digit ck false v b a w i h)
     digit-3 true v b i a w (inl h) = absurd h
     digit-3 z v b i a w (inr h) = inr (inr (field-digit 1 v b (Year ck) a w i h))
 
-    digit-4 : (z : Bool) (v b : ℕ) → Decimal-digit b → (a : List ℕ) (w : Meaning) → NumericRest (both q d4 z (dig v b)) a w → NumericRest (both q d3 z v) (b ∷ a) w
+    digit-4 : (z : Bool) (v b : ℕ) → Decimal-digit b → (a : List ℕ) (w : Meaning) → NumericRest (both q d4 z (dig v b)) a w
+        → NumericRest (both q d3 z v) (b ∷ a) w
     digit-4 false v b i a w (inl h) = inl (Sound.int-digit ck false v b a w i h)
     digit-4 true v b i a w (inl h) = absurd h
     digit-4 z v b i a w (inr h) = inr (field-digit 0 v b (Year ck) a w i h)
@@ -400,7 +421,8 @@ module _ (ck : Bool) where
   scan-is p (hexMark q g) b = mark-step q g p (hex-class b)
   scan-is p (hex q g v) b = hex-step q g v (hex-class b)
   scan-is p (both q k z v) b = both-step q p k z v (num-class b)
-  scan-is p (field q l zero v) b = widen (SlotRest ck l v) (FieldRest zero v (SlotRest ck l)) (field-full v (SlotRest ck l)) b (S.onFull p q l v b) (full-step q p l v b)
+  scan-is p (field q l zero v) b = widen (SlotRest ck l v) (FieldRest zero v (SlotRest ck l)) (field-full v (SlotRest ck l)) b (S.onFull p q l v b)
+      (full-step q p l v b)
   scan-is p (field q l (suc n) v) b = field-step q p l n v (dg-class b)
   scan-is p (spaced q d) b = spaced-step q d (dg-class b)
   scan-is p (secPoint q c h m s) b = sec-point-step q c h m s p (dg-class b)

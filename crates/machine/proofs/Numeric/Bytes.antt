@@ -177,7 +177,8 @@ hyphen : In 0 0x7F (ch "-")
 hyphen = plain-byte (ch "-") (omega arith)
 
 clock-plain : {a : List ℕ} {n : ℕ} → Local-time true a n → Plain a
-clock-plain (Local-time.local-time h m s f) = each-join (hour-plain h) (all-more colon (each-join (minute-plain m) (all-more colon (each-join (minute-plain s) (secfrac-plain f)))))
+clock-plain (Local-time.local-time h m s f) = each-join (hour-plain h) (all-more colon
+    (each-join (minute-plain m) (all-more colon (each-join (minute-plain s) (secfrac-plain f)))))
 
 date-plain : {a : List ℕ} {d : D.Date} → Local-date true a d → Plain a
 date-plain (Local-date.local-date y m d x) = each-join (decimal-plain y) (all-more hyphen (each-join (decimal-plain m) (all-more hyphen (decimal-plain d))))

@@ -16,7 +16,8 @@ use Rattle.grammar.specs.Checks.{Checked}
 use Rattle.grammar.specs.Characters.{Digit, Hexdig, Digits, Decimal}
 use Rattle.grammar.specs.Numbers.{Finite, Sign, Int, Frac0, Frac1, E, Exp, Dec, X, Unsigned, Number, raised, lowered}
 use Rattle.machine.specs.Scan.{takes, stops, breaks}
-use Rattle.machine.specs.Numeric.{St, Res, begin, sign, word, nought, int, point, frac, exp, expSign, expDigits, hexMark, hex, both, Len, d1, d2, d3, d4, scan, scaled, settle}
+use Rattle.machine.specs.Numeric.{St, Res, begin, sign, word, nought, int, point, frac, exp, expSign, expDigits, hexMark, hex, both, Len, d1, d2, d3, d4,
+    scan, scaled, settle}
 use Rattle.machine.proofs.Runs.{EndsItem, Goes, GoesTo}
 use Rattle.machine.proofs.Runs as Runs
 use Rattle.machine.proofs.Numeric.Rows.{num-digit, dg-digit, exp-digit, fst-digit, hex-is, ending}
@@ -48,7 +49,8 @@ module _ (q : ℕ) (g : Bool) where
     exp-unsigned : {n v : ℕ} {a : List ℕ} → Decimal (suc n) 0 a v → Q (scaled q g m f false v) → (p : ℕ) → Run Q p (exp q g m f) a
     exp-unsigned (Digits.next {b = b} (Digit.digit i) d) h p = took (exp-digits false d h (suc p)) (rw (exp-digit b i))
 
-    power : {s a : List ℕ} {t : Bool} {n e : ℕ} → Sign s t → Decimal (suc n) 0 a e → Q (settle q g m (raised t e) (f + lowered t e)) → (p : ℕ) → Run Q p (exp q g m f) (s ++ a)
+    power : {s a : List ℕ} {t : Bool} {n e : ℕ} → Sign s t → Decimal (suc n) 0 a e → Q (settle q g m (raised t e) (f + lowered t e)) → (p : ℕ)
+        → Run Q p (exp q g m f) (s ++ a)
     power Sign.unsigned d h p = exp-unsigned d h p
     power Sign.plus d h p = took (exp-signed false d h (suc p)) refl
     power Sign.minus d h p = took (exp-signed true d h (suc p)) refl
@@ -59,7 +61,8 @@ module _ (q : ℕ) (g : Bool) where
     frac-exp (Exp.given E.capital s d) h p = took (power s d h (suc p)) refl
 
   -- n more digits of a fraction
-  frac-digits : {n m f k v : ℕ} {a r : List ℕ} {Q : Res → Type 0} → Decimal n m a v → f + n ≡ k → ((p : ℕ) → Run Q p (frac q g v k) r) → (p : ℕ) → Run Q p (frac q g m f) (a ++ r)
+  frac-digits : {n m f k v : ℕ} {a r : List ℕ} {Q : Res → Type 0} → Decimal n m a v → f + n ≡ k → ((p : ℕ) → Run Q p (frac q g v k) r) → (p : ℕ)
+      → Run Q p (frac q g m f) (a ++ r)
   frac-digits {f = f} {v = v} {r = r} {Q = Q} Digits.over e k p = subst (λ (x : ℕ). Run Q p (frac q g v x) r) (sym e ∙ add-zero f) (k p)
   frac-digits {f = f} (Digits.next {b = b} (Digit.digit i) d) e k p = took (frac-digits {f = suc f} d (omega arith) k (suc p)) (rw (num-digit b i))
 
@@ -73,7 +76,8 @@ module _ (q : ℕ) (g : Bool) where
   whole-exp i {Q = Q} Exp.absent h p = halts (λ b e. subst Q (sym (i .at-end e p)) h)
   whole-exp {m = m} i (Exp.given e s d) h p = took (power m 0 s d h (suc p)) (i .at-e e p)
 
-  whole-tail : {s : St} {m : ℕ} → Whole s m → {a c : List ℕ} {v n up dn : ℕ} {Q : Res → Type 0} → Frac0 m a v n → Exp c up dn → Q (settle q g v up (n + dn)) → (p : ℕ) → Run Q p s (a ++ c)
+  whole-tail : {s : St} {m : ℕ} → Whole s m → {a c : List ℕ} {v n up dn : ℕ} {Q : Res → Type 0} → Frac0 m a v n → Exp c up dn → Q (settle q g v up (n + dn))
+      → (p : ℕ) → Run Q p s (a ++ c)
   whole-tail i Frac0.absent y h p = whole-exp i y h p
   whole-tail i (Frac0.given d) y h p = took (frac-digits {f = 0} d (omega arith) (frac-exp _ _ y h) (suc p)) (i .at-point p)
 
@@ -91,7 +95,8 @@ module _ (q : ℕ) (g : Bool) where
       e E.small p = refl
       e E.capital p = refl
 
-  int-digits : {n m v : ℕ} {a r : List ℕ} {Q : Res → Type 0} → Decimal n m a v → ((s : St) → Whole s v → (p : ℕ) → Run Q p s r) → (p : ℕ) → Run Q p (int q g m) (a ++ r)
+  int-digits : {n m v : ℕ} {a r : List ℕ} {Q : Res → Type 0} → Decimal n m a v → ((s : St) → Whole s v → (p : ℕ) → Run Q p s r) → (p : ℕ)
+      → Run Q p (int q g m) (a ++ r)
   int-digits Digits.over k p = k _ (int-whole _) p
   int-digits (Digits.next {b = b} (Digit.digit i) d) k p = took (int-digits d k (suc p)) (rw (num-digit b i))
 
@@ -104,8 +109,10 @@ module _ (q : ℕ) (g : Bool) where
   mark-digits (Digits.next d y) h p = took (hex-digits y h (suc p)) (rw (hex-is d))
 
   -- after a point with no digit before it
-  point-digits : {n m up dn : ℕ} {a c : List ℕ} {Q : Res → Type 0} → Decimal (suc n) 0 a m → Exp c up dn → Q (settle q g m up (suc n + dn)) → (p : ℕ) → Run Q p (point q g) (a ++ c)
-  point-digits {n = n} (Digits.next {b = b} (Digit.digit i) d) e h p = took (frac-digits {f = 1} d (omega arith) (frac-exp _ (suc n) e h) (suc p)) (rw (dg-digit b i))
+  point-digits : {n m up dn : ℕ} {a c : List ℕ} {Q : Res → Type 0} → Decimal (suc n) 0 a m → Exp c up dn → Q (settle q g m up (suc n + dn)) → (p : ℕ)
+      → Run Q p (point q g) (a ++ c)
+  point-digits {n = n} (Digits.next {b = b} (Digit.digit i) d) e h p = took (frac-digits {f = 1} d (omega arith) (frac-exp _ (suc n) e h) (suc p))
+      (rw (dg-digit b i))
 
 word-run : {Q : Res → Type 0} (a : List ℕ) (w : M.Number) → Q (stops (Meaning.number w)) → (p : ℕ) → Run Q p (word a w) a
 word-run [] w h p = halts (λ b e. h)
@@ -113,7 +120,8 @@ word-run (c ∷ a) w h p = took (word-run a w h (suc p)) (rw (eq-eqb c c refl))
 
 dec-sign : {g : Bool} {a : List ℕ} {v up dn : ℕ} {Q : Res → Type 0} (p q : ℕ) → Dec a v up dn → Q (settle q g v up dn) → Run Q p (sign q g) a
 dec-sign {g} p q (Dec.whole Int.zero-digit f e) h = took (whole-tail q g (nought-whole q g) f e h (suc p)) refl
-dec-sign {g} p q (Dec.whole (Int.positive {b = b} i d) f e) h = took (int-digits q g d (λ s k. whole-tail q g k f e h) (suc p)) (rw (fst-digit b i, zero-add (b - ch "0")))
+dec-sign {g} p q (Dec.whole (Int.positive {b = b} i d) f e) h = took (int-digits q g d (λ s k. whole-tail q g k f e h) (suc p))
+    (rw (fst-digit b i, zero-add (b - ch "0")))
 dec-sign {g} p q (Dec.part (Frac1.given d) e) h = took (point-digits q g d e h (suc p)) refl
 
 -- What the check of a number that means w, at its first place q, comes to, has Q: where the checks are on, and where they are off.
@@ -163,7 +171,8 @@ module _ (q : ℕ) {v : ℕ} {r : List ℕ} {Q : Res → Type 0} (k : (s : St) �
 
 dec-bare : {a : List ℕ} {v up dn : ℕ} {Q : Res → Type 0} (p : ℕ) → Dec a v up dn → Q (settle p false v up dn) → Run Q p begin a
 dec-bare p (Dec.whole Int.zero-digit f e) h = took (whole-tail p false (first-nought p) f e h (suc p)) refl
-dec-bare p (Dec.whole (Int.positive {b = b} i d) f e) h = took (at-1 p (λ s k. whole-tail p false k f e h) d (suc p)) (rw (fst-digit b i, zero-add (b - ch "0")))
+dec-bare p (Dec.whole (Int.positive {b = b} i d) f e) h = took (at-1 p (λ s k. whole-tail p false k f e h) d (suc p))
+    (rw (fst-digit b i, zero-add (b - ch "0")))
 dec-bare p (Dec.part (Frac1.given d) e) h = took (point-digits p false d e h (suc p)) refl
 
 unsigned-bare : {k : Bool} {a : List ℕ} {w : M.Number} {Q : Res → Type 0} (p : ℕ) → Unsigned k false a w → Judged k Q p w → Run Q p begin a

@@ -16,4 +16,5 @@ module _ {S M : Type 0} (scan : ℕ → S → ℕ → Out S M) where
 
   pub goes-once : {F : ℕ → Type 0} {p : ℕ} {s : S} {a : List ℕ} {m n : M} → F (ch ",") → Goes scan F p s a m → Goes scan F p s a n → m ≡ n
   goes-once comma (Goes.ends h) (Goes.ends k) = halt-once refl (h (ch ",") comma) (k (ch ",") comma)
-  goes-once {F} {p} {n = n} comma (Goes.goes {s' = t} {a = a} h e) (Goes.goes {s' = u} k f) = let i : u ≡ t = cc in goes-once comma h (subst (λ (x : S). Goes scan F (suc p) x a n) i k)
+  goes-once {F} {p} {n = n} comma (Goes.goes {s' = t} {a = a} h e) (Goes.goes {s' = u} k f) = let i : u ≡ t = cc in
+      goes-once comma h (subst (λ (x : S). Goes scan F (suc p) x a n) i k)

@@ -10,14 +10,17 @@ use Rattle.meaning.specs.declared.Date as D
 use Rattle.meaning.specs.declared.Time as T
 use Rattle.meaning.specs.declared.Time.the-variants.{LocalDate, LocalTime, LocalDateTime, OffsetDateTime}
 use Rattle.meaning.specs.declared.Refusal.{Refusal}
-use Rattle.meaning.specs.declared.Refusal.the-variants.{TextTooLong, NotUtf8, NotGrammar, BadEscape, BadTime, BadNumber, TooDeep, TapeTooShort, StoreTooShort, NotWellFormed, NoJsonForm, OutputTooShort, WrittenTooLong, NoSuchRecord}
+use Rattle.meaning.specs.declared.Refusal.the-variants.{TextTooLong, NotUtf8, NotGrammar, BadEscape, BadTime, BadNumber, TooDeep, TapeTooShort, StoreTooShort,
+    NotWellFormed, NoJsonForm, OutputTooShort, WrittenTooLong, NoSuchRecord}
 use Rattle.meaning.specs.Limits.{coefficientLimit}
 use Rattle.meaning.specs.Letters.{ch}
 use Rattle.meaning.specs.Clock.{timeOfDay}
 use Rattle.grammar.specs.Numbers.{raised, lowered}
 use Rattle.grammar.specs.Times.{signed}
 use Rattle.machine.specs.Scan.{takes, stops, breaks}
-use Rattle.machine.specs.Numeric.{St, Res, begin, sign, word, nought, int, point, frac, exp, expSign, expDigits, hexMark, hex, both, field, spaced, secPoint, nanos, zulu, Len, d1, d2, d3, d4, When, alone, on, Slot, month, day, hour, minute, second, offsetHour, offsetMinute, scan, settle, only, dated, tested, okDate, okClock}
+use Rattle.machine.specs.Numeric.{St, Res, begin, sign, word, nought, int, point, frac, exp, expSign, expDigits, hexMark, hex, both, field, spaced,
+    secPoint, nanos, zulu, Len, d1, d2, d3, d4, When, alone, on, Slot, month, day, hour, minute, second, offsetHour, offsetMinute, scan, settle, only, dated,
+    tested, okDate, okClock}
 use Rattle.machine.specs.Numeric as S
 use Rattle.machine.proofs.Numeric.Value.{settle-is}
 
@@ -220,7 +223,8 @@ module _ (p q : ℕ) (l : q ≤ p) where
   full-placed (minute w h) v b = only-placed p (ch ":") (field q (second w h v) 2 0) b next
   full-placed (second w h m) v b = second-placed w h m v (S.secOf b)
   full-placed (offsetHour d h m s n g) v b = only-placed p (ch ":") (field q (offsetMinute d h m s n g v) 2 0) b next
-  full-placed (offsetMinute d h m s n g i) v b = tested-placed ((okDate d && okClock h m s) && (leb i 23 && leb v 59)) (OffsetDateTime d (timeOfDay h m s n) (signed g (i * 60 + v)))
+  full-placed (offsetMinute d h m s n g i) v b = tested-placed ((okDate d && okClock h m s) && (leb i 23 && leb v 59))
+      (OffsetDateTime d (timeOfDay h m s n) (signed g (i * 60 + v)))
 
   field-placed : (k : Slot) (n v b : ℕ) (c : S.Dg) → Placed p (S.onField p q k n v b c)
   unfolding firstOf

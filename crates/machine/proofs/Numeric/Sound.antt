@@ -82,7 +82,8 @@ module _ (ck : Bool) where
     frac-digit m f b a w i h = (b ∷ h .0, h .1, h .2, suc (h .3), h .4, rw (h .5), Digits.next (Digit.digit i) (h .6), omega (arith, h .7), h .8)
 
     pub point-digit : (b : ℕ) (a : List ℕ) (w : Meaning) → Decimal-digit b → FracRest g (dig 0 b) 1 a w → PointRest g (b ∷ a) w
-    point-digit b a w i h = let e : h .4 ≡ suc (h .3) = omega (arith, h .7) in (b ∷ h .0, h .1, h .2, h .3, rw (h .5), Digits.next (Digit.digit i) (h .6), subst (λ (x : ℕ). ExpRest g (h .2) x (h .1) w) e (h .8))
+    point-digit b a w i h = let e : h .4 ≡ suc (h .3) = omega (arith, h .7) in (b ∷ h .0, h .1, h .2, h .3, rw (h .5), Digits.next (Digit.digit i) (h .6),
+        subst (λ (x : ℕ). ExpRest g (h .2) x (h .1) w) e (h .8))
 
     pub whole-e : (m b : ℕ) (a : List ℕ) (w : Meaning) → E b → PowerRest g m 0 a w → WholeRest g m (b ∷ a) w
     whole-e m b a w e h = ([], b ∷ a, m, 0, refl, Frac0.absent, exp-e m 0 b a w e h)
@@ -91,7 +92,8 @@ module _ (ck : Bool) where
     whole-none m w h = ([], [], m, 0, refl, Frac0.absent, exp-none m 0 w h)
 
     pub whole-point : (m : ℕ) (a : List ℕ) (w : Meaning) → FracRest g m 0 a w → WholeRest g m (ch "." ∷ a) w
-    whole-point m a w h = let e : h .4 ≡ h .3 = omega (arith, h .7) in (ch "." ∷ h .0, h .1, h .2, h .3, rw (h .5), Frac0.given (h .6), subst (λ (x : ℕ). ExpRest g (h .2) x (h .1) w) e (h .8))
+    whole-point m a w h = let e : h .4 ≡ h .3 = omega (arith, h .7) in (ch "." ∷ h .0, h .1, h .2, h .3, rw (h .5), Frac0.given (h .6),
+        subst (λ (x : ℕ). ExpRest g (h .2) x (h .1) w) e (h .8))
 
     pub int-of : (m : ℕ) (a : List ℕ) (w : Meaning) → WholeRest g m a w → IntRest g m a w
     int-of m a w h = ([], a, m, 0, refl, Digits.over, h)
@@ -104,14 +106,16 @@ module _ (ck : Bool) where
     dec-of : {a : List ℕ} {v up dn : ℕ} {w : Meaning} → Dec a v up dn → Fin g v up dn w → Bare g a w
     dec-of d (Fin.number f) = Bare.number (Unsigned.dec d f)
 
-    hex-of : {a : List ℕ} {b n v : ℕ} {w : Meaning} → X b → Digits Hexdig 16 (suc n) 0 a v → Checked ck (v < coefficientLimit) → Fin g v 0 0 w → Bare g (ch "0" ∷ b ∷ a) w
+    hex-of : {a : List ℕ} {b n v : ℕ} {w : Meaning} → X b → Digits Hexdig 16 (suc n) 0 a v → Checked ck (v < coefficientLimit) → Fin g v 0 0 w
+        → Bare g (ch "0" ∷ b ∷ a) w
     hex-of x d l (Fin.number f) = Bare.number (Unsigned.hex x d l f)
 
     whole-dec : (b : List ℕ) (v : ℕ) (a : List ℕ) (w : Meaning) → Int b v → WholeRest g v a w → Bare g (b ++ a) w
     whole-dec b v a w i h = rw (h .4) (dec-of (Dec.whole i (h .5) (h .6 .2)) (h .6 .3))
 
     pub int-dec : (b : ℕ) (a : List ℕ) (w : Meaning) → In (ch "1") (ch "9") b → IntRest g (dig 0 b) a w → Bare g (b ∷ a) w
-    int-dec b a w i h = rw (h .4) (whole-dec (b ∷ h .0) (h .2) (h .1) w (Int.positive i (subst (λ (x : ℕ). Decimal (h .3) x (h .0) (h .2)) (zero-add (b - ch "0")) (h .5))) (h .6))
+    int-dec b a w i h = rw (h .4) (whole-dec (b ∷ h .0) (h .2) (h .1) w (Int.positive i
+        (subst (λ (x : ℕ). Decimal (h .3) x (h .0) (h .2)) (zero-add (b - ch "0")) (h .5))) (h .6))
 
     pub point-dec : (a : List ℕ) (w : Meaning) → PointRest g a w → Bare g (ch "." ∷ a) w
     point-dec a w h = rw (h .4) (dec-of (Dec.part (Frac1.given (h .5)) (h .6 .2)) (h .6 .3))

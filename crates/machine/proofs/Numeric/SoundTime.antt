@@ -55,7 +55,8 @@ module _ (ck : Bool) where
   -- ---- what may still come: a is the bytes, w the meaning at their end
 
   abbrev pub OffsetMinute : D.Date → ℕ → ℕ → ℕ → ℕ → Bool → ℕ → Cont
-  OffsetMinute d h m s n g i v r w = (r ≡ []) × Checked ck (okDate d ≡ true) × Checked ck (okClock h m s ≡ true) × Checked ck (i ≤ 23) × Checked ck (v ≤ 59) × (Meaning.time (OffsetDateTime d (timeOfDay h m s n) (signed g (i * 60 + v))) ≡ w)
+  OffsetMinute d h m s n g i v r w = (r ≡ []) × Checked ck (okDate d ≡ true) × Checked ck (okClock h m s ≡ true) × Checked ck (i ≤ 23) × Checked ck (v ≤ 59)
+      × (Meaning.time (OffsetDateTime d (timeOfDay h m s n) (signed g (i * 60 + v))) ≡ w)
 
   abbrev pub OffsetHour : D.Date → ℕ → ℕ → ℕ → ℕ → Bool → Cont
   OffsetHour d h m s n g i r w = Then (ch ":") (FieldRest 2 0 (OffsetMinute d h m s n g i)) r w
@@ -63,7 +64,9 @@ module _ (ck : Bool) where
   -- after a clock
   abbrev pub EndRest : When → ℕ → ℕ → ℕ → ℕ → List ℕ → Meaning → Type 0
   EndRest alone h m s n a w = Checked ck (okClock h m s ≡ true) × (a ≡ []) × (Meaning.time (LocalTime (timeOfDay h m s n)) ≡ w)
-  EndRest (on d) h m s n a w = Checked ck (okDate d ≡ true) × Checked ck (okClock h m s ≡ true) × (((a ≡ []) × (Meaning.time (LocalDateTime d (timeOfDay h m s n)) ≡ w)) ⊎ ((o : ℤ) × Time-offset ck a o × (Meaning.time (OffsetDateTime d (timeOfDay h m s n) o) ≡ w)))
+  EndRest (on d) h m s n a w = Checked ck (okDate d ≡ true) × Checked ck (okClock h m s ≡ true)
+      × (((a ≡ []) × (Meaning.time (LocalDateTime d (timeOfDay h m s n)) ≡ w)) ⊎
+      ((o : ℤ) × Time-offset ck a o × (Meaning.time (OffsetDateTime d (timeOfDay h m s n) o) ≡ w)))
 
   abbrev pub NanosRest : When → ℕ → ℕ → ℕ → ℕ → ℕ → List ℕ → Meaning → Type 0
   NanosRest c h m s k v a w = (d : List ℕ) × (e : List ℕ) × (n : ℕ) × (a ≡ d ++ e) × Fraction k v d n × EndRest c h m s n e w
@@ -81,7 +84,8 @@ module _ (ck : Bool) where
   Hour c h a w = Then (ch ":") (FieldRest 2 0 (Minute c h)) a w
 
   abbrev pub DateRest : D.Date → List ℕ → Meaning → Type 0
-  DateRest d a w = (Checked ck (okDate d ≡ true) × ((a ≡ []) ⊎ (a ≡ ch " " ∷ [])) × (Meaning.time (LocalDate d) ≡ w)) ⊎ ((x : ℕ) × (r : List ℕ) × (a ≡ x ∷ r) × Separator x × FieldRest 2 0 (Hour (on d)) r w)
+  DateRest d a w = (Checked ck (okDate d ≡ true) × ((a ≡ []) ⊎ (a ≡ ch " " ∷ [])) × (Meaning.time (LocalDate d) ≡ w))
+      ⊎ ((x : ℕ) × (r : List ℕ) × (a ≡ x ∷ r) × Separator x × FieldRest 2 0 (Hour (on d)) r w)
 
   abbrev pub SpacedRest : D.Date → List ℕ → Meaning → Type 0
   SpacedRest d a w = (Checked ck (okDate d ≡ true) × (a ≡ []) × (Meaning.time (LocalDate d) ≡ w)) ⊎ FieldRest 2 0 (Hour (on d)) a w
@@ -107,7 +111,8 @@ module _ (ck : Bool) where
   -- ---- the whole value
 
   -- a clock, and what follows it
-  clock-of : (c : When) (a : List ℕ) (w : Meaning) → FieldRest 2 0 (Hour c) a w → (b : List ℕ) × (e : List ℕ) × (h : ℕ) × (m : ℕ) × (s : ℕ) × (n : ℕ) × (a ≡ b ++ e) × (Checked ck (okClock h m s ≡ true) → Local-time ck b (timeOfDay h m s n)) × EndRest c h m s n e w
+  clock-of : (c : When) (a : List ℕ) (w : Meaning) → FieldRest 2 0 (Hour c) a w → (b : List ℕ) × (e : List ℕ) × (h : ℕ) × (m : ℕ) × (s : ℕ) × (n : ℕ)
+      × (a ≡ b ++ e) × (Checked ck (okClock h m s ≡ true) → Local-time ck b (timeOfDay h m s n)) × EndRest c h m s n e w
   clock-of c a w x =
       let y = x .5 .2 in
       let z = y .5 .2 in
@@ -119,7 +124,8 @@ module _ (ck : Bool) where
         z .2,
         f .2,
         simp append-assoc (cc (x .3, x .5 .1, y .3, y .5 .1, z .3, f .3)),
-        (λ e. let k = clock-checked ck (x .2) (y .2) (z .2) e in Local-time.local-time (Time-hour.hour (x .4) (k .0)) (Time-minute.sixtieth (y .4) (k .1)) (Time-minute.sixtieth (z .4) (k .2)) (f .4)),
+        (λ e. let k = clock-checked ck (x .2) (y .2) (z .2) e in Local-time.local-time (Time-hour.hour (x .4) (k .0)) (Time-minute.sixtieth (y .4) (k .1))
+            (Time-minute.sixtieth (z .4) (k .2)) (f .4)),
         f .5,
       )
 
@@ -140,8 +146,11 @@ module _ (ck : Bool) where
     stamp-taken : (x : ℕ) (r : List ℕ) → Separator x → FieldRest 2 0 (Hour (on d)) r w → Taken ck (b ++ (x ∷ r)) w
     stamp-taken x r p k = let c = clock-of (on d) r w k in go (c .0) (c .1) (c .2) (c .3) (c .4) (c .5) (c .6) (c .7) (c .8 .0) (c .8 .1) (c .8 .2)
       where
-        go : (a e : List ℕ) (h m s n : ℕ) → r ≡ a ++ e → (Checked ck (okClock h m s ≡ true) → Local-time ck a (timeOfDay h m s n)) → Checked ck (okDate d ≡ true) → Checked ck (okClock h m s ≡ true) → ((e ≡ []) × (Meaning.time (LocalDateTime d (timeOfDay h m s n)) ≡ w)) ⊎ ((o : ℤ) × Time-offset ck e o × (Meaning.time (OffsetDateTime d (timeOfDay h m s n) o) ≡ w)) → Taken ck (b ++ (x ∷ r)) w
-        go a e h m s n q k i j (inl z) = time-by (ap (λ (l : List ℕ). b ++ (x ∷ l)) (q ∙ ap (λ (l : List ℕ). a ++ l) (z .0) ∙ append-nil a)) (z .1) (Time-value.local-date-time (made i) p (k j))
+        go : (a e : List ℕ) (h m s n : ℕ) → r ≡ a ++ e → (Checked ck (okClock h m s ≡ true) → Local-time ck a (timeOfDay h m s n))
+            → Checked ck (okDate d ≡ true) → Checked ck (okClock h m s ≡ true) → ((e ≡ []) × (Meaning.time (LocalDateTime d (timeOfDay h m s n)) ≡ w))
+            ⊎ ((o : ℤ) × Time-offset ck e o × (Meaning.time (OffsetDateTime d (timeOfDay h m s n) o) ≡ w)) → Taken ck (b ++ (x ∷ r)) w
+        go a e h m s n q k i j (inl z) = time-by (ap (λ (l : List ℕ). b ++ (x ∷ l)) (q ∙ ap (λ (l : List ℕ). a ++ l) (z .0) ∙ append-nil a)) (z .1)
+            (Time-value.local-date-time (made i) p (k j))
         go a e h m s n q k i j (inr z) = time-by (ap (λ (l : List ℕ). b ++ (x ∷ l)) q) (z .2) (Time-value.offset-date-time (made i) p (k j) (z .1))
 
     date-taken : (a : List ℕ) → DateRest d a w → Taken ck (b ++ a) w
@@ -157,4 +166,5 @@ module _ (ck : Bool) where
       let y = x .5 .2 in
       let z = y .5 .2 in
       taken-by (simp append-assoc (cc (x .3, x .5 .1, y .3, y .5 .1, z .3))) refl
-      (date-taken (x .0 ++ (ch "-" ∷ (y .0 ++ (ch "-" ∷ z .0)))) (dated (x .2) (y .2) (z .2)) w (λ e. Local-date.local-date (x .4) (y .4) (z .4) (by-check ck is-date e)) (z .1) (z .5))
+      (date-taken (x .0 ++ (ch "-" ∷ (y .0 ++ (ch "-" ∷ z .0)))) (dated (x .2) (y .2) (z .2)) w
+          (λ e. Local-date.local-date (x .4) (y .4) (z .4) (by-check ck is-date e)) (z .1) (z .5))

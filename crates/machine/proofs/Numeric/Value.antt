@@ -28,7 +28,8 @@ unfolding strip
 strip-is zero m z l h = absurd (omega arith)
 strip-is (suc n) m z l h = go (λ a b. strip-is n (m / 10) (suc z) a b) (eqb (m % 10) 0) refl
   where
-    go : (0 < m / 10 → m / 10 ≤ n → Stripped (m / 10) (suc z) (strip n (m / 10) (suc z))) → (x : Bool) → eqb (m % 10) 0 ≡ x → Stripped m z (cond x (strip n (m / 10) (suc z)) (m, z))
+    go : (0 < m / 10 → m / 10 ≤ n → Stripped (m / 10) (suc z) (strip n (m / 10) (suc z))) → (x : Bool) → eqb (m % 10) 0 ≡ x
+        → Stripped m z (cond x (strip n (m / 10) (suc z)) (m, z))
     go k true e =
         let f : m ≡ m / 10 * 10 = omega (arith, div-add-mod' m 10, eqb-true (m % 10) 0 e) in
         let r = k (omega arith) (omega (arith, div-lt-self {n = m} {k = 10} l (omega arith))) in
@@ -46,14 +47,18 @@ module _ (q : ℕ) (g : Bool) where
     ranged-is c u e n l = go (leb dn u) refl
       where
         up-go : dn ≤ u → (x : Bool) → leb (u - dn) powerLimit ≡ x → P (cond x (finite g c (pos (u - dn))) (breaks (BadNumber q)))
-        up-go h true f = let k : u ≡ u - dn + dn = omega arith in stop _ (Finite.whole (e ∙ ap (λ (x : ℕ). c * 10 ^ x) k ∙ sym (powers c (u - dn) dn)) n l (leb-true _ _ f))
+        up-go h true f = let k : u ≡ u - dn + dn = omega arith in stop _ (Finite.whole (e ∙ ap (λ (x : ℕ). c * 10 ^ x) k ∙ sym (powers c (u - dn) dn)) n l
+            (leb-true _ _ f))
         up-go h false f = no
 
         dn-go : u < dn → (x : Bool) → leb (dn - u) powerLimit ≡ x → P (cond x (finite g c (negsuc (dn - u - 1))) (breaks (BadNumber q)))
-        dn-go h true f = let k : u + suc (dn - u - 1) ≡ dn = omega arith in stop _ (Finite.part (ap (λ (x : ℕ). x * 10 ^ suc (dn - u - 1)) e ∙ powers c u (suc (dn - u - 1)) ∙ ap (λ (x : ℕ). c * 10 ^ x) k) n l (omega (arith, leb-true (dn - u) powerLimit f)))
+        dn-go h true f = let k : u + suc (dn - u - 1) ≡ dn = omega arith in stop _
+            (Finite.part (ap (λ (x : ℕ). x * 10 ^ suc (dn - u - 1)) e ∙ powers c u (suc (dn - u - 1)) ∙ ap (λ (x : ℕ). c * 10 ^ x) k) n l
+            (omega (arith, leb-true (dn - u) powerLimit f)))
         dn-go h false f = no
 
-        go : (x : Bool) → leb dn u ≡ x → P (cond x (cond (leb (u - dn) powerLimit) (finite g c (pos (u - dn))) (breaks (BadNumber q))) (cond (leb (dn - u) powerLimit) (finite g c (negsuc (dn - u - 1))) (breaks (BadNumber q))))
+        go : (x : Bool) → leb dn u ≡ x → P (cond x (cond (leb (u - dn) powerLimit) (finite g c (pos (u - dn))) (breaks (BadNumber q)))
+            (cond (leb (dn - u) powerLimit) (finite g c (negsuc (dn - u - 1))) (breaks (BadNumber q))))
         go true f = up-go (leb-true _ _ f) (leb (u - dn) powerLimit) refl
         go false f = dn-go (leb-false _ _ f) (leb (dn - u) powerLimit) refl
 
@@ -70,19 +75,23 @@ module _ (q : ℕ) (g : Bool) where
       where
         go : (x : Bool) → eqb m 0 ≡ x → P (cond x (finite g 0 (pos 0)) (checked q g (strip m m 0 .0) (strip m m 0 .1 + up) dn))
         go true f = stop _ (Finite.nought (eqb-true _ _ f))
-        go false f = let l : 0 < m = omega (arith, eqb-false m 0 f) in checked-is (strip m m 0 .0) (strip m m 0 .1 + up) (stripped m up l) (strip-is m m 0 l (omega arith) .1)
+        go false f = let l : 0 < m = omega (arith, eqb-false m 0 f) in checked-is (strip m m 0 .0) (strip m m 0 .1 + up) (stripped m up l)
+            (strip-is m m 0 l (omega arith) .1)
 
 -- out of the range too there is a coefficient and a power
 pub some-finite : (g : Bool) (m up dn : ℕ) → (x : Number) × Finite false g m up dn x
 some-finite g m up dn = go (eqb m 0) refl
   where
     by-power : (c u : ℕ) → m * 10 ^ up ≡ c * 10 ^ u → (c % 10 ≡ 0 → ⊥) → (x : Bool) → leb dn u ≡ x → (y : Number) × Finite false g m up dn y
-    by-power c u e n true f = let h = leb-true dn u f in let k : u ≡ u - dn + dn = omega arith in (_, Finite.whole (e ∙ ap (λ (x : ℕ). c * 10 ^ x) k ∙ sym (powers c (u - dn) dn)) n tt tt)
-    by-power c u e n false f = let h = leb-false dn u f in let k : u + suc (dn - u - 1) ≡ dn = omega arith in (_, Finite.part (ap (λ (x : ℕ). x * 10 ^ suc (dn - u - 1)) e ∙ powers c u (suc (dn - u - 1)) ∙ ap (λ (x : ℕ). c * 10 ^ x) k) n tt tt)
+    by-power c u e n true f = let h = leb-true dn u f in let k : u ≡ u - dn + dn = omega arith in
+        (_, Finite.whole (e ∙ ap (λ (x : ℕ). c * 10 ^ x) k ∙ sym (powers c (u - dn) dn)) n tt tt)
+    by-power c u e n false f = let h = leb-false dn u f in let k : u + suc (dn - u - 1) ≡ dn = omega arith in
+        (_, Finite.part (ap (λ (x : ℕ). x * 10 ^ suc (dn - u - 1)) e ∙ powers c u (suc (dn - u - 1)) ∙ ap (λ (x : ℕ). c * 10 ^ x) k) n tt tt)
 
     go : (x : Bool) → eqb m 0 ≡ x → (y : Number) × Finite false g m up dn y
     go true f = (_, Finite.nought (eqb-true _ _ f))
-    go false f = let l : 0 < m = omega (arith, eqb-false m 0 f) in by-power (strip m m 0 .0) (strip m m 0 .1 + up) (stripped m up l) (strip-is m m 0 l (omega arith) .1) (leb dn (strip m m 0 .1 + up)) refl
+    go false f = let l : 0 < m = omega (arith, eqb-false m 0 f) in by-power (strip m m 0 .0) (strip m m 0 .1 + up) (stripped m up l)
+        (strip-is m m 0 l (omega arith) .1) (leb dn (strip m m 0 .1 + up)) refl
 
 pub finite-by : (k : Bool) {g : Bool} {m up dn : ℕ} {w : Number} → Finite true g m up dn w → Finite k g m up dn w
 finite-by true h = h
@@ -98,7 +107,8 @@ module _ (m up d w : ℕ) (e : m * 10 ^ up ≡ d * 10 ^ w) (n : d % 10 ≡ 0 →
   pub only-one : (strip m m 0 .0 ≡ d) × (strip m m 0 .1 + up ≡ w)
   only-one = once (strip m m 0 .0) d (strip m m 0 .1 + up) w (sym (stripped m up positive) ∙ e) (strip-is m m 0 positive (omega arith) .1) n
 
-settle-by : (q : ℕ) (g : Bool) (m up dn d w : ℕ) (x : Res) → 0 < m → strip m m 0 .0 ≡ d → strip m m 0 .1 + up ≡ w → checked q g d w dn ≡ x → settle q g m up dn ≡ x
+settle-by : (q : ℕ) (g : Bool) (m up dn d w : ℕ) (x : Res) → 0 < m → strip m m 0 .0 ≡ d → strip m m 0 .1 + up ≡ w → checked q g d w dn ≡ x → settle q g m up dn
+    ≡ x
 unfolding settle
 settle-by q g m up dn d w x l e f h = rw (ne-eqb m 0 (λ z. omega arith), e, f) h
 

@@ -15,7 +15,8 @@ use Rattle.grammar.specs.Characters.{Hexdig, Digits, Hexadecimal}
 use Rattle.grammar.specs.Strings.{Quote, double, single, mark, three, joined, Escape, Up-to-two, Newline, No-newline}
 use Rattle.machine.specs.Scan.{Out, takes, over}
 use Rattle.machine.specs.Strings as S
-use Rattle.machine.specs.Strings.{St, Ctx, Bad, Half, mk, lost, badNow, give, wait, blame, scan, start, one, two, lines0, linesCR, lines, body, esc, uni, hex, brace0, brace, done, fine, spoilt, whole, half, hexOf, shortOf, begin}
+use Rattle.machine.specs.Strings.{St, Ctx, Bad, Half, mk, lost, badNow, give, wait, blame, scan, start, one, two, lines0, linesCR, lines, body, esc, uni,
+    hex, brace0, brace, done, fine, spoilt, whole, half, hexOf, shortOf, begin}
 use Rattle.machine.proofs.Runs.{OutIs}
 use Rattle.machine.proofs.Strings.Raw.{Plain, Body, Inner, Lines, Raw-part}
 use Rattle.machine.proofs.Strings.Tests.{by-bool, by-eqb, by-ltb, by-leb, hex-is, hex-small, short-is, short-of}
@@ -29,7 +30,8 @@ Tail j acc a v = (u : List ℕ) × Body true j a u × (acc ++ u ≡ v)
 abbrev pub Halved : Half → Quote → List ℕ → List ℕ → List ℕ → Type 0
 Halved whole j acc a v = Tail j acc a v
 Halved (half from h) j acc a v =
-    (ds : List ℕ) × (r : List ℕ) × (w : ℕ) × (a ≡ letters "\\u" ++ (ds ++ r)) × Hexadecimal 4 ds w × In 0xDC00 0xDFFF w × Tail j (acc ++ encode (joined h w)) r v
+    (ds : List ℕ) × (r : List ℕ) × (w : ℕ) × (a ≡ letters "\\u" ++ (ds ++ r)) × Hexadecimal 4 ds w × In 0xDC00 0xDFFF w
+        × Tail j (acc ++ encode (joined h w)) r v
 
 abbrev pub BodyRest : Ctx → List ℕ → List ℕ → Type 0
 BodyRest k a v = (j : Quote) → k .quote ≡ mark j → (k .bad ≡ fine) × Halved (k .high) j (k .acc) a v
@@ -48,8 +50,10 @@ PartRest (body k) a v = BodyRest k a v
 PartRest (esc k at) a v = BodyRest k (ch "\\" ∷ a) v
 PartRest (uni k at) a v = BodyRest k (letters "\\u" ++ a) v
 PartRest (hex k at n x) a v = (ds : List ℕ) × (r : List ℕ) × (w : ℕ) × (a ≡ ds ++ r) × Digits Hexdig 16 (suc n) x ds w × BodyRest (S.unit k at w (k .high)) r v
-PartRest (brace0 k at) a v = (d : ℕ) × (ds : List ℕ) × (r : List ℕ) × (w : ℕ) × (a ≡ ds ++ (ch "}" ∷ r)) × Digits Hexdig 16 (suc d) 0 ds w × BodyRest (S.inBraces k at w) r v
-PartRest (brace k at x) a v = (d : ℕ) × (ds : List ℕ) × (r : List ℕ) × (w : ℕ) × (a ≡ ds ++ (ch "}" ∷ r)) × Digits Hexdig 16 d x ds w × BodyRest (S.inBraces k at w) r v
+PartRest (brace0 k at) a v = (d : ℕ) × (ds : List ℕ) × (r : List ℕ) × (w : ℕ) × (a ≡ ds ++ (ch "}" ∷ r)) × Digits Hexdig 16 (suc d) 0 ds w
+    × BodyRest (S.inBraces k at w) r v
+PartRest (brace k at x) a v = (d : ℕ) × (ds : List ℕ) × (r : List ℕ) × (w : ℕ) × (a ≡ ds ++ (ch "}" ∷ r)) × Digits Hexdig 16 d x ds w
+    × BodyRest (S.inBraces k at w) r v
 PartRest (done k) a v = (a ≡ []) × (k .acc ≡ v) × (badNow k ≡ fine)
 
 abbrev Is : St → ℕ → Out St (List ℕ) → Type 0
@@ -105,18 +109,22 @@ body-is p k b s f =
 -- ---- units
 
 pub four-small : {a : List ℕ} {w : ℕ} → Hexadecimal 4 a w → w < 0x10000
-four-small (Digits.next x₁ (Digits.next x₂ (Digits.next x₃ (Digits.next x₄ Digits.over)))) = omega (arith, hex-small x₁, hex-small x₂, hex-small x₃, hex-small x₄)
+four-small (Digits.next x₁ (Digits.next x₂ (Digits.next x₃ (Digits.next x₄ Digits.over)))) =
+    omega (arith, hex-small x₁, hex-small x₂, hex-small x₃, hex-small x₄)
 
-wait-back : (k : Ctx) (at w : ℕ) {ds : List ℕ} → Hexadecimal 4 ds w → In 0xD800 0xDBFF w → (r v : List ℕ) → BodyRest (wait k at w) r v → BodyRest k (letters "\\u" ++ (ds ++ r)) v
+wait-back : (k : Ctx) (at w : ℕ) {ds : List ℕ} → Hexadecimal 4 ds w → In 0xD800 0xDBFF w → (r v : List ℕ) → BodyRest (wait k at w) r v
+    → BodyRest k (letters "\\u" ++ (ds ++ r)) v
 wait-back k at w {ds} x i r v f j q = go (k .high) (f j q .0) (f j q .1)
   where
     go : (h : Half) → lost (k .bad) h ≡ fine → Halved (half at w) j (k .acc) r v → (k .bad ≡ fine) × Halved h j (k .acc) (letters "\\u" ++ (ds ++ r)) v
     go whole b t =
         let u = t .6 in
-        (b, (encode (joined w (t .2)) ++ u .0, rw (t .3, ← append-assoc ds (letters "\\u" ++ t .0) (t .1)) (Body.escaped (Escape.pair x i (t .4) (t .5)) (u .1)), rw append-assoc at (u .2)))
+        (b, (encode (joined w (t .2)) ++ u .0, rw (t .3, ← append-assoc ds (letters "\\u" ++ t .0) (t .1))
+            (Body.escaped (Escape.pair x i (t .4) (t .5)) (u .1)), rw append-assoc at (u .2)))
     go (half from h) b t = absurd (spoilt-not (k .bad) from b)
 
-alone-back : (k : Ctx) (at w : ℕ) {ds : List ℕ} → Hexadecimal 4 ds w → (r v : List ℕ) → BodyRest (S.alone k at w) r v → BodyRest k (letters "\\u" ++ (ds ++ r)) v
+alone-back : (k : Ctx) (at w : ℕ) {ds : List ℕ} → Hexadecimal 4 ds w → (r v : List ℕ) → BodyRest (S.alone k at w) r v
+    → BodyRest k (letters "\\u" ++ (ds ++ r)) v
 unfolding S.alone
 alone-back k at w {ds} x r v =
     let s = four-small x in
@@ -127,11 +135,13 @@ alone-back k at w {ds} x r v =
     Q : Ctx → Type 0
     Q c = BodyRest c r v → BodyRest k (letters "\\u" ++ (ds ++ r)) v
 
-unit-back : (k : Ctx) (at w : ℕ) {ds : List ℕ} → Hexadecimal 4 ds w → (r v : List ℕ) → BodyRest (S.unit k at w (k .high)) r v → BodyRest k (letters "\\u" ++ (ds ++ r)) v
+unit-back : (k : Ctx) (at w : ℕ) {ds : List ℕ} → Hexadecimal 4 ds w → (r v : List ℕ) → BodyRest (S.unit k at w (k .high)) r v
+    → BodyRest k (letters "\\u" ++ (ds ++ r)) v
 unfolding S.unit
 unit-back k at w {ds} x r v = go (k .high)
   where
-    go : (h : Half) → BodyRest (S.unit (mk (k .quote) (k .bad) h (k .acc)) at w h) r v → BodyRest (mk (k .quote) (k .bad) h (k .acc)) (letters "\\u" ++ (ds ++ r)) v
+    go : (h : Half) → BodyRest (S.unit (mk (k .quote) (k .bad) h (k .acc)) at w h) r v
+        → BodyRest (mk (k .quote) (k .bad) h (k .acc)) (letters "\\u" ++ (ds ++ r)) v
     go whole = alone-back (mk (k .quote) (k .bad) whole (k .acc)) at w x r v
     go (half from h) =
         let k' = mk (k .quote) (k .bad) (half from h) (k .acc) in
@@ -139,7 +149,8 @@ unit-back k at w {ds} x r v = go (k .high)
         by-ltb Q w 0xDC00 _ _ (λ l. alone-back k' at w x r v) λ l₁.
         by-ltb Q w 0xE000 _ _ (λ l f j q. (f j q .0, (ds, r, w, refl, x, omega arith, f j q .1))) (λ l. alone-back k' at w x r v)
 
-braces-back : (k : Ctx) (at d w : ℕ) (ds : List ℕ) → Hexadecimal (suc d) ds w → (r v : List ℕ) → BodyRest (S.inBraces k at w) r v → BodyRest k (letters "\\u{" ++ (ds ++ (ch "}" ∷ r))) v
+braces-back : (k : Ctx) (at d w : ℕ) (ds : List ℕ) → Hexadecimal (suc d) ds w → (r v : List ℕ) → BodyRest (S.inBraces k at w) r v
+    → BodyRest k (letters "\\u{" ++ (ds ++ (ch "}" ∷ r))) v
 unfolding S.inBraces
 braces-back k at d w ds x r v =
     by-ltb Q w 0xD800 _ _ (λ h. give-it (record { top = omega arith; whole = inl h })) λ h₁.
@@ -173,7 +184,8 @@ lines-is p q n acc b s f =
     (λ m a v h. f a v (λ j i l. let t = h j i (omega arith) in (t .0, rw e (rw (one-more n q a) at (t .1)), t .2)))) λ m.
     by-bool (Is s b) (S.lineByte b) _ _
     (λ e a v h. f a v (λ j i l. let t = h j i (omega arith) in
-    (replicate n q ++ (b ∷ t .0), Lines.byte {s = replicate n q} (rw i (up-to-two n j l)) (record { no-end = λ z. m (z ∙ sym i); may = e }) (t .1), simp append-assoc at (t .2))))
+    (replicate n q ++ (b ∷ t .0), Lines.byte {s = replicate n q} (rw i (up-to-two n j l)) (record { no-end = λ z. m (z ∙ sym i); may = e }) (t .1),
+        simp append-assoc at (t .2))))
     (λ e. tt)
 
 -- ---- every state
@@ -203,17 +215,21 @@ part-is p (two q) b = by-eqb (Is (two q) b) b q _ _ (λ e a v h j i. rw (e ∙ i
 part-is p (lines0 q) b =
     by-eqb (Is (lines0 q) b) b 10 _ _ (λ e a v h j i. let t = h j i (omega arith) in rw e (by-value (t .2) (Raw-part.trimmed j Newline.line-feed (t .1)))) λ n.
     by-eqb (Is (lines0 q) b) b 13 _ _ (λ e a v h j i. rw e (h j i))
-    (λ m. lines-is p q 0 [] b (lines0 q) (λ a v h j i. let t = h j i (omega arith) in by-value (t .2) (Raw-part.multiline j (t .1) (No-newline.other-byte n m))))
+    (λ m. lines-is p q 0 [] b (lines0 q) (λ a v h j i. let t = h j i (omega arith) in
+        by-value (t .2) (Raw-part.multiline j (t .1) (No-newline.other-byte n m))))
 part-is p (linesCR q) b =
-    by-eqb (Is (linesCR q) b) b 10 _ _ (λ e a v h j i. let t = h j i (omega arith) in rw e (by-value (t .2) (Raw-part.trimmed j Newline.return-line-feed (t .1))))
+    by-eqb (Is (linesCR q) b) b 10 _ _ (λ e a v h j i. let t = h j i (omega arith) in
+        rw e (by-value (t .2) (Raw-part.trimmed j Newline.return-line-feed (t .1))))
     (λ n. lines-is p q 0 (letters "\r") b (linesCR q)
-    (λ a v h j i. let t = h j i (omega arith) in by-value (t .2) (Raw-part.multiline j (Lines.byte Up-to-two.no-quote (inner-return j) (t .1)) (No-newline.return-before n))))
+    (λ a v h j i. let t = h j i (omega arith) in by-value (t .2) (Raw-part.multiline j (Lines.byte Up-to-two.no-quote (inner-return j) (t .1))
+        (No-newline.return-before n))))
 part-is p (lines q n acc) b = lines-is p q n acc b (lines q n acc) (λ a v h. h)
 part-is p (body k) b = body-is p k b (body k) (λ a v h. h)
 part-is p (esc k at) b =
     by-eqb (Is (esc k at) b) b 0x75 _ _ (λ e a v h. rw e h)
     (λ n. by-ltb (Is (esc k at) b) (shortOf b) 256 _ _
-    (λ l a v h. let s = short-of (short-is b l) in escape-back k (b ∷ []) (shortOf b ∷ []) (Escape.short (short-is b l)) a v (rw (row-1 (shortOf b) (omega arith)) at h)) (λ l. tt))
+    (λ l a v h. let s = short-of (short-is b l) in escape-back k (b ∷ []) (shortOf b ∷ []) (Escape.short (short-is b l)) a v
+        (rw (row-1 (shortOf b) (omega arith)) at h)) (λ l. tt))
 part-is p (uni k at) b =
     by-eqb (Is (uni k at) b) b 0x7B _ _ (λ e a v h. rw (e, h .4) (braces-back k at (h .0) (h .3) (h .1) (h .5) (h .2) v (h .6)))
     (λ n. digit-is (uni k at) b _ _ (λ x a v h. rw (h .3) (unit-back k at (h .2) (Digits.next x (h .4)) (h .1) v (h .5))) tt)

@@ -13,10 +13,12 @@ use Rattle.rules.proofs.Characters.{Each, all-none, all-more, each-map, High, l
 use Rattle.rules.proofs.Numbers.{row-1, row-2, row-3, row-4, encoded}
 use Rattle.meaning.specs.Letters.{letters, ch}
 use Rattle.grammar.specs.Characters.{Of, Among, Many, Hexdig, Digits, Hexadecimal}
-use Rattle.grammar.specs.Strings.{Quote, double, single, mark, other, three, Chars, Quoted, joined, Escape, unescaped, Up-to-two, source, M-char, Newline, No-newline, String-part}
+use Rattle.grammar.specs.Strings.{Quote, double, single, mark, other, three, Chars, Quoted, joined, Escape, unescaped, Up-to-two, source, M-char, Newline,
+    No-newline, String-part}
 use Rattle.machine.specs.Scan.{Out, takes, over}
 use Rattle.machine.specs.Strings as S
-use Rattle.machine.specs.Strings.{St, Ctx, Half, mk, give, wait, scan, start, one, two, lines0, linesCR, lines, body, esc, uni, hex, brace, done, fine, whole, half, hexOf, begin}
+use Rattle.machine.specs.Strings.{St, Ctx, Half, mk, give, wait, scan, start, one, two, lines0, linesCR, lines, body, esc, uni, hex, brace, done, fine,
+    whole, half, hexOf, begin}
 use Rattle.machine.proofs.Runs.{PartEnds, adv, Goes, took, halts, Steps, eats, steps-join, steps-go}
 use Rattle.machine.proofs.Strings.Raw.{Plain, Inner}
 use Rattle.machine.proofs.Strings.Quotes.{mark-ascii, mark-high, between, between-other, line-ranges, line-of}
@@ -74,14 +76,17 @@ hex-step : {b x : ℕ} → Hexdig b x → (p : ℕ) (k : Ctx) (at n v : ℕ) →
 unfolding S.onHex
 hex-step {b} {x} h p k at n v = rw (hex-of h, lt-ltb x 16 (hex-small h))
 
-unit-steps : {n v w : ℕ} {a : List ℕ} → Digits Hexdig 16 (suc n) v a w → (p : ℕ) (k : Ctx) (at : ℕ) (s : Ctx) → S.unit k at w (k .high) ≡ s → Run p (hex k at n v) a (body s)
+unit-steps : {n v w : ℕ} {a : List ℕ} → Digits Hexdig 16 (suc n) v a w → (p : ℕ) (k : Ctx) (at : ℕ) (s : Ctx) → S.unit k at w (k .high) ≡ s
+    → Run p (hex k at n v) a (body s)
 unfolding scan S.hexed
 unit-steps (Digits.next {v = v} h Digits.over) p k at s e = eats scan Steps.stay (hex-step h p k at 0 v ∙ ap (λ (c : Ctx). takes (body c)) e)
-unit-steps (Digits.next {v = v} h (Digits.next {n = n} g x)) p k at s e = eats scan (unit-steps (Digits.next g x) (suc p) k at s e) (hex-step h p k at (suc n) v)
+unit-steps (Digits.next {v = v} h (Digits.next {n = n} g x)) p k at s e = eats scan (unit-steps (Digits.next g x) (suc p) k at s e)
+    (hex-step h p k at (suc n) v)
 
 pub uni-steps : {w : ℕ} {a : List ℕ} → Hexadecimal 4 a w → (p : ℕ) (k : Ctx) (at : ℕ) (s : Ctx) → S.unit k at w (k .high) ≡ s → Run p (uni k at) a (body s)
 unfolding scan S.hexed
-uni-steps (Digits.next {b = b} h x) p k at s e = let u = hex-ascii h in eats scan (unit-steps x (suc p) k at s e) (rw (ne-eqb b 0x7B (omega arith)) (hex-step h p k at 3 0))
+uni-steps (Digits.next {b = b} h x) p k at s e = let u = hex-ascii h in eats scan (unit-steps x (suc p) k at s e)
+    (rw (ne-eqb b 0x7B (omega arith)) (hex-step h p k at 3 0))
 
 alone-scalar : {w : ℕ} → Scalar w → (k : Ctx) (at : ℕ) → S.alone k at w ≡ give k (encode w)
 unfolding S.alone
@@ -124,7 +129,8 @@ brace-step {b} {x} h p k at v = rw (hex-of h, lt-ltb x 16 (hex-small h))
 pub brace-steps : {n v w : ℕ} {a : List ℕ} → Digits Hexdig 16 n v a w → (p : ℕ) (k : Ctx) (at : ℕ) → Run p (brace k at v) a (brace k at w)
 unfolding scan
 brace-steps Digits.over p k at = Steps.stay
-brace-steps (Digits.next {v = v} {b = b} h x) p k at = let u = hex-ascii h in eats scan (brace-steps x (suc p) k at) (rw (ne-eqb b 0x7D (omega arith)) (brace-step h p k at v))
+brace-steps (Digits.next {v = v} {b = b} h x) p k at = let u = hex-ascii h in eats scan (brace-steps x (suc p) k at)
+    (rw (ne-eqb b 0x7D (omega arith)) (brace-step h p k at v))
 
 pub back-step : (p : ℕ) (k : Ctx) → scan p (body k) (ch "\\") ≡ takes (esc k p)
 unfolding scan S.onBody
@@ -158,14 +164,17 @@ plain-steps all-none p acc = rw append-nil Steps.stay
 plain-steps (all-more {b = b} x y) p acc = eats scan (rw append-assoc at (plain-steps y (suc p) (acc ++ (b ∷ [])))) (plain-step x p acc)
 
 pub plain-each : (q : Quote) (n : ℕ) → Scalar n → Of unescaped n → Each (Plain (mark q)) (encode n)
-plain-each q n s o = encode-each (Plain (mark q)) n s (λ h. let x = between q 0x10FFFF n (omega arith) o in omega arith) (λ b h. let i = mark-ascii q in omega arith)
+plain-each q n s o = encode-each (Plain (mark q)) n s (λ h. let x = between q 0x10FFFF n (omega arith) o in omega arith)
+    (λ b h. let i = mark-ascii q in omega arith)
 
-pub chars-steps : {q : Quote} {a u : List ℕ} → Chars (Among unescaped) (Escape true) q a u → (p : ℕ) (acc : List ℕ) → Run p (body (clear (mark q) acc)) a (body (clear (mark q) (acc ++ u)))
+pub chars-steps : {q : Quote} {a u : List ℕ} → Chars (Among unescaped) (Escape true) q a u → (p : ℕ) (acc : List ℕ)
+    → Run p (body (clear (mark q) acc)) a (body (clear (mark q) (acc ++ u)))
 chars-steps Chars.none p acc = rw append-nil Steps.stay
 chars-steps {q} (Chars.plain (Among.character {n = n} s o) y) p acc =
     steps-join scan (plain-steps (plain-each q n s o) p acc) (rw append-assoc at (chars-steps y (adv p (encode n)) (acc ++ encode n)))
 chars-steps {q} (Chars.escaped {e = e} {v = v} x y) p acc =
-    eats scan (steps-join scan (escape-steps x (suc p) (clear (mark q) acc) p) (rw append-assoc at (chars-steps y (adv (suc p) e) (acc ++ v)))) (back-step p (clear (mark q) acc))
+    eats scan (steps-join scan (escape-steps x (suc p) (clear (mark q) acc) p) (rw append-assoc at (chars-steps y (adv (suc p) e) (acc ++ v))))
+        (back-step p (clear (mark q) acc))
 chars-steps {q} (Chars.other-quote y) p acc =
     eats scan (rw append-assoc at (chars-steps y (suc p) (acc ++ (mark (other q) ∷ [])))) (plain-step (between-other q 0xFF (omega arith)) p acc)
 
@@ -184,7 +193,8 @@ unfolding scan S.onBody
 close-goes double p acc = took scan (halts scan (λ b e. refl)) refl
 close-goes single p acc = took scan (halts scan (λ b e. refl)) refl
 
-body-goes : {q : Quote} {a u : List ℕ} → Chars (Among unescaped) (Escape true) q a u → (p : ℕ) (acc : List ℕ) → Ran p (body (clear (mark q) acc)) (a ++ (mark q ∷ [])) (acc ++ u)
+body-goes : {q : Quote} {a u : List ℕ} → Chars (Among unescaped) (Escape true) q a u → (p : ℕ) (acc : List ℕ)
+    → Ran p (body (clear (mark q) acc)) (a ++ (mark q ∷ [])) (acc ++ u)
 body-goes {q} {a} {u} x p acc = steps-go scan (chars-steps x p acc) (close-goes q (adv p a) (acc ++ u))
 
 -- after the opening quote, a byte that is no quote does what it does in the body
@@ -240,13 +250,15 @@ inner-of m n l (inr (inr (inr (inr (inl i))))) h = record { no-end = omega arith
 
 inner-each : (q : Quote) (n : ℕ) → Scalar n → Of (source q) n → Each (Inner (mark q)) (encode n)
 inner-each q n s o =
-    encode-each (Inner (mark q)) n s (inner-of (mark q) n (mark-high q) (line-of q n o)) (λ b h. let i = mark-ascii q in record { no-end = omega arith; may = line-high b (omega arith) (omega arith) })
+    encode-each (Inner (mark q)) n s (inner-of (mark q) n (mark-high q) (line-of q n o))
+        (λ b h. let i = mark-ascii q in record { no-end = omega arith; may = line-high b (omega arith) (omega arith) })
 
 line-step : {q b : ℕ} → Inner q b → (p n : ℕ) (acc : List ℕ) → scan p (lines q n acc) b ≡ takes (lines q 0 (acc ++ (replicate n q ++ (b ∷ []))))
 unfolding scan S.onLines
 line-step {q} {b} x p n acc = rw (ne-eqb b q (x .no-end), x .may)
 
-quote-step : (q : Quote) (p : ℕ) (acc : List ℕ) → (scan p (lines (mark q) 0 acc) (mark q) ≡ takes (lines (mark q) 1 acc)) × (scan p (lines (mark q) 1 acc) (mark q) ≡ takes (lines (mark q) 2 acc)) × (scan p (lines (mark q) 2 acc) (mark q) ≡ takes (done (clear (mark q) acc)))
+quote-step : (q : Quote) (p : ℕ) (acc : List ℕ) → (scan p (lines (mark q) 0 acc) (mark q) ≡ takes (lines (mark q) 1 acc))
+    × (scan p (lines (mark q) 1 acc) (mark q) ≡ takes (lines (mark q) 2 acc)) × (scan p (lines (mark q) 2 acc) (mark q) ≡ takes (done (clear (mark q) acc)))
 unfolding scan S.onLines
 quote-step double p acc = (refl, refl, refl)
 quote-step single p acc = (refl, refl, refl)
@@ -278,7 +290,8 @@ many-steps (Many.more {c = c} x y) p acc = steps-join scan (m-char-steps x p acc
 
 three-goes : (q : Quote) (p : ℕ) (acc : List ℕ) → Ran p (lines (mark q) 0 acc) (three q) acc
 unfolding scan
-three-goes q p acc = took scan (took scan (took scan (halts scan (λ b e. refl)) (quote-step q (suc (suc p)) acc .2)) (quote-step q (suc p) acc .1)) (quote-step q p acc .0)
+three-goes q p acc = took scan (took scan (took scan (halts scan (λ b e. refl)) (quote-step q (suc (suc p)) acc .2)) (quote-step q (suc p) acc .1))
+    (quote-step q p acc .0)
 
 lines-goes : {q : Quote} {a : List ℕ} → Many (M-char q) a → (p : ℕ) (acc : List ℕ) → Ran p (lines (mark q) 0 acc) (a ++ three q) (acc ++ a)
 lines-goes {q} {a} x p acc = steps-go scan (many-steps x p acc) (three-goes q (adv p a) (acc ++ a))
@@ -308,7 +321,8 @@ to-return q p = refl
 opening-goes : (q : Quote) {a v : List ℕ} → No-newline a → (p : ℕ) → Ran p (lines (mark q) 0 []) (a ++ three q) v → Ran p (lines0 (mark q)) (a ++ three q) v
 opening-goes q No-newline.empty p x = same (opening-step (mark q) (no-return q .0) (no-return q .1) p) x
 opening-goes q (No-newline.other-byte h g) p x = same (opening-step (mark q) h g p) x
-opening-goes q No-newline.lone-return p x = took scan (same (return-step (mark q) (no-return q .0) (suc p)) (further (keep-return q p) x)) (to-return (mark q) p)
+opening-goes q No-newline.lone-return p x = took scan (same (return-step (mark q) (no-return q .0) (suc p)) (further (keep-return q p) x))
+    (to-return (mark q) p)
 opening-goes q (No-newline.return-before h) p x = took scan (same (return-step (mark q) h (suc p)) (further (keep-return q p) x)) (to-return (mark q) p)
 
 opened : (q : Quote) {a v : List ℕ} (p : ℕ) → Ran (suc (suc (suc p))) (lines0 (mark q)) a v → Ran p start (three q ++ a) v

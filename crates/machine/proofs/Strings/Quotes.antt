@@ -68,7 +68,8 @@ other-or single {hi} {b} x = go (ℕ-discrete b 0x22)
 
 -- one more byte between two quotes q
 module _ {P : List ℕ → Type 0} {E : List ℕ → List ℕ → Type 0} where
-  pub plain-char : (q : Quote) (hi : ℕ) {b : ℕ} → Between hi (mark q) b → (Of (ranges hi) b → P (b ∷ [])) → {a u : List ℕ} → Chars P E q a u → Chars P E q (b ∷ a) (b ∷ u)
+  pub plain-char : (q : Quote) (hi : ℕ) {b : ℕ} → Between hi (mark q) b → (Of (ranges hi) b → P (b ∷ [])) → {a u : List ℕ} → Chars P E q a u
+      → Chars P E q (b ∷ a) (b ∷ u)
   plain-char q hi {b} x f {a} {u} y = go (other-or q x)
     where
       go : (b ≡ mark (other q)) ⊎ Of (ranges hi) b → Chars P E q (b ∷ a) (b ∷ u)

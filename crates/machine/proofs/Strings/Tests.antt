@@ -40,7 +40,8 @@ unfolding hexOf
 hex-of {b} (Hexdig.decimal w) = simp (le-ltb b 0x30 (w .low), le-leb b 0x39 (w .high))
 hex-of {b} (Hexdig.upper w) = simp (le-ltb b 0x30 (omega arith), lt-leb b 0x39 (omega arith), le-ltb b 0x41 (w .low), le-leb b 0x46 (w .high))
 hex-of {b} (Hexdig.lower w) =
-    simp (le-ltb b 0x30 (omega arith), lt-leb b 0x39 (omega arith), le-ltb b 0x41 (omega arith), lt-leb b 0x46 (omega arith), le-ltb b 0x61 (w .low), le-leb b 0x66 (w .high))
+    simp (le-ltb b 0x30 (omega arith), lt-leb b 0x39 (omega arith), le-ltb b 0x41 (omega arith), lt-leb b 0x46 (omega arith), le-ltb b 0x61 (w .low),
+        le-leb b 0x66 (w .high))
 
 pub hex-small : {b x : ℕ} → Hexdig b x → x < 16
 hex-small (Hexdig.decimal w) = omega arith
@@ -110,7 +111,8 @@ short-is b =
 -- ---- what may come after a part
 
 -- what each of these bytes has, every byte has that may come after a part
-pub ends-all : (P : ℕ → Type 0) → P (ch " ") × P (ch "\t") × P (ch "\n") × P (ch "\r") × P (ch "#") × P (ch "/") × P (ch ",") × P (ch "]") × P (ch "}") × P over × P (ch "+") × P (ch ":") → {b : ℕ} → PartEnds b → P b
+pub ends-all : (P : ℕ → Type 0) → P (ch " ") × P (ch "\t") × P (ch "\n") × P (ch "\r") × P (ch "#") × P (ch "/") × P (ch ",") × P (ch "]") × P (ch "}") × P over
+    × P (ch "+") × P (ch ":") → {b : ℕ} → PartEnds b → P b
 ends-all P f (PartEnds.ends (EndsItem.blank Blank.space)) = f .0
 ends-all P f (PartEnds.ends (EndsItem.blank Blank.tab)) = f .1
 ends-all P f (PartEnds.ends (EndsItem.blank Blank.line-feed)) = f .2

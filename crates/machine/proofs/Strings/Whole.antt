@@ -24,8 +24,10 @@ no-high q h e = let i = mark-ascii q in omega arith
 escape-ascii : {k : Bool} {e v : List ℕ} → Escape k e v → Each Ascii e
 escape-ascii (Escape.short {b = b} x) = let i = short-of x in all-more {b = b} (omega arith) all-none
 escape-ascii (Escape.unit x s) = all-more {b = ch "u"} (omega arith) (digits-ascii x)
-escape-ascii (Escape.pair x i y j) = all-more {b = ch "u"} (omega arith) (each-join (digits-ascii x) (all-more {b = ch "\\"} (omega arith) (all-more {b = ch "u"} (omega arith) (digits-ascii y))))
-escape-ascii (Escape.braced x s) = all-more {b = ch "u"} (omega arith) (all-more {b = ch "{"} (omega arith) (each-join (digits-ascii x) (all-more {b = ch "}"} (omega arith) all-none)))
+escape-ascii (Escape.pair x i y j) = all-more {b = ch "u"} (omega arith) (each-join
+    (digits-ascii x) (all-more {b = ch "\\"} (omega arith) (all-more {b = ch "u"} (omega arith) (digits-ascii y))))
+escape-ascii (Escape.braced x s) = all-more {b = ch "u"} (omega arith) (all-more {b = ch "{"} (omega arith)
+    (each-join (digits-ascii x) (all-more {b = ch "}"} (omega arith) all-none)))
 
 -- ---- one line
 
@@ -54,14 +56,16 @@ body-of {k} {q} (Body.plain {b = b} {a = a} {u = u} x y) [] t e all-none o = go 
     go : ((c t : List ℕ) → a ≡ c ++ t → Each High c → Octets t → Split k q c t u) → (Ascii b × Octets a) ⊎ Long b a → Split k q [] t (b ∷ u)
     go f (inl i) =
         let s = f [] a refl all-none (i .1) in
-        record { value = b ∷ s .value; inner = b ∷ s .inner; means = rw (s .means); is = sym e ∙ ap {B = List ℕ} (λ (l : List ℕ). b ∷ l) (s .is); chars = plain-char q 0x10FFFF (wider x) (ascii-among unescaped b (i .0)) (s .chars) }
+        record { value = b ∷ s .value; inner = b ∷ s .inner; means = rw (s .means); is = sym e ∙ ap {B = List ℕ} (λ (l : List ℕ). b ∷ l) (s .is); chars =
+            plain-char q 0x10FFFF (wider x) (ascii-among unescaped b (i .0)) (s .chars) }
     go f (inr l) =
         let s = f (l .rest) (l .then) (l .is) (l .all) (l .good) in
         record {
           value = (b ∷ l .rest) ++ s .value;
           inner = (b ∷ l .rest) ++ s .inner;
           means = rw (s .means);
-          is = sym e ∙ ap {B = List ℕ} (λ (l : List ℕ). b ∷ l) (l .is ∙ ap {B = List ℕ} (λ (z : List ℕ). l .rest ++ z) (s .is) ∙ sym (append-assoc (l .rest) (s .inner) (mark q ∷ [])));
+          is = sym e ∙ ap {B = List ℕ} (λ (l : List ℕ). b ∷ l) (l .is ∙ ap {B = List ℕ} (λ (z : List ℕ). l .rest ++ z) (s .is)
+              ∙ sym (append-assoc (l .rest) (s .inner) (mark q ∷ [])));
           chars = Chars.plain (long-among unescaped (l .char) (l .first) unescaped-high) (s .chars);
         }
 body-of (Body.plain {b = b} x y) (d ∷ c) t e (all-more h z) o =
@@ -73,7 +77,9 @@ body-of {q = q} (Body.escaped {e = w} {v = v} {a = a} x y) [] t e all-none o =
       value = v ++ s .value;
       inner = ch "\\" ∷ (w ++ s .inner);
       means = ap {B = List ℕ} (λ (z : List ℕ). v ++ z) (s .means);
-      is = sym e ∙ ap {B = List ℕ} (λ (z : List ℕ). ch "\\" ∷ (w ++ z)) (s .is) ∙ ap {B = List ℕ} (λ (z : List ℕ). ch "\\" ∷ z) (sym (append-assoc w (s .inner) (mark q ∷ [])));
+      is = sym e
+          ∙ ap {B = List ℕ}
+          (λ (z : List ℕ). ch "\\" ∷ (w ++ z)) (s .is) ∙ ap {B = List ℕ} (λ (z : List ℕ). ch "\\" ∷ z) (sym (append-assoc w (s .inner) (mark q ∷ [])));
       chars = Chars.escaped x (s .chars);
     }
 body-of (Body.escaped x y) (d ∷ c) t e (all-more h z) o = let f = same-head e in absurd (omega arith)

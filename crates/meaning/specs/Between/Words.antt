@@ -1,10 +1,11 @@
--- A record's sixteen bytes as four numbers of 2, 2, 4 and 8 bytes, as code reads and writes them; that they are the bytes
--- of `Tape.recordBytes` is proved (`proofs/Records.antt`), not believed. Assumes nothing.
+-- A record's sixteen bytes as four numbers of 2, 2, 4 and 8 bytes, as code reads and writes them; that they are the
+-- bytes of `Tape.recordBytes` is proved (`proofs/Records.antt`), not believed. Assumes nothing.
 pub use Rattle.meaning.specs.Look.{FitDate, Fit}
 use mathlib.Core.Bool.{true, false}
 use mathlib.Core.List.{List, _++_}
+use lib.ListN.{getD}
 use Prim.Native.Char.{Char}
-use Prim.Native.Nat.{ℕ, _+_, _*_, _<_, _^_}
+use Prim.Native.Nat.{ℕ, zero, suc, _+_, _*_, _<_, _^_}
 use mir.Syntax.{w16, w32}
 use mir.Val.{ofZ, SFits}
 use Rattle.meaning.specs.declared.Number.the-variants.{Finite, NotANumber, Infinite}
@@ -13,6 +14,11 @@ use Rattle.meaning.specs.declared.Time.the-variants.{LocalDate, LocalTim
 use Rattle.meaning.specs.declared.Record.{Record}
 use Rattle.meaning.specs.Letters.{ch}
 use Rattle.meaning.specs.Bytes.{le, flag}
+
+-- the number in the w bytes from place i
+unfoldable pub get : ℕ → List ℕ → ℕ → ℕ
+get zero s i = 0
+get (suc w) s i = get w s (i + 1) * 256 + getD s i 0
 
 abbrev pub mark : Char → Char → ℕ
 mark a b = ch a + ch b * 256

@@ -40,7 +40,8 @@ pub record Beside (o q p b : ℕ) : Type 0 where
 
 -- each of the n bytes after the three at the place `at` may follow the three before it
 pub record Clean (s : List ℕ) (at n : ℕ) : Type 0 where
-  pub each : (k : ℕ) → k < n → Beside (getD s (at + k) 0) (getD s (at + k + 1) 0) (getD s (at + k + 2) 0) (getD s (at + k + 3) 0)
+  pub each : (k : ℕ) → k < n → Beside (getD s (at + k) 0) (getD s (at + k + 1) 0) (getD s (at + k + 2) 0)
+      (getD s (at + k + 3) 0)
 
 -- none of the n bytes after the three at the place `at` is above F4
 pub record Topped (s : List ℕ) (at n : ℕ) : Type 0 where
@@ -52,11 +53,12 @@ pub data BlockIs (s : List ℕ) (at : ℕ) : Block → Type 0 where
   wide : Clean s at 32 → Topped s at 32 → BlockIs s at Wide
   faulty : BlockIs s at Faulty
 
--- all is UTF-8 up to the beginning of the last character before the place h + 3, and that character is one as far as it goes:
--- it has ended there, or one, two or three of its bytes stand before that place
+-- all is UTF-8 up to the beginning of the last character before the place h + 3, and that character is one as far as it
+-- goes: it has ended there, or one, two or three of its bytes stand before that place
 pub data Open (s : List ℕ) (h : ℕ) : Type 0 where
   whole : Passed s (h + 3) → getD s h 0 < 0xF0 → getD s (h + 1) 0 < 0xE0 → getD s (h + 2) 0 < 0xC0 → Open s h
-  one : Passed s (h + 2) → h + 3 ≤ length s → getD s (h + 1) 0 < 0xF0 → 0xC2 ≤ getD s (h + 2) 0 → getD s (h + 2) 0 ≤ 0xF4 → Open s h
+  one : Passed s (h + 2) → h + 3 ≤ length s → getD s (h + 1) 0 < 0xF0 → 0xC2 ≤ getD s (h + 2) 0
+      → getD s (h + 2) 0 ≤ 0xF4 → Open s h
   two : Passed s (h + 1) → h + 3 ≤ length s → 0xE0 ≤ getD s (h + 1) 0 → getD s (h + 1) 0 ≤ 0xF4
       → lowOf (getD s (h + 1) 0) ≤ getD s (h + 2) 0 → getD s (h + 2) 0 ≤ highOf (getD s (h + 1) 0) → Open s h
   three : Passed s h → h + 3 ≤ length s → 0xF0 ≤ getD s h 0 → getD s h 0 ≤ 0xF4

@@ -5,7 +5,7 @@ use Prim.Native.Nat.{ℕ, _+_, _≤_, _<_}
 use lib.Dec.{eqb}
 use lib.ListN.{length, getD, take, drop}
 use Rattle.rules.specs.Rfc3629.{Char, NoChar, Octets}
-use Rattle.rules.specs.Rfc3339.{Leap}
+use Rattle.rules.specs.Rfc3339.{Leap, Days}
 
 -- each of the n bytes at the place `at` is at most r
 pub record AtMost (s : List ℕ) (at n r : ℕ) : Type 0 where
@@ -48,3 +48,8 @@ highOf a = cond (eqb a 0xED) 0x9F (cond (eqb a 0xF4) 0x8F 0xBF)
 pub data IsLeap (y : ℕ) : Bool → Type 0 where
   leap : Leap y → IsLeap y true
   common : (Leap y → ⊥) → IsLeap y false
+
+-- the days of the month, or 0 where the number is no month
+pub data Lasts (y m : ℕ) : ℕ → Type 0 where
+  month : {n : ℕ} → Days y m n → Lasts y m n
+  no-month : ((n : ℕ) → Days y m n → ⊥) → Lasts y m 0

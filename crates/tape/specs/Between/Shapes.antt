@@ -11,7 +11,7 @@ use Rattle.meaning.specs.declared.Number.the-variants.{Finite, NotANumber, Infi
 use Rattle.meaning.specs.declared.Date.{Date}
 use Rattle.meaning.specs.declared.Time.the-variants.{LocalDate, LocalTime, LocalDateTime, OffsetDateTime}
 use Rattle.meaning.specs.declared.Record.{Record}
-use Rattle.meaning.specs.Bytes.{get}
+use Rattle.meaning.specs.Between.Words.{get}
 use Rattle.meaning.specs.Tape.{recordBytes}
 use Rattle.meaning.specs.Between.Words.{mark, markOf, lowOf, midOf, highOf, fourWords, Fit}
 use Rattle.tape.specs.declared.Words.{Words}

@@ -1,7 +1,7 @@
 -- `little_endian::load2`: two bytes. Assumes nothing.
 use native.Mathlib.Omega.{arith}
 use Prim.Native.Nat.{_+_}
-use Rattle.meaning.specs.Bytes.{get}
+use Rattle.meaning.specs.Between.Words.{get}
 use borrow.Author.Needs.{needs}
 use Rattle.tape.proofs.little_endian.load2.Statement.{statement}
 use Rattle.tape.proofs.little_endian.load2.Tie as tie
