@@ -131,14 +131,14 @@ module _ {K : List ℕ → ℕ → Type 0} (fronts : (p : List ℕ) (n : ℕ) �
   further n f l Many.none o = Many.none
   further n f l (Many.more {a = a} (Byte-of.low {p = p} {b = b} h k) m) o =
       let x : Unit-of K (p ++ (b ∷ [])) = subst (λ (c : List ℕ). Unit-of K (p ++ c)) (row-1 b (omega arith))
-          (Unit-of.unit (record { top = omega arith; whole = inl (omega arith) }) k) in
+      (Unit-of.unit (record { top = omega arith; whole = inl (omega arith) }) k) in
       Many.more x (f a (omega (arith, simp length-append at l)) m (after (join (front-octets (fronts p b k)) (ascii {b = b} (omega arith) Octets.none)) a o))
   further n f l (Many.more {a = a} (Byte-of.high {p = p} {b = b} h k) m) o =
       let w = begins b a (after (front-octets (fronts p 0x80 (k 0x80 (omega arith) some-scalar))) (b ∷ a) (rw append-assoc at o)) h in
       let e : (p ++ encode (w .number)) ++ w .rest ≡ (p ++ (b ∷ [])) ++ a = append-assoc p (encode (w .number)) (w .rest)
-          ∙ ap (λ (c : List ℕ). p ++ (c ++ w .rest)) (sym (w .bytes)) ∙ ap (λ (c : List ℕ). p ++ (b ∷ c)) (sym (w .split)) ∙ sym (append-assoc p (b ∷ []) a) in
+      ∙ ap (λ (c : List ℕ). p ++ (c ++ w .rest)) (sym (w .bytes)) ∙ ap (λ (c : List ℕ). p ++ (b ∷ c)) (sym (w .split)) ∙ sym (append-assoc p (b ∷ []) a) in
       let r = f (w .rest) (omega (arith, simp length-append at l, simp length-append at (ap length (w .split))))
-          (peels (w .high) (w .rest) (subst (Many (Byte-of K)) (w .split) m)) (w .good) in
+      (peels (w .high) (w .rest) (subst (Many (Byte-of K)) (w .split) m)) (w .good) in
       subst (Many (Unit-of K)) e (Many.more (Unit-of.unit (w .scalar) (k (w .number) (w .past) (w .scalar))) r)
 
   up-to : (n : ℕ) → Up-to n
@@ -247,8 +247,11 @@ module _ (E : List ℕ → List ℕ → Type 0) (q : Quote) (escapes : (e v : Li
 
   peel-char : {a u : List ℕ} → By-bytes a u → (b : ℕ) (s : List ℕ) → 0x80 ≤ b → a ≡ b ∷ s → Peeled (b ∷ []) s u
   peel-char Chars.none b s h e = absurd (omega (arith, ap length e))
-  peel-char (Chars.plain {u = u} (Byte.byte {b = c} x) r) b s h e = record { left = u; is = ap (λ (k : ℕ). k ∷ u) (same-head e); chars =
-      subst (λ (d : List ℕ). By-bytes d u) (same-tail e) r }
+  peel-char (Chars.plain {u = u} (Byte.byte {b = c} x) r) b s h e = record {
+    left = u;
+    is = ap (λ (k : ℕ). k ∷ u) (same-head e);
+    chars = subst (λ (d : List ℕ). By-bytes d u) (same-tail e) r;
+  }
   peel-char (Chars.escaped x r) b s h e = absurd (omega (arith, same-head e))
   peel-char (Chars.other-quote r) b s h e = absurd (omega (arith, same-head e, mark-low (other q)))
 
@@ -266,13 +269,13 @@ module _ (E : List ℕ → List ℕ → Type 0) (q : Quote) (escapes : (e v : Li
   chars-further n f l Chars.none o = Chars.none
   chars-further n f l (Chars.plain {a = a} {u = u} (Byte.byte {b = b} (inl x)) r) o =
       let c : Among unescaped (b ∷ []) = subst (Among unescaped) (row-1 b (omega (arith, x .0)))
-          (Among.character (record { top = omega (arith, x .0); whole = inl (omega (arith, x .0)) }) (x .1)) in
+      (Among.character (record { top = omega (arith, x .0); whole = inl (omega (arith, x .0)) }) (x .1)) in
       Chars.plain c (f a u (omega arith) r (behind b a (x .0) o))
   chars-further n f l (Chars.plain {a = a} {u = u} (Byte.byte {b = b} (inr h)) r) o =
       let w = begins b a o h in
       let y = peel-chars (w .high) (w .rest) u (subst (λ (d : List ℕ). By-bytes d u) (w .split) r) in
       let z = Chars.plain (Among.character (w .scalar) (unescaped-open (w .number) (w .past) (w .scalar)))
-          (f (w .rest) (y .left) (omega (arith, simp length-append at (ap length (w .split)))) (y .chars) (w .good)) in
+      (f (w .rest) (y .left) (omega (arith, simp length-append at (ap length (w .split)))) (y .chars) (w .good)) in
       let p : encode (w .number) ++ w .rest ≡ b ∷ a = ap (λ (d : List ℕ). d ++ w .rest) (sym (w .bytes)) ∙ ap (λ (d : List ℕ). b ∷ d) (sym (w .split)) in
       let t : encode (w .number) ++ y .left ≡ b ∷ u = ap (λ (d : List ℕ). d ++ y .left) (sym (w .bytes)) ∙ ap (λ (d : List ℕ). b ∷ d) (sym (y .is)) in
       subst₂ By-characters p t z

@@ -110,7 +110,7 @@ mutual
   members-before bare g d h = start
   members-before (member ms k m) g d h =
       subst (λ (s : List ℕ). Before d (members bare) (s ++ letters ",") (members (member ms k m)))
-          (regroup (membersText ms ++ membersComma ms) (quoted k) (letters ":") (canonical m))
+      (regroup (membersText ms ++ membersComma ms) (quoted k) (letters ":") (canonical m))
       (further (membersText ms ++ membersComma ms) (quoted k ++ letters ":" ++ canonical m)
       (members-before ms (g .0) d (most-left (membersDepth ms) (depth m) d h))
       (member-derived ms (Key.string (string-derived (g .1))) (value-derived m (g .2) d (most-right (membersDepth ms) (depth m) d h))))
@@ -119,7 +119,7 @@ mutual
   members-whole bare g d h = Rest.close Ws.none Closes.brace
   members-whole (member ms k m) g d h =
       subst (λ (s : List ℕ). Rest true d (members bare) (s ++ letters "}") (members (member ms k m)))
-          (regroup (membersText ms ++ membersComma ms) (quoted k) (letters ":") (canonical m))
+      (regroup (membersText ms ++ membersComma ms) (quoted k) (letters ":") (canonical m))
       (closing (membersText ms ++ membersComma ms) (quoted k ++ letters ":" ++ canonical m)
       (members-before ms (g .0) d (most-left (membersDepth ms) (depth m) d h))
       (member-derived ms (Key.string (string-derived (g .1))) (value-derived m (g .2) d (most-right (membersDepth ms) (depth m) d h))) Closes.brace)

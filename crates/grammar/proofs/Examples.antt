@@ -23,8 +23,8 @@ use Rattle.grammar.specs.Checks.{Room}
 use Rattle.grammar.specs.Characters.{Range, _to_, Of, Among, Ascii, Many, Digit, Hexdig, Digits, Decimal, Hexadecimal}
 use Rattle.grammar.specs.Comments.{C-begin-line, c-char, c-no-star, C-line, Stars, C-inner, C-block, Blank, Line-end, Ws, Last}
 use Rattle.grammar.specs.Numbers.{Finite, Sign, Int, Frac0, Frac1, E, Exp, Dec, X, Unsigned, Number}
-use Rattle.grammar.specs.Strings.{Quote, double, single, Chars, Quoted, Short, Escape, unescaped, Up-to-two, source, M-char, No-newline, String-part,
-    Concat, String}
+use Rattle.grammar.specs.Strings.{Quote, double, single, Chars, Quoted, Short, Escape, unescaped, Up-to-two, source, M-char, No-newline, String-part}
+use Rattle.grammar.specs.Strings.{Concat, String}
 use Rattle.grammar.specs.Times.{Fraction, Time-secfrac, Time-hour, Time-minute, Local-time, Local-date, Separator, Plus-minus, Time-offset, Time-value}
 use Rattle.grammar.specs.Binary.{B-escape, b-unescaped, B-part, B-direct, B-value, Binary}
 use Rattle.grammar.specs.Keys.{i-begin, i-continue, Identifier, Key}

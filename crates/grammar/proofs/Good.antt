@@ -17,8 +17,8 @@ use Rattle.meaning.specs.declared.Date.{Date as DateMeant}
 use Rattle.meaning.specs.declared.Time.{Time as TimeMeant}
 use Rattle.meaning.specs.Meaning.{Meaning, Meanings, Members}
 use Rattle.meaning.specs.Limits.{depthLimit, day, offsetLimit}
-use Rattle.meaning.specs.Good.{GoodFinite, GoodNumber, GoodDate, GoodTime, Bytes, GoodParts, GoodElements, GoodMembers, most, depth, elementsDepth,
-    membersDepth, Good}
+use Rattle.meaning.specs.Good.{GoodFinite, GoodNumber, GoodDate, GoodTime, Bytes, GoodParts, GoodElements, GoodMembers, most, depth, elementsDepth}
+use Rattle.meaning.specs.Good.{membersDepth, Good}
 use Rattle.grammar.specs.Checks.{Room}
 use Rattle.grammar.specs.Characters.{Range, _to_, Of, Among, Ascii, Many, Digit, Hexdig, Digits, Decimal, Hexadecimal}
 use Rattle.grammar.specs.Numbers.{Finite, Unsigned, Number}
@@ -43,7 +43,7 @@ digit-value b x (Digit.digit i) = omega arith
 one-more : (base v x n w : ℕ) → x < base → w < suc (base * v + x) * base ^ n → w < suc v * base ^ suc n
 one-more base v x n w h l =
     let e : suc v * base ^ suc n ≡ base * suc v * base ^ n = ap (λ (p : ℕ). suc v * p) (pow-succ' base n) ∙ sym (mul-assoc (suc v) base (base ^ n))
-        ∙ ap (λ (p : ℕ). p * base ^ n) (mul-comm (suc v) base) in
+    ∙ ap (λ (p : ℕ). p * base ^ n) (mul-comm (suc v) base) in
     let g : suc (base * v + x) ≤ base * suc v = omega (arith, mul-suc base v) in
     omega (arith, mul-le-mul-right (base ^ n) g, e)
 

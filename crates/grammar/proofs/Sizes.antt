@@ -200,5 +200,7 @@ value-fits v =
     ]
 
 pub text-fits : {k : Bool} {t : List ℕ} {m : Meaning} → Text k t m → Fits t m
-text-fits (Text.text w v l h) = let f = value-fits v in record { few = simp length-append (omega (arith, f .few)); small =
-    simp length-append (omega (arith, f .small)) }
+text-fits (Text.text w v l h) = let f = value-fits v in record {
+  few = simp length-append (omega (arith, f .few));
+  small = simp length-append (omega (arith, f .small));
+}

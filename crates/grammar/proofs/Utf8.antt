@@ -16,10 +16,10 @@ use Rattle.meaning.specs.Meaning.{Meaning}
 use Rattle.grammar.specs.Characters.{Range, _to_, Of, Among, Ascii, Many, Digit, Hexdig, Digits, Decimal, Hexadecimal}
 use Rattle.grammar.specs.Comments.{C-begin-line, C-line, Stars, C-inner, C-block, Blank, Line-end, Ws, Last}
 use Rattle.grammar.specs.Numbers.{Sign, Int, Frac0, Frac1, E, Exp, Dec, X, Unsigned, Number}
-use Rattle.grammar.specs.Strings.{Quote, double, single, mark as mark-of, other, three, Chars, Quoted, Short, Escape, Up-to-two, M-char, Newline,
-    String-part, Concat, String}
-use Rattle.grammar.specs.Times.{Fraction, Time-secfrac, Time-hour, Time-minute, Local-time, Local-date, Separator, Zulu, Plus-minus, Time-offset,
-    Time-value}
+use Rattle.grammar.specs.Strings.{Quote, double, single, mark as mark-of, other, three, Chars, Quoted, Short, Escape, Up-to-two, M-char, Newline}
+use Rattle.grammar.specs.Strings.{String-part, Concat, String}
+use Rattle.grammar.specs.Times.{Fraction, Time-secfrac, Time-hour, Time-minute, Local-time, Local-date, Separator, Zulu, Plus-minus, Time-offset}
+use Rattle.grammar.specs.Times.{Time-value}
 use Rattle.grammar.specs.Binary.{B-escape, B-part, B-direct, B-value, Binary}
 use Rattle.grammar.specs.Keys.{Identifier, Key}
 use Rattle.grammar.specs.Values.{Inside, Closes, Value, Rest, After, Item, Text}

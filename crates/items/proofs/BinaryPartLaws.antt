@@ -134,7 +134,7 @@ module _ (s : List ℕ) (p : ℕ) where
           runs = λ c a. after-high c a ∙ digit-goes s (p + 2) (hexLow c a (digitAt s (p + 1))) (λ x. text c (a ++ ((16 * digitAt s (p + 1) + x) ∷ [])))
               (breaks (NotGrammar (p + 2))) refl l
               ∙ (let n : p + 2 + 1 ≡ p + 3 = omega arith in ap (λ (j : ℕ). ran scan j (text c (a ++ ((16 * digitAt s (p + 1) + digitAt s (p + 2)) ∷ [])))
-                  (drop j s)) n);
+              (drop j s)) n);
           past = omega arith;
           within = omega (arith, digit-in s (p + 2) l);
         }

@@ -49,7 +49,7 @@ module _ {s : List ℕ} (st : ℕ → ℕ → St) (step : (p f w b : ℕ) → Is
       let c : f + (suc j - i) ≡ suc (f + (j - i)) = omega arith in
       span-on f h r (took (st (suc (f + (j - i))) (dig w (getD s j 0))) l (step j (f + (j - i)) w (getD s j 0) d)
       (subst (λ (x : ℕ). Reads s x (st (suc (f + (j - i))) (dig w (getD s j 0))) r) (sym (add-one j))
-          (subst (λ (x : ℕ). Reads s (suc j) (st x (dig w (getD s j 0))) r) c k)))
+      (subst (λ (x : ℕ). Reads s (suc j) (st x (dig w (getD s j 0))) r) c k)))
 
 module _ (q : ℕ) (g : Bool) {s : List ℕ} where
   pub span-int : {i m j w : ℕ} → Span s i m j w → Onto s i (int q g m) j (int q g w)
@@ -97,15 +97,19 @@ module _ (s : List ℕ) (q : ℕ) (g : Bool) (a : Acc) (f : ℕ) (z : Bool) (k :
   raised-edge e = record { reads = λ m i. breaks-at (rw (dg-none (edge-none e))) }
 
   module _ (w : Power) (r : Scanned) (l : a .c < coefficientLimit) (y : a .z ≤ textLimit) (h : k < length s) (i : IsDigit (getD s k 0)) (p : Powered s k w)
-      where
-    pub raised-dn : z ≡ true → Settles q g a 0 (f + w .e) (w .at) r → From s a k (λ m. expSign q g m f z) r
-    raised-dn n t = record { reads = λ m o. let d = p .says in rw n (sign-digits q g m f true h i (d .1) (p .edge)
-        (closes-by _ _ (capped-dn q g m (a .c) (a .z) l y (a .over) (w .e) (d .0) f o (d .2)) (t .closes m o))) }
+    where
+      pub raised-dn : z ≡ true → Settles q g a 0 (f + w .e) (w .at) r → From s a k (λ m. expSign q g m f z) r
+      raised-dn n t = record {
+        reads = λ m o. let d = p .says in rw n (sign-digits q g m f true h i (d .1) (p .edge)
+            (closes-by _ _ (capped-dn q g m (a .c) (a .z) l y (a .over) (w .e) (d .0) f o (d .2)) (t .closes m o)));
+      }
 
-    pub raised-up : z ≡ false → f ≤ textLimit → Settles q g a (w .e) f (w .at) r → From s a k (λ m. expSign q g m f z) r
-    raised-up n u t = record { reads = λ m o. let d = p .says in rw n (sign-digits q g m f false h i (d .1) (p .edge)
-        (closes-by _ _ (ap (λ (x : ℕ). settle q g m (d .0) x) (add-zero f) ∙ capped-up q g m (a .c) (a .z) l y (a .over) (w .e) (d .0) f o (d .2) u)
-        (t .closes m o))) }
+      pub raised-up : z ≡ false → f ≤ textLimit → Settles q g a (w .e) f (w .at) r → From s a k (λ m. expSign q g m f z) r
+      raised-up n u t = record {
+        reads = λ m o. let d = p .says in rw n (sign-digits q g m f false h i (d .1) (p .edge)
+            (closes-by _ _ (ap (λ (x : ℕ). settle q g m (d .0) x) (add-zero f) ∙ capped-up q g m (a .c) (a .z) l y (a .over) (w .e) (d .0) f o (d .2) u)
+            (t .closes m o)));
+      }
 
 module _ (s : List ℕ) (q : ℕ) (g : Bool) (a : Acc) (f i : ℕ) (r : Scanned) where
   -- no exponent
@@ -113,8 +117,10 @@ module _ (s : List ℕ) (q : ℕ) (g : Bool) (a : Acc) (f i : ℕ) (r : Scanned)
   none-over h t = record { reads = λ m o. halts (settle q g m 0 f) (rw (byte-out s i h)) (t .closes m o) }
 
   pub none-other : i < length s → Edge s i → (getD s i 0 ≡ ch "e" → ⊥) → (getD s i 0 ≡ ch "E" → ⊥) → Settles q g a 0 f i r → From s a i (λ m. frac q g m f) r
-  none-other h e x y t = record { reads = λ m o. halts (settle q g m 0 f) (frac-other q g m f (num-class (byteAt s i)) (edge-none e) (rw (← byte-in s i h) at x)
-      (rw (← byte-in s i h) at y)) (t .closes m o) }
+  none-other h e x y t = record {
+    reads = λ m o. halts (settle q g m 0 f) (frac-other q g m f (num-class (byteAt s i)) (edge-none e) (rw (← byte-in s i h) at x)
+        (rw (← byte-in s i h) at y)) (t .closes m o);
+  }
 
   pub after-e : i < length s → (getD s i 0 ≡ ch "e") ⊎ (getD s i 0 ≡ ch "E") → From s a (i + 1) (λ m. exp q g m f) r → From s a i (λ m. frac q g m f) r
   after-e h (inl e) t = record { reads = λ m o. took (exp q g m f) h (rw e) (t .reads m o) }
@@ -128,8 +134,10 @@ module _ (s : List ℕ) (q : ℕ) (g : Bool) (a : Acc) (f i : ℕ) (r : Scanned)
 
   pub e-bare : i < length s → (getD s i 0 ≡ ch "+" → ⊥) → (getD s i 0 ≡ ch "-" → ⊥) → From s a i (λ m. expSign q g m f false) r
       → From s a i (λ m. exp q g m f) r
-  e-bare h x y t = record { reads = λ m o. same (expSign q g m f false) (same-exp q g m f i (byteAt s i) (rw (← byte-in s i h) at x)
-      (rw (← byte-in s i h) at y)) (t .reads m o) }
+  e-bare h x y t = record {
+    reads = λ m o. same (expSign q g m f false) (same-exp q g m f i (byteAt s i) (rw (← byte-in s i h) at x)
+        (rw (← byte-in s i h) at y)) (t .reads m o);
+  }
 
 pub e-over : (s : List ℕ) (q : ℕ) (g : Bool) (a : Acc) (f i : ℕ) → length s ≤ i → From s a i (λ m. exp q g m f) (Refused (NotGrammar i))
 e-over s q g a f i h = record { reads = λ m o. breaks-at (rw (byte-out s i h)) }
@@ -164,8 +172,10 @@ module _ (s : List ℕ) (q : ℕ) (g : Bool) (a : Acc) (i : ℕ) (r : Scanned) w
   no-point-end h t = record { reads = λ m o. same (frac q g m 0) (rw (byte-out s i h)) (t .reads m o) }
 
   pub no-point : i < length s → Edge s i → (getD s i 0 ≡ ch "." → ⊥) → From s a i (λ m. frac q g m 0) r → From s a i (λ m. int q g m) r
-  no-point h e x t = record { reads = λ m o. same (frac q g m 0) (int-other q g m (num-class (byteAt s i)) (edge-none e) (rw (← byte-in s i h) at x))
-      (t .reads m o) }
+  no-point h e x t = record {
+    reads = λ m o. same (frac q g m 0) (int-other q g m (num-class (byteAt s i)) (edge-none e) (rw (← byte-in s i h) at x))
+        (t .reads m o);
+  }
 
   pub with-point : i < length s → getD s i 0 ≡ ch "." → From s a (i + 1) (λ m. frac q g m 0) r → From s a i (λ m. int q g m) r
   with-point h e t = record { reads = λ m o. took (frac q g m 0) h (rw e) (t .reads m o) }

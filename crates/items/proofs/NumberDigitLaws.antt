@@ -102,7 +102,7 @@ pub fewer : (v c z : ℕ) → 0 < c → c % 10 ≡ 0 → v ≡ c * 10 ^ z → v 
 fewer v c z h e f =
     let d : c ≡ c / 10 * 10 = omega (arith, div-add-mod' c 10) in
     f ∙ ap (λ (x : ℕ). x * 10 ^ z) d ∙ mul-assoc (c / 10) 10 (10 ^ z) ∙ ap (λ (x : ℕ). c / 10 * x)
-        (omega (arith, pow-suc 10 z, ap (λ (x : ℕ). 10 ^ x) (add-one z)))
+    (omega (arith, pow-suc 10 z, ap (λ (x : ℕ). 10 ^ x) (add-one z)))
 
 pub few-zeros : (v c z : ℕ) → v < 2 ^ 64 → 0 < c → v ≡ c * 10 ^ z → z < 20
 few-zeros v c z l h e = go (leb 20 z) refl

@@ -111,8 +111,12 @@ module _ (s : List ℕ) (from v : ℕ) (o : Bool) (i d : ℕ) (k : HexLoop s fro
       go false e = omega arith
 
   pub hex-more : d < 16 → v ≤ 1152921504606846975 → HexLoop s from (16 * v + d) o (i + 1)
-  hex-more l u = record { low = omega (arith, k .low); high = omega arith; says = (16 * k .says .0 + d, more l, go o (k .large) (k .says .2)); large = λ e.
-      absurd (omega (arith, k .large e)) }
+  hex-more l u = record {
+    low = omega (arith, k .low);
+    high = omega arith;
+    says = (16 * k .says .0 + d, more l, go o (k .large) (k .says .2));
+    large = λ e. absurd (omega (arith, k .large e));
+  }
     where
       go : (o : Bool) → (o ≡ true → 1152921504606846975 < v) → Kept (k .says .0) v o → Kept (16 * k .says .0 + d) (16 * v + d) o
       go true f e = absurd (omega (arith, f refl))

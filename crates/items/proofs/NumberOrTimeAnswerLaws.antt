@@ -59,6 +59,11 @@ tells-item (Tells.item {m = m} k) = (m, k, refl)
 pub numeric-says : (s : List ℕ) (p : ℕ) → p < length s → (r : Scanned) → Reads s p begin r → NumericSays s p r
 numeric-says s p h (Item i q) k =
     let e = tells-item (k .tells) in
-    record { m = e .0; means = e .1; runs = e .2; past = begin-past (drop p s) p (e .0) q (e .2); within =
-        omega (arith, ran-within (drop p s) p begin (e .0) q (e .2) .1, length-drop p s) }
+    record {
+      m = e .0;
+      means = e .1;
+      runs = e .2;
+      past = begin-past (drop p s) p (e .0) q (e .2);
+      within = omega (arith, ran-within (drop p s) p begin (e .0) q (e .2) .1, length-drop p s);
+    }
 numeric-says s p h (Refused e) k = tells-refused (k .tells)

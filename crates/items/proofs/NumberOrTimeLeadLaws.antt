@@ -20,8 +20,8 @@ use Rattle.machine.specs.Numeric.{St, scan, dig, begin, int, both, field, hexMa
 use Rattle.machine.proofs.Runs.{NoDigit}
 use Rattle.machine.proofs.Numeric.Rows.{NumIs, num-class, num-digit, fst-digit}
 use Rattle.items.specs.Between.Places.{byteAt}
-use Rattle.items.specs.Between.NumberOrTime.{Reads, IsDigit, Edge, Holds, Span, PlainSays, TimelySays, Ready, Onto, lenOf, First, FewSays, LeadSays,
-    Marks, Plainly}
+use Rattle.items.specs.Between.NumberOrTime.{Reads, IsDigit, Edge, Holds, Span, PlainSays, TimelySays, Ready, Onto, lenOf, First, FewSays, LeadSays}
+use Rattle.items.specs.Between.NumberOrTime.{Marks, Plainly}
 use Rattle.items.specs.declared.number.Acc.{Acc}
 use Rattle.items.specs.declared.number.Plain.{Plain}
 use Rattle.items.specs.declared.number_or_time.Few.{Few}
@@ -95,7 +95,7 @@ among-next s q x y v n i a h k l u z f = record {
   zeros = omega (arith, a .zeros);
   first = λ r t. a .first r (took (both q (lenOf (n + 1)) (eqb (getD s q 0) (ch "0")) (dig v (getD s i 0))) k
       (subst (λ (j : ℕ). scan i (both q (lenOf n) (eqb (getD s q 0) (ch "0")) v) (getD s i 0)
-          ≡ takes (both q (lenOf j) (eqb (getD s q 0) (ch "0")) (dig v (getD s i 0)))) (sym (add-one n))
+      ≡ takes (both q (lenOf j) (eqb (getD s q 0) (ch "0")) (dig v (getD s i 0)))) (sym (add-one n))
       (step n (a .some) h i q (eqb (getD s q 0) (ch "0")) v (getD s i 0) (omega arith))) t);
   holds = f v (a .holds);
 }
@@ -165,13 +165,22 @@ ended-run n b h (inr i) = i
 
 apart : (n b : ℕ) → 1 ≤ n → n ≤ 4 → (n ≡ 4) ⊎ NoDigit b → (n ≡ 2 → b ≡ ch ":" → ⊥) → (n ≡ 4 → b ≡ ch "-" → ⊥) → Apart (lenOf n) b
 apart zero b l u e x y = absurd (omega arith)
-apart (suc zero) b l u e x y = record { digit = λ k. ended-run 1 b (omega arith) e; colon = λ k. let z : _≡_ {A = ℕ} 0 1 = cc in absurd (omega arith); dash =
-    λ k. absurd (d1-4 k) }
+apart (suc zero) b l u e x y = record {
+  digit = λ k. ended-run 1 b (omega arith) e;
+  colon = λ k. let z : _≡_ {A = ℕ} 0 1 = cc in absurd (omega arith);
+  dash = λ k. absurd (d1-4 k);
+}
 apart (suc (suc zero)) b l u e x y = record { digit = λ k. ended-run 2 b (omega arith) e; colon = λ k. x refl; dash = λ k. absurd (d2-4 k) }
-apart (suc (suc (suc zero))) b l u e x y = record { digit = λ k. ended-run 3 b (omega arith) e; colon = λ k. let z : _≡_ {A = ℕ} 0 1 = cc in
-    absurd (omega arith); dash = λ k. absurd (d3-4 k) }
-apart (suc (suc (suc (suc n)))) b l u e x y = record { digit = λ k. absurd (k refl); colon = λ k. let z : _≡_ {A = ℕ} 0 1 = cc in absurd (omega arith); dash =
-    λ k. y (omega arith) }
+apart (suc (suc (suc zero))) b l u e x y = record {
+  digit = λ k. ended-run 3 b (omega arith) e;
+  colon = λ k. let z : _≡_ {A = ℕ} 0 1 = cc in absurd (omega arith);
+  dash = λ k. absurd (d3-4 k);
+}
+apart (suc (suc (suc (suc n)))) b l u e x y = record {
+  digit = λ k. absurd (k refl);
+  colon = λ k. let z : _≡_ {A = ℕ} 0 1 = cc in absurd (omega arith);
+  dash = λ k. y (omega arith);
+}
 
 not-number : (n : ℕ) → 1 < n → (p q v b : ℕ) (c : S.Num) → S.asNumber p q (lenOf n) true v b c ≡ breaks (NotGrammar p)
 not-number zero h p q v b c = absurd (omega arith)
@@ -215,14 +224,14 @@ module _ (s : List ℕ) (q : ℕ) (w : Few) (f : FewSays s q w) (o : Follows s q
       let j : Apart d1 (byteAt s (w .at)) = subst (λ (n : ℕ). Apart (lenOf n) (byteAt s (w .at))) e off in
       f .first r (rw (eq-eqb (getD s q 0) (ch "0") d, e)
       (same (int q false (w .v)) (as-number d1 true (w .at) q (w .v) (num-class (byteAt s (w .at))) j
-          ∙ as-nought q (num-class (byteAt s (w .at))) (j .digit d1-4) (o .small-x e d) (o .large-x e d)
-          ∙ ap (λ (x : ℕ). S.onInt q false x (byteAt s (w .at)) (numOf (byteAt s (w .at)))) (sym v)) k))
+      ∙ as-nought q (num-class (byteAt s (w .at))) (j .digit d1-4) (o .small-x e d) (o .large-x e d)
+      ∙ ap (λ (x : ℕ). S.onInt q false x (byteAt s (w .at)) (numOf (byteAt s (w .at)))) (sym v)) k))
 
   nothing : getD s q 0 ≡ ch "0" → 1 < w .n → Reads s q begin (Refused (NotGrammar (w .at)))
   nothing d h =
       f .first _ (rw (eq-eqb (getD s q 0) (ch "0") d)
       (breaks-at (as-number (lenOf (w .n)) true (w .at) q (w .v) (num-class (byteAt s (w .at))) off
-          ∙ not-number (w .n) h (w .at) q (w .v) (byteAt s (w .at)) (numOf (byteAt s (w .at))))))
+      ∙ not-number (w .n) h (w .at) q (w .v) (byteAt s (w .at)) (numOf (byteAt s (w .at))))))
 
   module _ (short : length s ≤ textLimit) where
     ready : Ready s (w .acc) 0 (w .at)
@@ -336,7 +345,7 @@ module _ (s : List ℕ) (q : ℕ) (n0 : getD s q 0 ≡ ch "0" → ⊥) where
   reaches (Span.next {j = j} {w = w} h l d) (suc n) e = λ r k.
       let f : j ≡ q + n = omega arith in
       reaches h n f r (took (after (suc n) q (dig w (getD s j 0))) l (grows n j q w (getD s j 0) d
-          (λ z. let g : j ≡ q = omega arith in ((λ x. n0 (ap (λ (y : ℕ). getD s y 0) (sym g) ∙ x)), g, span-none h g)))
+      (λ z. let g : j ≡ q = omega arith in ((λ x. n0 (ap (λ (y : ℕ). getD s y 0) (sym g) ∙ x)), g, span-none h g)))
       (subst (λ (x : ℕ). Reads s x (after (suc n) q (dig w (getD s j 0))) r) (sym (add-one j)) k))
 
   module _ (w : Plain) (p : PlainSays s q 0 w) (d : IsDigit (getD s q 0)) (m : q < length s) (t : TimelySays s (w .at) false) where
@@ -372,7 +381,7 @@ module _ (s : List ℕ) (q : ℕ) (n0 : getD s q 0 ≡ ch "0" → ⊥) where
         → Reads s (w .at) (both q (lenOf n) false (w .v)) r
     turned n e l h r k =
         same (int q false (w .v)) (as-number (lenOf n) false (w .at) q (w .v) (num-class (byteAt s (w .at)))
-            (apart n (byteAt s (w .at)) l h (inr (ended n e h)) (λ x y. t .0 y) (λ x y. t .1 y)) ∙ plain (lenOf n)) k
+        (apart n (byteAt s (w .at)) l h (inr (ended n e h)) (λ x y. t .0 y) (λ x y. t .1 y)) ∙ plain (lenOf n)) k
       where
         plain : (k : Len) → S.asNumber (w .at) q k false (w .v) (byteAt s (w .at)) (numOf (byteAt s (w .at)))
             ≡ scan (w .at) (int q false (w .v)) (byteAt s (w .at))
@@ -394,8 +403,12 @@ module _ (s : List ℕ) (q : ℕ) (n0 : getD s q 0 ≡ ch "0" → ⊥) where
         go (suc (suc (suc (suc (suc n))))) e h r k = k
 
     pub plain-small : w .v < 10 ^ w .at
-    plain-small = omega (arith, span-small 0 (p .span) (omega arith), pow-le-pow-right {n = 10} (omega arith) {i = 0 + (w .at - q)} {j = w .at}
-        (omega (arith, p .low)))
+    plain-small = omega (
+      arith,
+      span-small 0 (p .span) (omega arith),
+      pow-le-pow-right {n = 10} (omega arith) {i = 0 + (w .at - q)} {j = w .at}
+          (omega (arith, p .low)),
+    )
 
 pub timely-over : (s : List ℕ) (at : ℕ) → length s ≤ at → TimelySays s at false
 timely-over s at h = let e = byte-out s at h in ((λ f. omega arith), (λ f. omega arith))

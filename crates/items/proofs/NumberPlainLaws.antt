@@ -33,8 +33,11 @@ zeros-few v c z k h e l = go (leb z k) refl
   where
     go : (x : Bool) → leb z k ≡ x → z ≤ k
     go true f = leb-true z k f
-    go false f = let g = leb-false z k f in absurd (omega (arith, pow-le-pow-right {n = 10} (omega arith) {i = k} {j = z} (omega arith),
-        mul-le-mul-right (10 ^ z) h))
+    go false f = let g = leb-false z k f in absurd (omega (
+      arith,
+      pow-le-pow-right {n = 10} (omega arith) {i = k} {j = z} (omega arith),
+      mul-le-mul-right (10 ^ z) h,
+    ))
 
 -- n digits, and those of a span after them
 pub span-small : {s : List ℕ} {i m j w : ℕ} (n : ℕ) → Span s i m j w → m < 10 ^ n → w < 10 ^ (n + (j - i))
@@ -56,8 +59,12 @@ module _ (s : List ℕ) (at : ℕ) (h : at < length s) where
   ended-under l p = let e = byte-in s at h in record { edge = Edge.under l; point = λ f. p (sym e ∙ f); small-e = λ f. omega arith; large-e = λ f. omega arith }
 
   pub ended-past : ch "9" < getD s at 0 → (getD s at 0 ≡ ch "e" → ⊥) → (getD s at 0 ≡ ch "E" → ⊥) → Ended s at
-  ended-past l x y = let e = byte-in s at h in record { edge = Edge.past l; point = λ f. omega arith; small-e = λ f. x (sym e ∙ f); large-e = λ f.
-      y (sym e ∙ f) }
+  ended-past l x y = let e = byte-in s at h in record {
+    edge = Edge.past l;
+    point = λ f. omega arith;
+    small-e = λ f. x (sym e ∙ f);
+    large-e = λ f. y (sym e ∙ f);
+  }
 
 -- without the point it ends as one with no fraction digits
 module _ (s : List ℕ) (q : ℕ) (g : Bool) (a : Acc) (v : ℕ) (o : Holds v a) (r : Scanned) where
@@ -73,7 +80,7 @@ pub point-ends : (s : List ℕ) (q : ℕ) (g : Bool) (a : Acc) (v at : ℕ) (w :
 point-ends s q g a v at w r h e p o d t =
     took (frac q g v 0) h (rw e)
     (span-frac q g 0 (p .span) r (subst (λ (x : ℕ). Reads s (w .at) (frac q g (w .v) x) r) (sym (zero-add (w .at - (at + 1))))
-        (frac-ends s q g a (w .v) o r (w .at) (w .at - (at + 1)) d t)))
+    (frac-ends s q g a (w .v) o r (w .at) (w .at - (at + 1)) d t)))
 
 -- ---- what the loop keeps
 

@@ -145,7 +145,7 @@ module _ (q : ℕ) (g : Bool) (m c z : ℕ) (l : c < coefficientLimit) (small : 
       go (inl n) = of-none q g m e dn c z n h ∙ sym (of-none q g m w dn c z n h)
       go (inr n) = let y : (c ≡ 0 → ⊥) = λ x. n (omega arith) in
           of-fits q g m e dn c z y l h ∙ out-up q g c (z + e) dn (omega arith) (omega arith) ∙ sym (out-up q g c (z + w) dn (omega arith) (omega arith))
-              ∙ sym (of-fits q g m w dn c z y l h)
+          ∙ sym (of-fits q g m w dn c z y l h)
 
   far-dn : (o : Bool) (e w : ℕ) → Held m c o z → 1000000000 ≤ e → 1000000000 ≤ w → settle q g m 0 e ≡ settle q g m 0 w
   far-dn true e w h i j = of-over q g m 0 e c z h ∙ sym (of-over q g m 0 w c z h)
@@ -155,7 +155,7 @@ module _ (q : ℕ) (g : Bool) (m c z : ℕ) (l : c < coefficientLimit) (small : 
       go (inl n) = of-none q g m 0 e c z n h ∙ sym (of-none q g m 0 w c z n h)
       go (inr n) = let y : (c ≡ 0 → ⊥) = λ x. n (omega arith) in
           of-fits q g m 0 e c z y l h ∙ out-dn q g c (z + 0) e (omega arith) (omega arith) ∙ sym (out-dn q g c (z + 0) w (omega arith) (omega arith))
-              ∙ sym (of-fits q g m 0 w c z y l h)
+          ∙ sym (of-fits q g m 0 w c z y l h)
 
   pub capped-up : (o : Bool) (e w f : ℕ) → Held m c o z → Capped w e → f ≤ textLimit → settle q g m w f ≡ settle q g m e f
   capped-up o e w f h (inl k) i = ap (λ (x : ℕ). settle q g m x f) (sym k)

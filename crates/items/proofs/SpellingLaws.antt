@@ -35,14 +35,20 @@ module _ {s : List ℕ} {p : ℕ} {word : List ℕ} {i : ℕ} (t : Spelt s p wor
   module _ (l : i < length word) where
     pub spelt-end : length s ≤ p + i → getD word i 0 < over → WordSays s p word (Word.NotGrammar (p + i))
     unfolding wordScan
-    spelt-end h small = (t .goes ∙ broken-by wordScan s (drop i word) (NotGrammar (p + i)) (p + i)
-        (let n : over ≡ getD word i 0 → ⊥ = λ e. omega arith in rw (byte-out s (p + i) h, drop-cons word i 0 l) (simp (ne-eqb _ _ n))), t .within)
+    spelt-end h small = (
+      t .goes ∙ broken-by wordScan s (drop i word) (NotGrammar (p + i)) (p + i)
+          (let n : over ≡ getD word i 0 → ⊥ = λ e. omega arith in rw (byte-out s (p + i) h, drop-cons word i 0 l) (simp (ne-eqb _ _ n))),
+      t .within,
+    )
 
     module _ (h : p + i < length s) where
       pub spelt-cut : (getD s (p + i) 0 ≡ getD word i 0 → ⊥) → WordSays s p word (Word.NotGrammar (p + i))
       unfolding wordScan
-      spelt-cut n = (t .goes ∙ broken-by wordScan s (drop i word) (NotGrammar (p + i)) (p + i)
-          (rw (byte-in s (p + i) h, drop-cons word i 0 l) (simp (ne-eqb _ _ n))), t .within)
+      spelt-cut n = (
+        t .goes ∙ broken-by wordScan s (drop i word) (NotGrammar (p + i)) (p + i)
+            (rw (byte-in s (p + i) h, drop-cons word i 0 l) (simp (ne-eqb _ _ n))),
+        t .within,
+      )
 
       pub spelt-more : getD s (p + i) 0 ≡ getD word i 0 → Spelt s p word (i + 1)
       unfolding wordScan

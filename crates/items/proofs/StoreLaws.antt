@@ -38,7 +38,7 @@ seg-out s t from i to at l g h r u q =
     let n : to - from ≡ (i - from) + (to - i) = omega arith in
     let z : length t ≤ at + length (take (i - from) (drop from s)) = simp (length-take, length-drop) (omega arith) in
     q ∙ sym (rw (n, take-add, sets-app) (sets-out (sets t at (take (i - from) (drop from s))) (at + length (take (i - from) (drop from s)))
-        (take (to - i) (drop (i - from) (drop from s))) (simp length-sets z)))
+    (take (to - i) (drop (i - from) (drop from s))) (simp length-sets z)))
 
 -- what is past the store's end is dropped
 pub seg-limit : (s t : List ℕ) (from i to at : ℕ) → from ≤ i → i ≤ to → to ≤ length s → (i < to → length t ≤ at + (i - from)) → (u : List ℕ) → u

@@ -34,8 +34,12 @@ least-more {s} {q} {at} {n} {l} {m} {p} {l'} {m'} {p'} t x y z b = record { each
   where
     go : (k : ℕ) → k < n + 1 → Dec (k ≡ n) → Bound q (getD s (at + k) 0) l' m' p'
     go k h (yes e) = rw e b
-    go k h (no e) = let u = t .each k (omega arith) in record { byte = u .byte; low = omega (arith, u .low); far = omega (arith, u .far); other =
-        omega (arith, u .other) }
+    go k h (no e) = let u = t .each k (omega arith) in record {
+      byte = u .byte;
+      low = omega (arith, u .low);
+      far = omega (arith, u .far);
+      other = omega (arith, u .other);
+    }
 
 -- all of a block
 pub least-plain : {s : List ℕ} {q at n l m p : ℕ} → Least s q at n l m p → 16 ≤ n → 0x20 ≤ l → (m ≡ 0 → ⊥) → (p ≡ 0 → ⊥) → Plains s q at 16
@@ -51,7 +55,7 @@ pass-plains s q from at (suc n) t b h =
     let u = b .each n (omega arith) in
     let e : at + suc n ≡ at + n + 1 = omega arith in
     rw e (pass-more s q from (at + n) (pass-plains s q from at n t (record { each = λ k l. b .each k (omega arith) }) (omega arith)) (omega arith) (u .slash)
-        (u .quote) (u .low) (u .byte))
+    (u .quote) (u .low) (u .byte))
 
 -- plain bytes, and then those up to one that is not
 pub pass-then : (s : List ℕ) (q i j k : ℕ) → Passing s q i j → Passed s q j k → Passed s q i k

@@ -20,11 +20,8 @@ use Rattle.items.proofs.PlacesLaws.{go, moves, alike, like, end}
 use Rattle.items.proofs.StringPartEscapeLaws.{encode-four}
 
 -- a high surrogate whose next byte is no backslash: what comes is as after a bad escape
-unpaired : (base : ℕ) (s : List ℕ) (i : ℕ) → i < length s
-    →
-    (getD s i 0
-    ≡ ch
-    "\\" → ⊥) → (q : ℕ) (bad : S.Bad) (a w : ℕ) (acc : List ℕ) → Goes scan base s (body (mk q bad (half a w) acc)) i (body (mk q (first bad a) whole acc)) i
+unpaired : (base : ℕ) (s : List ℕ) (i : ℕ) → i < length s → (getD s i 0 ≡ ch "\\" → ⊥) → (q : ℕ) (bad : S.Bad) (a w : ℕ) (acc : List ℕ)
+    → Goes scan base s (body (mk q bad (half a w) acc)) i (body (mk q (first bad a) whole acc)) i
 unfolding scan onBody
 unpaired base s i l ne q bad a w acc = by (eqb (getD s i 0) q) refl
   where
@@ -37,8 +34,13 @@ unpaired base s i l ne q bad a w acc = by (eqb (getD s i 0) q) refl
 
 module _ (s : List ℕ) (at : ℕ) where
   pub char-code : (next c : ℕ) → Coded s at next c → Read s at next c
-  char-code next c t = record { goes = λ base q bad acc. t .goes base (mk q bad whole acc); room = t .room; past = t .past; within = t .within; small =
-      t .small }
+  char-code next c t = record {
+    goes = λ base q bad acc. t .goes base (mk q bad whole acc);
+    room = t .room;
+    past = t .past;
+    within = t .within;
+    small = t .small;
+  }
 
   pub char-odd : (next : ℕ) → Spoilt s at next → Blamed s at next
   char-odd next t = record { goes = λ base q bad acc. t .goes base (mk q bad whole acc); past = t .past; within = t .within }

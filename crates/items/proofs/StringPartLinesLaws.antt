@@ -32,8 +32,11 @@ module _ (s : List ℕ) (l : 2 < length s) where
   module _ (h : 3 < length s) where
     pub from-lf : getD s 3 0 ≡ ch "\n" → Begun s 4
     unfolding scan
-    from-lf e = record { goes = λ base q g. go scan base s (lines0 q) (lines q 0 []) 3 4 h refl (simp (eq-eqb _ _ e)); within = omega arith; past =
-        omega arith }
+    from-lf e = record {
+      goes = λ base q g. go scan base s (lines0 q) (lines q 0 []) 3 4 h refl (simp (eq-eqb _ _ e));
+      within = omega arith;
+      past = omega arith;
+    }
 
     module _ (n : getD s 3 0 ≡ ch "\n" → ⊥) where
       pub from-other : (getD s 3 0 ≡ ch "\r" → ⊥) → Begun s 3
@@ -52,8 +55,11 @@ module _ (s : List ℕ) (l : 2 < length s) where
 
         pub from-crlf : 4 < length s → getD s 4 0 ≡ ch "\n" → Begun s 5
         unfolding scan
-        from-crlf z f = record { goes = λ base q g. to-cr base q ∙ go scan base s (linesCR q) (lines q 0 []) 4 5 z refl (simp (eq-eqb _ _ f)); within =
-            omega arith; past = omega arith }
+        from-crlf z f = record {
+          goes = λ base q g. to-cr base q ∙ go scan base s (linesCR q) (lines q 0 []) 4 5 z refl (simp (eq-eqb _ _ f));
+          within = omega arith;
+          past = omega arith;
+        }
 
         pub from-cr-end : length s ≤ 4 → Begun s 3
         unfolding scan
@@ -86,8 +92,14 @@ pub record Lining (s : List ℕ) (q i j n : ℕ) : Type 0 where
 
 module _ (s : List ℕ) (q from : ℕ) where
   pub lining-start : from ≤ length s → Lining s q from from 0
-  lining-start h = let z : from - from ≡ 0 = omega arith in record { acc = []; goes = λ base. refl; all = rw z; few = omega arith; behind = omega arith; within
-      = h }
+  lining-start h = let z : from - from ≡ 0 = omega arith in record {
+    acc = [];
+    goes = λ base. refl;
+    all = rw z;
+    few = omega arith;
+    behind = omega arith;
+    within = h;
+  }
 
   module _ (i n : ℕ) (t : Lining s q from i n) where
     pub lining-end : q < over → length s ≤ i → Breaks s q from i
@@ -117,8 +129,10 @@ module _ (s : List ℕ) (q from : ℕ) where
       module _ (m : getD s i 0 ≡ q → ⊥) where
         pub lining-cut : lineByte (getD s i 0) ≡ false → Breaks s q from i
         unfolding scan onLines
-        lining-cut e = record { ends = λ base. t .goes base ∙ halt scan base s (lines q n (t .acc)) (NotGrammar (base + i)) i h (simp (ne-eqb _ _ m, e)); within
-            = t .within }
+        lining-cut e = record {
+          ends = λ base. t .goes base ∙ halt scan base s (lines q n (t .acc)) (NotGrammar (base + i)) i h (simp (ne-eqb _ _ m, e));
+          within = t .within;
+        }
 
         pub lining-other : lineByte (getD s i 0) ≡ true → Lining s q from (i + 1) 0
         unfolding scan onLines
@@ -155,7 +169,7 @@ module _ (s : List ℕ) (q from : ℕ) where
             let b : i - 2 + 3 ≡ i + 1 = omega (arith, k) in
             let le : i - 2 - from ≤ i - from = omega arith in
             let x : t .acc ≡ take (i - 2 - from) (drop from s) = sym (take-at (t .acc) (replicate n q) (i - 2 - from) a)
-                ∙ ap (λ (y : List ℕ). take (i - 2 - from) y) (t .all) ∙ take-take (i - 2 - from) (i - from) (drop from s) le in
+            ∙ ap (λ (y : List ℕ). take (i - 2 - from) y) (t .all) ∙ take-take (i - 2 - from) (i - from) (drop from s) le in
             record {
               ends = λ base. rw (b, ← x) (t .goes base ∙ go scan base s (lines q n (t .acc)) (done (mk q fine whole (t .acc))) i (i + 1) h refl
                   (simp (eq-eqb _ _ e, eq-eqb _ _ m)) ∙ stops-by scan base s (done (mk q fine whole (t .acc))) (t .acc) (i + 1) refl);

@@ -107,8 +107,16 @@ pub record Round (s : List ℕ) (q at : ℕ) (entry store : List ℕ) (i out bad
   pub low : bad ≤ i
 
 pub round-start : (s : List ℕ) (q at : ℕ) (entry : List ℕ) → 0 < length s → Round s q at entry entry 1 at 0
-round-start s q at entry h = record { acc = []; goes = λ base. refl; stored = refl; counted = omega arith; room = omega arith; past = omega arith; within =
-    omega arith; low = omega arith }
+round-start s q at entry h = record {
+  acc = [];
+  goes = λ base. refl;
+  stored = refl;
+  counted = omega arith;
+  room = omega arith;
+  past = omega arith;
+  within = omega arith;
+  low = omega arith;
+}
 
 module _ {s : List ℕ} {q at : ℕ} {entry store : List ℕ} {i out bad : ℕ} (t : Round s q at entry store i out bad) where
   pub round-plain : {e : ℕ} → Passed s q i e → {new : List ℕ} → new ≡ sets store out (take (e - i) (drop i s)) → Round s q at entry new e (out + (e - i)) bad
@@ -130,8 +138,11 @@ module _ {s : List ℕ} {q at : ℕ} {entry store : List ℕ} {i out bad : ℕ} 
 
   pub round-end : q < over → length s ≤ i → InnerSays s q at entry store (Part.NotGrammar i)
   unfolding scan onBody plainByte
-  round-end small h = (λ base. t .goes base ∙ end scan base s (body (mk q (marked base bad) whole (t .acc))) (NotGrammar (base + i)) i h
-      (let n : over ≡ q → ⊥ = λ e. omega arith in simp (ne-eqb over q n)), t .within)
+  round-end small h = (
+    λ base. t .goes base ∙ end scan base s (body (mk q (marked base bad) whole (t .acc))) (NotGrammar (base + i)) i h
+        (let n : over ≡ q → ⊥ = λ e. omega arith in simp (ne-eqb over q n)),
+    t .within,
+  )
 
   pub round-lone : {next : ℕ} → Blamed s i next → {b : ℕ} → Earlier bad i b → Round s q at entry store next out b
   round-lone {next} u e = record {
@@ -163,9 +174,11 @@ module _ {s : List ℕ} {q at : ℕ} {entry store : List ℕ} {i out bad : ℕ} 
     pub round-wrong : plain q (byteAt s i) ≡ false → (getD s i 0 ≡ q → ⊥) → InnerSays s q at entry store (Part.NotGrammar i)
     unfolding scan onBody plain
     round-wrong e m =
-        let f : plainByte (getD s i 0) ≡ false = simp (byte-in s i h, ne-eqb _ _ n, ne-eqb _ _ m) at e in
-        (λ base. t .goes base ∙ halt scan base s (body (mk q (marked base bad) whole (t .acc))) (NotGrammar (base + i)) i h
-            (simp (ne-eqb _ _ n, ne-eqb _ _ m, f)), t .within)
+        let f : plainByte (getD s i 0) ≡ false = simp (byte-in s i h, ne-eqb _ _ n, ne-eqb _ _ m) at e in (
+          λ base. t .goes base ∙ halt scan base s (body (mk q (marked base bad) whole (t .acc))) (NotGrammar (base + i)) i h
+              (simp (ne-eqb _ _ n, ne-eqb _ _ m, f)),
+          t .within,
+        )
 
     module _ (e : getD s i 0 ≡ q) where
       shut : (base : ℕ) → Goes scan base s (body (mk q fine whole [])) 1 (done (mk q (marked base bad) whole (t .acc))) (i + 1)
@@ -175,8 +188,10 @@ module _ {s : List ℕ} {q at : ℕ} {entry store : List ℕ} {i out bad : ℕ} 
 
       pub round-bad : (bad ≡ 0 → ⊥) → InnerSays s q at entry store (Part.BadEscape bad)
       unfolding scan
-      round-bad z = (λ base. shut base ∙ breaks-by scan base s (done (mk q (marked base bad) whole (t .acc))) (BadEscape (base + bad)) (i + 1) (by base bad z),
-          omega (arith, t .low, t .within))
+      round-bad z = (
+        λ base. shut base ∙ breaks-by scan base s (done (mk q (marked base bad) whole (t .acc))) (BadEscape (base + bad)) (i + 1) (by base bad z),
+        omega (arith, t .low, t .within),
+      )
         where
           by : (base b : ℕ) → (b ≡ 0 → ⊥) → S.close (t .acc) (marked base b) ≡ breaks (BadEscape (base + b))
           by base zero z = absurd (z refl)
@@ -198,8 +213,14 @@ module _ {s : List ℕ} {q at : ℕ} {entry store : List ℕ} {i out bad : ℕ} 
 -- what is said of one run is said of an equal one
 pub says-as : (n at : ℕ) (entry exit : List ℕ) (R Q : ℕ → Ran (List ℕ)) → ((base : ℕ) → R base ≡ Q base) → (r : Part) → Says Q n at entry exit r
     → Says R n at entry exit r
-says-as n at entry exit R Q e (Closed bytes taken) t = record { value = t .value; runs = λ base. e base ∙ t .runs base; counted = t .counted; stored =
-    t .stored; within = t .within; fewer = t .fewer }
+says-as n at entry exit R Q e (Closed bytes taken) t = record {
+  value = t .value;
+  runs = λ base. e base ∙ t .runs base;
+  counted = t .counted;
+  stored = t .stored;
+  within = t .within;
+  fewer = t .fewer;
+}
 says-as n at entry exit R Q e (Part.BadEscape p) t = (λ base. e base ∙ t .0 base, t .1)
 says-as n at entry exit R Q e (Part.NotGrammar p) t = (λ base. e base ∙ t .0 base, t .1)
 
@@ -230,8 +251,10 @@ module _ (s : List ℕ) (at : ℕ) (entry : List ℕ) where
   module _ (q : ℕ) (small : q < over) (h0 : 0 < length s) where
     pub one-end : length s < 2 → OneSays s q at entry entry (Part.NotGrammar 1)
     unfolding scan onBody plainByte
-    one-end h = (λ base. end scan base s (one q) (NotGrammar (base + 1)) 1 (omega arith) (let n : over ≡ q → ⊥ = λ e. omega arith in simp (ne-eqb over q n)),
-        omega arith)
+    one-end h = (
+      λ base. end scan base s (one q) (NotGrammar (base + 1)) 1 (omega arith) (let n : over ≡ q → ⊥ = λ e. omega arith in simp (ne-eqb over q n)),
+      omega arith,
+    )
 
     module _ (h1 : 2 ≤ length s) where
       pub one-body : (getD s 1 0 ≡ q → ⊥) → (exit : List ℕ) (r : Part) → InnerSays s q at entry exit r → OneSays s q at entry exit r

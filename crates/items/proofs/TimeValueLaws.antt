@@ -258,7 +258,7 @@ module _ (s : List ℕ) (q : ℕ) (d : Date) (c : Clock) (at : ℕ) (r : Scanned
     zone-none x y z k st e =
         let p = byte-in s at h in
         halts _ (e ∙ zone-other q d (c .hour) (c .minute) (c .second) (c .nanos) (sec-class (byteAt s at)) (λ j. x (sym p ∙ j)) (λ j. y (sym p ∙ j))
-            (λ j. z (sym p ∙ j))) k
+        (λ j. z (sym p ∙ j))) k
 
     zone-takes : (t : St) (st : St) → scan at st (byteAt s at) ≡ takes t → Reads s (at + 1) t r → Reads s at st r
     zone-takes t st e k = took t h (ap (scan at st) (sym (byte-in s at h)) ∙ e) k
@@ -313,7 +313,7 @@ module _ (s : List ℕ) (from v left i : ℕ) (k : NanoLoop s from v left i) whe
         smaller : (j : ℕ) → (v + 1) * 10 ^ suc j ≤ Limits.second → (10 * v + (getD s i 0 - ch "0") + 1) * 10 ^ j ≤ Limits.second
         smaller j u =
             let p : (v + 1) * 10 ^ suc j ≡ (v + 1) * 10 * 10 ^ j = ap (λ (x : ℕ). (v + 1) * x) (omega (arith, pow-suc 10 j))
-                ∙ sym (mul-assoc (v + 1) 10 (10 ^ j)) in
+            ∙ sym (mul-assoc (v + 1) 10 (10 ^ j)) in
             let o : 10 * v + (getD s i 0 - ch "0") + 1 ≤ (v + 1) * 10 = omega arith in
             omega (arith, mul-le-mul-right (10 ^ j) o)
 
@@ -394,9 +394,9 @@ module _ (s : List ℕ) (at : ℕ) where
             small = omega (arith, y, part-small (n .v) (n .left) (p .small));
             reads = λ q w h m c r k.
                 second-point s q w h m c at l r e (same (nanos q w h m c fractionDigits 0)
-                    (rw (o, dg-digit (getD s (at + 1) 0) d, sec-digit (getD s (at + 1) 0) d))
+                (rw (o, dg-digit (getD s (at + 1) 0) d, sec-digit (getD s (at + 1) 0) d))
                 (p .goes q w h m c r (k (nanos q w h m c (n .left) (n .v)) (nano-other q w h m c (n .left) (n .v) (sec-class (byteAt s (n .at)))
-                    (edge-none (p .edge)) ∙ ap (λ (z : ℕ). onZone q w h m c z (secOf (byteAt s (n .at)))) (sym y)))));
+                (edge-none (p .edge)) ∙ ap (λ (z : ℕ). onZone q w h m c z (secOf (byteAt s (n .at)))) (sym y)))));
           }
 
 -- ---- after an hour, after a date, after a year

@@ -8,7 +8,9 @@ pub mod Impostors
 pub mod Exports
 pub use Reading.{accepted, measured, refusals, one-refusal, bounded, unambiguous}
 pub use Writing.{written, same-text, read-back}
-pub use Outcomes.{untouched, one-outcome-utf8, one-outcome-date, one-outcome-measure, one-outcome-read, one-outcome-look, one-outcome-write-jaxn, one-outcome-write-json}
+pub use Outcomes.{untouched, one-outcome, one-outcome-utf8, one-outcome-date, one-outcome-measure, one-outcome-read, one-outcome-look, one-outcome-write-jaxn}
+pub use Outcomes.{one-outcome-write-json}
 pub use PList.{P-list, slips-hold}
 pub use Impostors.{impostors}
-pub use Exports.{one-outcome-c-utf8, one-outcome-c-date, one-outcome-c-measure, one-outcome-c-read, one-outcome-c-look, one-outcome-c-write-jaxn, one-outcome-c-write-json, calls-for-c}
+pub use Exports.{one-outcome-c, one-outcome-c-utf8, one-outcome-c-date, one-outcome-c-measure, one-outcome-c-read, one-outcome-c-look, one-outcome-c-write-jaxn}
+pub use Exports.{one-outcome-c-write-json, calls-for-c}

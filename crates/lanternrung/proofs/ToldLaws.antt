@@ -1,6 +1,5 @@
--- What the calls for C are made of: flags, and a signed field that is passed on at 32 bits. Assumes nothing.
+-- What the calls for C are made of: a signed field that is passed on at 32 bits. Assumes nothing.
 use mathlib.Core.Path.{_≡_, ap, _∙_}
-use mathlib.Core.Bool.{Bool, true, false}
 use Prim.Native.Nat.{ℕ, _≤_, _<_, _^_}
 use native.Mathlib.Omega.{arith}
 use lib.IntN.{ℤ}
@@ -8,11 +7,6 @@ use lib.Signed.{mag}
 use mir.Syntax.{w16, w32}
 use mir.Val.{ofZ, toZ, SFits, hbits}
 use mir.ValLaws.{toZ-ofZ}
-use Rattle.lanternrung.specs.Told.{flagOf}
-
-pub flag-small : (b : Bool) → flagOf b ≤ 1
-flag-small true = omega arith
-flag-small false = omega arith
 
 -- a signed number of 16 bits is itself
 pub same16 : (z : ℤ) → mag z < 2 ^ hbits w16 → toZ w16 (ofZ w16 z) ≡ z

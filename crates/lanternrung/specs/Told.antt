@@ -1,13 +1,12 @@
--- What the calls for C hand back (include/lanternrung.h): the number and place of each answer (docs/FORMAT.md, 10.1), 0 and 0 where nothing is
--- refused; in a refusal all else is 0. Assumes nothing.
+-- What the calls for C hand back (include/lanternrung.h; docs/FORMAT.md, 13): the number and place of each answer, 0
+-- and 0 where nothing is refused; in a refusal all else is 0. Assumes nothing.
 use mathlib.Core.Path.{_≡_}
-use mathlib.Core.Bool.{Bool, true, false}
 use mathlib.Core.List.{List}
 use Prim.Native.Nat.{ℕ, _+_}
 use lib.IntN.{ℤ, pos}
 use Rattle.rules.specs.declared.Utf8Answer.{Utf8Answer}
 use Rattle.rules.specs.declared.DateAnswer.{DateAnswer}
-use Rattle.rules.specs.Paper.{utf8Said, dateSaid, numberSaid, placeSaid}
+use Rattle.rules.specs.Paper.{Said, utf8Said, dateSaid, numberSaid, placeSaid}
 use Rattle.rules.specs.Rfc3339.{Dated}
 use Rattle.rules.specs.Rfc3629.{Judged}
 use Rattle.meaning.specs.declared.Date.{Date}
@@ -17,7 +16,8 @@ use Rattle.meaning.specs.declared.Record.{Record}
 use Rattle.meaning.specs.declared.Refusal.{Refusal}
 use Rattle.meaning.specs.declared.Time.{Time}
 use Rattle.meaning.specs.declared.Time.the-variants.{LocalDate, LocalTime, LocalDateTime, OffsetDateTime}
-use Rattle.meaning.specs.Paper.{numberOf, placeOf}
+use Rattle.meaning.specs.Bytes.{flag}
+use Rattle.meaning.specs.Paper.{row, numberOf, placeOf}
 use Rattle.reader.specs.declared.Answer.{Answer}
 use Rattle.reader.specs.declared.Answer.the-variants as answer
 use Rattle.reader.specs.Answers.{Measures, Reads}
@@ -41,36 +41,53 @@ unfoldable pub textOf : Written → Text
 textOf (written.Wrote size) = record { refused = 0; place = 0; length = size }
 textOf (written.Refused why) = record { refused = numberOf why; place = placeOf why; length = 0 }
 
--- ---- lr_record: kind 1 to 13 in the order nu bo nb nx st ky by ld lt dt od ar ob; flag the bool, the minus sign or the nx value
+-- ---- lr_record: kind 1 to 13 in the order nu bo nb nx st ky by ld lt dt od ar ob; flag the bool, the minus sign or
+-- the nx value; 0 where a record has no such field
 
-abbrev pub flagOf : Bool → ℕ
-flagOf false = 0
-flagOf true = 1
+abbrev pub allFields : ℕ × ℕ → ℕ → ℕ → ℤ × ℕ → ℕ × ℕ → Date → ℤ × ℕ → ℕ → Fields
+allFields said kind flag number span date moment end =
+    record {
+      refused = said .0;
+      place = said .1;
+      kind = kind;
+      flag = flag;
+      power = number .0;
+      coefficient = number .1;
+      length = span .0;
+      start = span .1;
+      year = date .year;
+      month = date .month;
+      day = date .day;
+      offset = moment .0;
+      time = moment .1;
+      end = end;
+    }
+
+abbrev pub noDate : Date
+noDate = record { year = 0; month = 0; day = 0 }
 
 abbrev pub plainFields : ℕ → ℕ → ℕ → ℕ → ℕ → Fields
-plainFields kind flag length start end =
-    record { refused = 0; place = 0; kind = kind; flag = flag; power = pos 0; coefficient = 0; length = length; start = start; year = 0; month = 0; day = 0; offset = pos 0; time = 0; end = end }
+plainFields kind flag length start end = allFields (0, 0) kind flag (pos 0, 0) (length, start) noDate (pos 0, 0) end
 
 unfoldable pub numberFields : Number → Fields
 numberFields (Finite minus coefficient power) =
-    record { refused = 0; place = 0; kind = 3; flag = flagOf minus; power = power; coefficient = coefficient; length = 0; start = 0; year = 0; month = 0; day = 0; offset = pos 0; time = 0; end = 0 }
+    allFields (0, 0) 3 (flag minus) (power, coefficient) (0, 0) noDate (pos 0, 0) 0
 -- 0 NaN, 1 Infinity, 2 -Infinity
 numberFields NotANumber = plainFields 4 0 0 0 0
-numberFields (Infinite minus) = plainFields 4 (1 + flagOf minus) 0 0 0
+numberFields (Infinite minus) = plainFields 4 (1 + flag minus) 0 0 0
 
 abbrev pub datedFields : ℕ → Date → ℕ → ℤ → Fields
-datedFields kind d clock offset =
-    record { refused = 0; place = 0; kind = kind; flag = 0; power = pos 0; coefficient = 0; length = 0; start = 0; year = d .year; month = d .month; day = d .day; offset = offset; time = clock; end = 0 }
+datedFields kind d clock offset = allFields (0, 0) kind 0 (pos 0, 0) (0, 0) d (offset, clock) 0
 
 unfoldable pub timeFields : Time → Fields
 timeFields (LocalDate d) = datedFields 8 d 0 (pos 0)
-timeFields (LocalTime clock) = datedFields 9 (record { year = 0; month = 0; day = 0 }) clock (pos 0)
+timeFields (LocalTime clock) = datedFields 9 noDate clock (pos 0)
 timeFields (LocalDateTime d clock) = datedFields 10 d clock (pos 0)
 timeFields (OffsetDateTime d clock offset) = datedFields 11 d clock offset
 
 unfoldable pub fieldsOf : Record → Fields
 fieldsOf Record.Null = plainFields 1 0 0 0 0
-fieldsOf (Record.Bool b) = plainFields 2 (flagOf b) 0 0 0
+fieldsOf (Record.Bool b) = plainFields 2 (flag b) 0 0 0
 fieldsOf (Record.Number n) = numberFields n
 fieldsOf (Record.Str size start) = plainFields 5 0 size start 0
 fieldsOf (Record.Key size start) = plainFields 6 0 size start 0
@@ -80,8 +97,7 @@ fieldsOf (Record.Array end) = plainFields 12 0 0 0 end
 fieldsOf (Record.Object end) = plainFields 13 0 0 0 end
 
 abbrev pub refusedFields : Refusal → Fields
-refusedFields why =
-    record { refused = numberOf why; place = placeOf why; kind = 0; flag = 0; power = pos 0; coefficient = 0; length = 0; start = 0; year = 0; month = 0; day = 0; offset = pos 0; time = 0; end = 0 }
+refusedFields why = allFields (row why) 0 0 (pos 0, 0) (0, 0) noDate (pos 0, 0) 0
 
 unfoldable pub lookedFields : Looked → Fields
 lookedFields (Looked.Record r) = fieldsOf r
@@ -89,43 +105,33 @@ lookedFields (Looked.Refused why) = refusedFields why
 
 -- ---- each call hands on an answer that the library's promise allows, with what it leaves in the lent buffers
 
-unfoldable pub utf8Status : Utf8Answer → Status
-utf8Status a = record { refused = numberSaid (utf8Said a); place = placeSaid (utf8Said a) }
+-- what is handed on is what `fields` makes of an answer that is allowed
+pub record Handed {A R : Type 0} (Allowed : A → Type 0) (fields : A → R) (r : R) : Type 0 where
+  pub answer : A
+  pub allowed : Allowed answer
+  pub told : r ≡ fields answer
 
-unfoldable pub dateStatus : DateAnswer → Status
-dateStatus a = record { refused = numberSaid (dateSaid a); place = placeSaid (dateSaid a) }
+-- lr_status
+unfoldable pub statusOf : Said (Unit {0}) → Status
+statusOf said = record { refused = numberSaid said; place = placeSaid said }
 
-pub record Utf8Told (s : List ℕ) (r : Status) : Type 0 where
-  pub answer : Utf8Answer
-  pub allowed : Judged s answer
-  pub told : r ≡ utf8Status answer
+abbrev pub Utf8Told : List ℕ → Status → Type 0
+Utf8Told s = Handed (Judged s) (λ a. statusOf (utf8Said a))
 
-pub record DateTold (year month day : ℕ) (r : Status) : Type 0 where
-  pub answer : DateAnswer
-  pub allowed : Dated year month day answer
-  pub told : r ≡ dateStatus answer
+abbrev pub DateTold : ℕ → ℕ → ℕ → Status → Type 0
+DateTold year month day = Handed (Dated year month day) (λ a. statusOf (dateSaid a))
 
-pub record MeasureTold (text : List ℕ) (r : Sizes) : Type 0 where
-  pub answer : Answer
-  pub allowed : Measures text answer
-  pub told : r ≡ sizesOf answer
+abbrev pub MeasureTold : List ℕ → Sizes → Type 0
+MeasureTold text = Handed (Measures text) sizesOf
 
-pub record ReadTold (text tape store : List ℕ) (r : Sizes) (tape' store' : List ℕ) : Type 0 where
-  pub answer : Answer
-  pub allowed : Reads text tape store answer tape' store'
-  pub told : r ≡ sizesOf answer
+abbrev pub ReadTold : List ℕ → List ℕ → List ℕ → Sizes → List ℕ → List ℕ → Type 0
+ReadTold text tape store r tape' store' = Handed (λ a. Reads text tape store a tape' store') sizesOf r
 
-pub record LookTold (tape store : List ℕ) (index : ℕ) (r : Fields) : Type 0 where
-  pub answer : Looked
-  pub allowed : Looks tape store index answer
-  pub told : r ≡ lookedFields answer
+abbrev pub LookTold : List ℕ → List ℕ → ℕ → Fields → Type 0
+LookTold tape store index = Handed (Looks tape store index) lookedFields
 
-pub record JaxnTold (tape store out : List ℕ) (r : Text) (out' : List ℕ) : Type 0 where
-  pub answer : Written
-  pub allowed : WritesJaxn tape store out answer out'
-  pub told : r ≡ textOf answer
+abbrev pub JaxnTold : List ℕ → List ℕ → List ℕ → Text → List ℕ → Type 0
+JaxnTold tape store out r out' = Handed (λ a. WritesJaxn tape store out a out') textOf r
 
-pub record JsonTold (tape store out : List ℕ) (r : Text) (out' : List ℕ) : Type 0 where
-  pub answer : Written
-  pub allowed : WritesJson tape store out answer out'
-  pub told : r ≡ textOf answer
+abbrev pub JsonTold : List ℕ → List ℕ → List ℕ → Text → List ℕ → Type 0
+JsonTold tape store out r out' = Handed (λ a. WritesJson tape store out a out') textOf r

@@ -1,6 +1,8 @@
 // The calls for C and Rust (include/lanternrung.h). Each passes on the library's answer, as its number and place (docs/FORMAT.md, 10.1).
 ghost use mathlib.Core.Path.{_≡_};
-ghost use Rattle.lanternrung.specs.Told.{sizesOf, textOf, flagOf, refusedFields, plainFields, numberFields, datedFields, timeFields, fieldsOf, Utf8Told, DateTold, MeasureTold, ReadTold, LookTold, JaxnTold, JsonTold};
+ghost use Rattle.meaning.specs.Bytes.{flag};
+ghost use Rattle.lanternrung.specs.Told.{sizesOf, textOf, refusedFields, plainFields, numberFields, datedFields, timeFields, fieldsOf};
+ghost use Rattle.lanternrung.specs.Told.{Utf8Told, DateTold, MeasureTold, ReadTold, LookTold, JaxnTold, JsonTold};
 use crate::number;
 use crate::place;
 use meaning::Date;
@@ -97,7 +99,7 @@ fn text_of(a: Written) -> Text
 
 // 1 if set.
 fn flag(b: bool) -> u32
-    ensures { λ r. ⌜ r ≡ flagOf b ⌝ }
+    ensures { λ r. ⌜ r ≡ flag b ⌝ }
 {
     if b {
         return 1;

@@ -62,7 +62,7 @@ escape-steps (B-escape.short {b = b} {c = c} x) p q acc =
     eats scan Steps.stay (rw (ne-eqb b 0x78 (u .1 .no-x), u .0, lt-ltb c 256 (omega arith)))
 escape-steps (B-escape.byte (Digits.next {x = x} h (Digits.next {x = y} g Digits.over))) p q acc =
     eats scan (eats scan (eats scan Steps.stay (digit-step g (λ y. text q (acc ++ ((16 * x + y) ∷ []))) _ ∙ rw (pair-value x y)))
-        (digit-step h (hexLow q acc) _)) refl
+    (digit-step h (hexLow q acc) _)) refl
 
 back-step : (p q : ℕ) (acc : List ℕ) → scan p (text q acc) (ch "\\") ≡ takes (esc q acc)
 unfolding scan onText
@@ -128,7 +128,7 @@ direct-goes (B-direct.part {a = a} {u = u} x) s acc f p = rw append-nil at (step
 direct-goes (B-direct.dotted {a = a} {u = u} x y) s acc f p =
     let q = adv p a in
     steps-go scan (part-steps x s acc f p) (took scan (rw append-assoc at (direct-goes y (dot (acc ++ u)) (acc ++ u) (dot-opens (acc ++ u)) (suc q)))
-        (dot-step q (acc ++ u)))
+    (dot-step q (acc ++ u)))
 
 pub binary-goes : {a u : List ℕ} → B-value a u → (p : ℕ) → Goes scan PartEnds p begin a u
 unfolding scan
@@ -195,15 +195,23 @@ text-is : (p q : ℕ) (acc : List ℕ) (b : ℕ) → Is (text q acc) b (onText p
 unfolding onText
 text-is p q acc b =
     by-eqb (Is (text q acc) b) b 0x5C _ _
-    (λ e a v h j i. let t = h j i in let x = t .5 in
-    (ch "\\" ∷ (t .0 ++ x .0), t .1 ++ x .1, rw e (joined-up (t .0) (x .0) (mark j ∷ []) (t .3) (x .2)), Chars.escaped (t .4) (x .3),
-        rw append-assoc at (x .4))) λ n.
+    (λ e a v h j i. let t = h j i in let x = t .5 in (
+      ch "\\" ∷ (t .0 ++ x .0),
+      t .1 ++ x .1,
+      rw e (joined-up (t .0) (x .0) (mark j ∷ []) (t .3) (x .2)),
+      Chars.escaped (t .4) (x .3),
+      rw append-assoc at (x .4),
+    )) λ n.
     by-eqb (Is (text q acc) b) b q _ _ (λ e a v h j i. ([], [], rw (e ∙ i, h .0), Chars.none, append-nil acc ∙ h .1)) λ m.
     by-ltb (Is (text q acc) b) b 0x20 _ _ (λ l. tt) λ l.
     by-leb (Is (text q acc) b) b 0x7E _ _
-    (λ u a v h j i. let t = h j i in
-    (b ∷ t .0, b ∷ t .1, rw (t .2), plain-char j 0x7E (record { low = l; high = u; no-back = n; no-end = λ z. m (z ∙ sym i) }) G.Ascii.byte (t .3),
-        rw append-assoc at (t .4))) (λ u. tt)
+    (λ u a v h j i. let t = h j i in (
+      b ∷ t .0,
+      b ∷ t .1,
+      rw (t .2),
+      plain-char j 0x7E (record { low = l; high = u; no-back = n; no-end = λ z. m (z ∙ sym i) }) G.Ascii.byte (t .3),
+      rw append-assoc at (t .4),
+    )) (λ u. tt)
 
 low-back : (acc : List ℕ) (b : ℕ) → Hexdig b (hexOf b) → (a v : List ℕ) → BinaryRest (low acc (hexOf b)) a v → (u : List ℕ) × B-direct (b ∷ a) u
     × (acc ++ u ≡ v)
@@ -231,7 +239,7 @@ binary-is p (pairs acc) b =
     by-eqb (Is (pairs acc) b) b 0x2E _ _ (λ e a v h. (h .0, rw e (After-pair.dotted (h .1)), h .2))
     (λ n. digit-is (pairs acc) b (low acc) _
     (λ d a v h. let t = h .5 in ((16 * hexOf b + h .1) ∷ t .0, rw (h .3) (After-pair.pair (two-digits d (h .4)) (t .1)), rw append-assoc at (t .2)))
-        ([], After-pair.over, append-nil acc))
+    ([], After-pair.over, append-nil acc))
 binary-is p (dot acc) b = digit-is (dot acc) b (low acc) _ (λ d a v h. low-back acc b d a v h) tt
 binary-is p (done acc) b = (refl, refl)
 

@@ -4,8 +4,8 @@ use mathlib.Core.Path.{_≡_, refl}
 use native.Mathlib.Omega.{arith}
 use Rattle.meaning.specs.Letters.{ch}
 use Rattle.machine.specs.Machine
-use Rattle.machine.specs.Machine.{Bracket, square, curly, Class, blankC, hashC, slashC, commaC, colonC, plusC, quoteC, dollarC, letterN, letterT, letterF,
-    letterC, otherC, openC, closeC, classOf}
+use Rattle.machine.specs.Machine.{Bracket, square, curly, Class, blankC, hashC, slashC, commaC, colonC, plusC, quoteC, dollarC, letterN, letterT, letterF}
+use Rattle.machine.specs.Machine.{letterC, otherC, openC, closeC, classOf}
 use Rattle.machine.proofs.Tables.{cut-is}
 
 abbrev pub opening : Bracket → ℕ
@@ -35,14 +35,112 @@ ClassIs b (closeC c) = b ≡ closing c
 
 pub class-is : (b : ℕ) → ClassIs b (classOf b)
 class-is b =
-    cut-is ClassIs 0 Machine.classes otherC b (omega arith)
-    ((λ l u. omega arith), ((λ l u. omega arith), ((λ l u. omega arith), ((λ l u. omega arith),
-        ((λ l u. omega arith), ((λ l u. omega arith), ((λ l u. omega arith), ((λ l u. omega arith),
-        ((λ l u. omega arith), ((λ l u. omega arith), ((λ l u. omega arith), ((λ l u. omega arith),
-        ((λ l u. omega arith), ((λ l u. omega arith), ((λ l u. omega arith), ((λ l u. omega arith),
-        ((λ l u. omega arith), ((λ l u. omega arith), ((λ l u. omega arith), ((λ l u. omega arith),
-        ((λ l u. omega arith), ((λ l u. omega arith), ((λ l u. omega arith), ((λ l u. omega arith),
-        ((λ l u. omega arith), ((λ l u. omega arith), ((λ l u. omega arith), ((λ l u. omega arith),
-        ((λ l u. omega arith), ((λ l u. omega arith), ((λ l u. omega arith), ((λ l u. omega arith),
-        ((λ l u. omega arith), ((λ l u. omega arith), ((λ l u. omega arith), ((λ l u. omega arith),
-        ((λ l u. omega arith), λ l. omega arith)))))))))))))))))))))))))))))))))))))
+    cut-is ClassIs 0 Machine.classes otherC b (omega arith) (
+      (λ l u. omega arith),
+      (
+        (λ l u. omega arith),
+        (
+          (λ l u. omega arith),
+          (
+            (λ l u. omega arith),
+            (
+              (λ l u. omega arith),
+              (
+                (λ l u. omega arith),
+                (
+                  (λ l u. omega arith),
+                  (
+                    (λ l u. omega arith),
+                    (
+                      (λ l u. omega arith),
+                      (
+                        (λ l u. omega arith),
+                        (
+                          (λ l u. omega arith),
+                          (
+                            (λ l u. omega arith),
+                            (
+                              (λ l u. omega arith),
+                              (
+                                (λ l u. omega arith),
+                                (
+                                  (λ l u. omega arith),
+                                  (
+                                    (λ l u. omega arith),
+                                    (
+                                      (λ l u. omega arith),
+                                      (
+                                        (λ l u. omega arith),
+                                        (
+                                          (λ l u. omega arith),
+                                          (
+                                            (λ l u. omega arith),
+                                            (
+                                              (λ l u. omega arith),
+                                              (
+                                                (λ l u. omega arith),
+                                                (
+                                                  (λ l u. omega arith),
+                                                  (
+                                                    (λ l u. omega arith),
+                                                    (
+                                                      (λ l u. omega arith),
+                                                      (
+                                                        (λ l u. omega arith),
+                                                        (
+                                                          (λ l u. omega arith),
+                                                          (
+                                                            (λ l u. omega arith),
+                                                            (
+                                                              (λ l u. omega arith),
+                                                              (
+                                                                (λ l u. omega arith),
+                                                                (
+                                                                  (λ l u. omega arith),
+                                                                  (
+                                                                    (λ l u. omega arith),
+                                                                    (
+                                                                      (λ l u. omega arith),
+                                                                      (
+                                                                        (λ l u. omega arith),
+                                                                        (
+                                                                          (λ l u. omega arith),
+                                                                          (
+                                                                            (λ l u. omega arith),
+                                                                            ((λ l u. omega arith), λ l. omega arith),
+                                                                          ),
+                                                                        ),
+                                                                      ),
+                                                                    ),
+                                                                  ),
+                                                                ),
+                                                              ),
+                                                            ),
+                                                          ),
+                                                        ),
+                                                      ),
+                                                    ),
+                                                  ),
+                                                ),
+                                              ),
+                                            ),
+                                          ),
+                                        ),
+                                      ),
+                                    ),
+                                  ),
+                                ),
+                              ),
+                            ),
+                          ),
+                        ),
+                      ),
+                    ),
+                  ),
+                ),
+              ),
+            ),
+          ),
+        ),
+      ),
+    )

@@ -20,8 +20,9 @@ use Rattle.grammar.specs.Keys.{i-begin, Identifier, Key}
 use Rattle.grammar.specs.Values.{Inside, elements, members, Closes, Value, Rest, After, Item, Text}
 use Rattle.machine.specs.Scan.{Out, takes, stops, breaks, over}
 use Rattle.machine.specs.Machine
-use Rattle.machine.specs.Machine.{Use, as-value, as-key, Got, Base, want, wantKey, wantString, wantBinary, got, Mode, base, line, item, Frame, inside,
-    pair, Conf, at, fail, step, read, finish, reading, Verdict, Ok, No, classOf, Class, lift, scan, asValue, asKey, wanted, shut, bareOf, onOut}
+use Rattle.machine.specs.Machine.{Use, as-value, as-key, Got, Base, want, wantKey, wantString, wantBinary, got, Mode, base, line, item, Frame, inside}
+use Rattle.machine.specs.Machine.{pair, Conf, at, fail, step, read, finish, reading, Verdict, Ok, No, classOf, Class, lift, scan, asValue, asKey, wanted}
+use Rattle.machine.specs.Machine.{shut, bareOf, onOut}
 use Rattle.machine.specs.Numeric
 use Rattle.machine.specs.Strings
 use Rattle.machine.specs.Binaries
@@ -171,7 +172,7 @@ module _ (P : List ℕ → List ℕ → Type 0) (Starts : Base → List ℕ → 
     (plus : (p d : ℕ) (k : List Frame) (v : List ℕ) → step p (at (base (got (parts v))) d k) (ch "+") ≡ at (base (next v)) d k)
     (again : (v : List ℕ) → Starts (next v) v)
     (part-run : (a u : List ℕ) → P a u → (s : Base) (v : List ℕ) → Starts s v → (p d : ℕ) (k : List Frame) (r : List ℕ) → Follows PartEnds r
-        → read p (at (base s) d k) (a ++ r) ≡ read (adv p a) (at (base (got (parts (v ++ u)))) d k) r) where
+    → read p (at (base s) d k) (a ++ r) ≡ read (adv p a) (at (base (got (parts (v ++ u)))) d k) r) where
   concat-run : {a u : List ℕ} → Concat P a u → (s : Base) (v : List ℕ) → Starts s v → (p d : ℕ) (k : List Frame) (r : List ℕ) → Follows PartEnds r
       → read p (at (base s) d k) (a ++ r) ≡ read (adv p a) (at (base (got (parts (v ++ u)))) d k) r
   concat-run (Concat.part {a = a} {u = u} x) s v b p d k r h = part-run a u x s v b p d k r h
@@ -410,7 +411,7 @@ abbrev AfterRun : ℕ → Inside → List ℕ → Inside → Type 0
 AfterRun d y a z =
     ((r : List ℕ) → Follows EndsItem (a ++ r))
     × ((f : Frame) (m : Meaning) → Adds f m y → (p : ℕ) (k : List Frame) (r : List ℕ) → read p (at (base (got (gotOf m))) d (f ∷ k)) (a ++ r)
-        ≡ read (adv p a) (at (base (got (Got.value (shut z)))) (suc d) k) r)
+    ≡ read (adv p a) (at (base (got (Got.value (shut z)))) (suc d) k) r)
 
 record ItemRun (d : ℕ) (x : Inside) (a : List ℕ) (y : Inside) : Type 0 where
   frame : Frame
@@ -452,13 +453,13 @@ pub key-run : {c u : List ℕ} → Key true c u → {v : List ℕ} → Ws v → 
     → read p (at (base wantKey) d (inside (members x) ∷ k)) (c ++ (v ++ (ch ":" ∷ r))) ≡ read (suc (adv (adv p c) v)) (at (base want) d (pair x u ∷ k)) r
 key-run {c} {u} (Key.string y) {v} w x p d k r =
     string-run as-key y wantKey StartsString.first-key p d (inside (members x) ∷ k) (v ++ (ch ":" ∷ r))
-        (part-after-layout w _ (one-more r PartEnds.colon (λ e. omega arith)))
+    (part-after-layout w _ (one-more r PartEnds.colon (λ e. omega arith)))
     ∙ layout-run w (got (Got.string as-key u)) (adv p c) d (inside (members x) ∷ k) (ch ":" ∷ r)
     ∙ stepped _ _ _ _ _ refl refl
 key-run {c} (Key.identifier y) {v} w x p d k r =
     name-class y p d (inside (members x) ∷ k) (v ++ (ch ":" ∷ r))
     ∙ item-run Names.scan Machine.identifier Got.key (λ p s b. refl) (name-goes y p) d (inside (members x) ∷ k) (v ++ (ch ":" ∷ r))
-        (part-after-layout w _ (one-more r PartEnds.colon (λ e. omega arith)))
+    (part-after-layout w _ (one-more r PartEnds.colon (λ e. omega arith)))
     ∙ layout-run w (got (Got.key c)) (adv p c) d (inside (members x) ∷ k) (ch ":" ∷ r)
     ∙ stepped _ _ _ _ _ refl refl
 

@@ -16,8 +16,8 @@ use Rattle.grammar.specs.Characters.{Range, _to_, Of, Among, Many}
 use Rattle.grammar.specs.Characters as Characters
 use Rattle.grammar.specs.Comments.{C-begin-line, c-char, C-line, c-no-star, c-no-star-or-slash, Stars, C-inner, C-block, Blank, Line-end, Ws, Last}
 use Rattle.machine.specs.Machine
-use Rattle.machine.specs.Machine.{Base, want, wantKey, wantString, wantBinary, got, Mode, base, slash, line, block, star, Frame, Conf, at, fail, step,
-    read, finish, Verdict, classOf, blankC, noteOf, Note, lineEnd, starN, slashN, plainN, controlN}
+use Rattle.machine.specs.Machine.{Base, want, wantKey, wantString, wantBinary, got, Mode, base, slash, line, block, star, Frame, Conf, at, fail, step}
+use Rattle.machine.specs.Machine.{read, finish, Verdict, classOf, blankC, noteOf, Note, lineEnd, starN, slashN, plainN, controlN}
 use Rattle.machine.proofs.Tables.{cut-is}
 use Rattle.machine.proofs.Runs.{adv}
 
@@ -58,10 +58,31 @@ NoteIs b controlN = (b < 0x20) × (b ≡ ch "\t" → ⊥) × (b ≡ ch "\n" → 
 
 pub note-is : (b : ℕ) → NoteIs b (noteOf b)
 note-is b =
-    cut-is NoteIs 0 Machine.notes plainN b (omega arith)
-    ((λ l u. omega arith), ((λ l u. omega arith), ((λ l u. omega arith), ((λ l u. omega arith),
-        ((λ l u. omega arith), ((λ l u. omega arith), ((λ l u. omega arith), ((λ l u. omega arith),
-        ((λ l u. omega arith), ((λ l u. omega arith), λ l. omega arith))))))))))
+    cut-is NoteIs 0 Machine.notes plainN b (omega arith) (
+      (λ l u. omega arith),
+      (
+        (λ l u. omega arith),
+        (
+          (λ l u. omega arith),
+          (
+            (λ l u. omega arith),
+            (
+              (λ l u. omega arith),
+              (
+                (λ l u. omega arith),
+                (
+                  (λ l u. omega arith),
+                  (
+                    (λ l u. omega arith),
+                    ((λ l u. omega arith), ((λ l u. omega arith), λ l. omega arith)),
+                  ),
+                ),
+              ),
+            ),
+          ),
+        ),
+      ),
+    )
 
 -- a byte that a comment of each kind takes
 pub data InLine : Note → Type 0 where
@@ -261,6 +282,6 @@ layout-run (Ws.blank {b = b} x w) s p d k r = stepped _ _ _ _ _ (on-blank p d k 
 layout-run (Ws.line {b = b} {c = c} {a = a} x y w) s p d k r =
     simp (append-assoc, adv-join)
     (line-run x s p d k (b ∷ (a ++ r)) ∙ stepped (adv p c) (at (line s) d k) b (a ++ r) (at (base s) d k) (rw (end-class y))
-        (layout-run w s (suc (adv p c)) d k r))
+    (layout-run w s (suc (adv p c)) d k r))
 layout-run (Ws.block {c = c} {a = a} x w) s p d k r =
     simp (append-assoc, adv-join) (block-run x s p d k (a ++ r) ∙ layout-run w s (adv p c) d k r)

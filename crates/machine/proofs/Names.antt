@@ -20,15 +20,36 @@ use Rattle.machine.proofs.Strings.Ascii.{Ascii}
 
 pub letter-of : (b : ℕ) → Of i-begin b → classOf b ≡ letter
 unfolding classOf
-letter-of b (inl i) = cut-found rows neither b letter (inr (omega arith, inr (omega arith,
-    inr (omega arith, inr (omega arith, inr (omega arith, inl (omega arith, refl)))))))
+letter-of b (inl i) = cut-found rows neither b letter (inr (
+  omega arith,
+  inr (
+    omega arith,
+    inr (omega arith, inr (omega arith, inr (omega arith, inl (omega arith, refl)))),
+  ),
+))
 letter-of b (inr (inl i)) =
-    cut-found rows neither b letter (inr (omega arith, inr (omega arith, inr (omega arith,
-        inr (omega arith, inr (omega arith, inr (omega arith, inr (omega arith, inr (omega arith, inr (omega arith, inl (omega arith, refl)))))))))))
+    cut-found rows neither b letter (inr (
+      omega arith,
+      inr (
+        omega arith,
+        inr (
+          omega arith,
+          inr (omega arith, inr (omega arith, inr (omega arith, inr (omega arith, inr (omega arith, inr (omega arith, inl (omega arith, refl))))))),
+        ),
+      ),
+    ))
 letter-of b (inr (inr (inl i))) = cut-found rows neither b letter (inr (omega arith, inl (omega arith, refl)))
 letter-of b (inr (inr (inr (inl i)))) =
-    cut-found rows neither b letter (inr (omega arith, inr (omega arith, inr (omega arith,
-        inr (omega arith, inr (omega arith, inr (omega arith, inr (omega arith, inl (omega arith, refl)))))))))
+    cut-found rows neither b letter (inr (
+      omega arith,
+      inr (
+        omega arith,
+        inr (
+          omega arith,
+          inr (omega arith, inr (omega arith, inr (omega arith, inr (omega arith, inl (omega arith, refl))))),
+        ),
+      ),
+    ))
 
 figure-of : (b : ℕ) → In 0x30 0x39 b → classOf b ≡ figure
 unfolding classOf
@@ -52,8 +73,16 @@ class-is b =
             (λ l u. omega arith),
             (
               (λ l u. tt),
-              ((λ l u. inl (omega arith)), ((λ l u. tt), ((λ l u. inr (inr (inr (inl (omega arith))))),
-                  ((λ l u. tt), ((λ l u. inr (inl (omega arith))), (λ l. tt)))))),
+              (
+                (λ l u. inl (omega arith)),
+                (
+                  (λ l u. tt),
+                  (
+                    (λ l u. inr (inr (inr (inl (omega arith))))),
+                    ((λ l u. tt), ((λ l u. inr (inl (omega arith))), (λ l. tt))),
+                  ),
+                ),
+              ),
             ),
           ),
         ),

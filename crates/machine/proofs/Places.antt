@@ -19,8 +19,8 @@ use Rattle.meaning.specs.Limits.{depthLimit, textLimit}
 use Rattle.meaning.specs.Meaning.{Meaning}
 use Rattle.meaning.specs.Paper.{placeOf}
 use Rattle.meaning.specs.declared.Refusal.{Refusal}
-use Rattle.meaning.specs.declared.Refusal.the-variants.{TextTooLong, NotUtf8, NotGrammar, BadEscape, BadTime, BadNumber, TooDeep, TapeTooShort, StoreTooShort,
-    NotWellFormed, NoJsonForm, OutputTooShort, WrittenTooLong, NoSuchRecord}
+use Rattle.meaning.specs.declared.Refusal.the-variants.{TextTooLong, NotUtf8, NotGrammar, BadEscape, BadTime, BadNumber, TooDeep, TapeTooShort, StoreTooShort}
+use Rattle.meaning.specs.declared.Refusal.the-variants.{NotWellFormed, NoJsonForm, OutputTooShort, WrittenTooLong, NoSuchRecord}
 use Rattle.grammar.specs.Values.{Inside, elements, members}
 use Rattle.machine.specs.Scan.{Out, takes, stops, breaks, over}
 use Rattle.machine.specs.Strings as S
@@ -28,8 +28,8 @@ use Rattle.machine.specs.Binaries as B
 use Rattle.machine.specs.Names as N
 use Rattle.machine.specs.Numeric as D
 use Rattle.machine.specs.Machine
-use Rattle.machine.specs.Machine.{Got, Base, want, wantKey, wantString, wantBinary, got, base, line, item, Frame, inside, pair, Conf, at, fail, step,
-    read, finish, reading, Verdict, Ok, No, classOf, Class, noteOf, Note, lift, scan}
+use Rattle.machine.specs.Machine.{Got, Base, want, wantKey, wantString, wantBinary, got, base, line, item, Frame, inside, pair, Conf, at, fail, step}
+use Rattle.machine.specs.Machine.{read, finish, reading, Verdict, Ok, No, classOf, Class, noteOf, Note, lift, scan}
 use Rattle.machine.specs.Verdict.{decoded, verdict}
 use Rattle.machine.proofs.Runs.{adv}
 use Rattle.machine.proofs.Numeric.{Blame, firstOf, first-begin, numeric-first, numeric-place}
@@ -159,12 +159,8 @@ short-near p k c h = either (PartNear p) (ltb c S.noShort) (give-kept (suc p) k 
 
 body-near : (p : ℕ) (k : S.Ctx) (b : ℕ) → CtxKept p k → PartNear p (S.onBody p k b)
 unfolding S.onBody
-body-near p k b h =
-    either (PartNear p)
-    (eqb b
-    (ch
-    "\\")) (ctx-on p k h, omega arith) (either (PartNear p) (eqb b (k .quote)) (ctx-on p k h)
-        (either (PartNear p) (S.plainByte b) (give-kept (suc p) k (ctx-on p k h)) (place-3 p)))
+body-near p k b h = either (PartNear p) (eqb b (ch "\\")) (ctx-on p k h, omega arith)
+    (either (PartNear p) (eqb b (k .quote)) (ctx-on p k h) (either (PartNear p) (S.plainByte b) (give-kept (suc p) k (ctx-on p k h)) (place-3 p)))
 
 lines-near : (p q n : ℕ) (acc : List ℕ) (b : ℕ) → PartNear p (S.onLines p q n acc b)
 unfolding S.onLines
@@ -202,9 +198,8 @@ digit-near p x f o h = either (FreeNear p) (ltb x S.noDigit) tt h
 
 text-near : (p q : ℕ) (acc : List ℕ) (b : ℕ) → FreeNear p (B.onText p q acc b)
 unfolding B.onText
-text-near p q acc b =
-    either (FreeNear p)
-    (eqb b (ch "\\")) tt (either (FreeNear p) (eqb b q) tt (either (FreeNear p) (ltb b 0x20) (place-3 p) (either (FreeNear p) (leb b 0x7E) tt (place-3 p))))
+text-near p q acc b = either (FreeNear p) (eqb b (ch "\\")) tt (either (FreeNear p) (eqb b q) tt
+    (either (FreeNear p) (ltb b 0x20) (place-3 p) (either (FreeNear p) (leb b 0x7E) tt (place-3 p))))
 
 binary-near : (p : ℕ) (s : B.St) (b : ℕ) → FreeNear p (B.scan p s b)
 unfolding B.scan B.onShort

@@ -28,8 +28,9 @@ use Rattle.grammar.proofs.Utf8 as Utf8
 use Rattle.grammar.proofs.Bytewise
 use Rattle.machine.specs.Scan.{Out, takes, stops, breaks, over}
 use Rattle.machine.specs.Machine
-use Rattle.machine.specs.Machine.{Use, as-value, as-key, Got, Base, want, wantKey, wantString, wantBinary, got, Mode, base, line, item, Frame, inside,
-    pair, Conf, at, fail, step, read, finish, reading, Verdict, Ok, No, classOf, Class, lift, scan, asValue, asKey, wanted, shut, bareOf, onOut}
+use Rattle.machine.specs.Machine.{Use, as-value, as-key, Got, Base, want, wantKey, wantString, wantBinary, got, Mode, base, line, item, Frame, inside}
+use Rattle.machine.specs.Machine.{pair, Conf, at, fail, step, read, finish, reading, Verdict, Ok, No, classOf, Class, lift, scan, asValue, asKey, wanted}
+use Rattle.machine.specs.Machine.{shut, bareOf, onOut}
 use Rattle.machine.specs.Numeric
 use Rattle.machine.specs.Strings
 use Rattle.machine.specs.Binaries
@@ -156,22 +157,41 @@ last-pre g (Last.unended w c) = rw append-assoc at (Last.unended (lay-join g w) 
 
 on-pre : {P : Inside → List ℕ → Inside → Type 0} {Q : Inside → List ℕ → Type 0} (g t : List ℕ) (y : Inside)
     → ((a : List ℕ) (z : Inside) → P y a z → P y (g ++ a) z) → On P Q y t → On P Q y (g ++ t)
-on-pre g t y f h = record { first = g ++ h .first; rest = h .rest; whole = h .whole; split = rw (append-assoc, ← h .split); does =
-    f (h .first) (h .whole) (h .does); goes = h .goes }
+on-pre g t y f h = record {
+  first = g ++ h .first;
+  rest = h .rest;
+  whole = h .whole;
+  split = rw (append-assoc, ← h .split);
+  does = f (h .first) (h .whole) (h .does);
+  goes = h .goes;
+}
 
 settled-pre : {g : List ℕ} → Ws g → (k : List Frame) (d : ℕ) (m x : Meaning) (t : List ℕ) → Settled k d m x t → Settled k d m x (g ++ t)
 settled-pre l [] d m x t h = (last-pre l (h .0), h .1)
 settled-pre {g} l (f ∷ k) d m x t h = (h .0, h .1, on-pre g t (h .0) (λ a z. after-pre l) (h .2))
 
 valued-pre : {g : List ℕ} → Ws g → (k : List Frame) (d : ℕ) (x : Meaning) (t : List ℕ) → Valued k d x t → Valued k d x (g ++ t)
-valued-pre {g} l k d x t h = record { lead = g ++ h .lead; body = h .body; rest = h .rest; mean = h .mean; split = rw (append-assoc, ← h .split); layout =
-    lay-join l (h .layout); value = h .value; goes = h .goes }
+valued-pre {g} l k d x t h = record {
+  lead = g ++ h .lead;
+  body = h .body;
+  rest = h .rest;
+  mean = h .mean;
+  split = rw (append-assoc, ← h .split);
+  layout = lay-join l (h .layout);
+  value = h .value;
+  goes = h .goes;
+}
 
 keyed-pre : {g : List ℕ} → Ws g → (k : List Frame) (d : ℕ) (u : List ℕ) (x : Meaning) (t : List ℕ) → Keyed k d u x t → Keyed k d u x (g ++ t)
 keyed-pre l [] d u x t h = h
 keyed-pre l (inside (elements y) ∷ k) d u x t h = h
-keyed-pre {g} l (inside (members y) ∷ k) d u x t h = record { lead = g ++ h .lead; rest = h .rest; split = rw (append-assoc, ← h .split); layout = lay-join
-    l (h .layout); value = h .value }
+keyed-pre {g} l (inside (members y) ∷ k) d u x t h = record {
+  lead = g ++ h .lead;
+  rest = h .rest;
+  split = rw (append-assoc, ← h .split);
+  layout = lay-join l (h .layout);
+  value = h .value;
+}
 keyed-pre l (pair y w ∷ k) d u x t h = h
 
 joined-pre : {P Q : List ℕ → List ℕ → Type 0} {g u a m : List ℕ} → Ws g → ((u r : List ℕ) → Q u r → Q u (g ++ r)) → (t r : List ℕ) → Joined P u a m → t ≡ a ++ r
@@ -192,8 +212,16 @@ parts-pre : {P Q : List ℕ → List ℕ → Type 0} {g : List ℕ} → Ws g →
 parts-pre l f u t h = joined-pre l f t (h .rest) (h .does) (h .split) (h .goes)
 
 part-pre : {P Q : List ℕ → List ℕ → Type 0} {g : List ℕ} → Ws g → (u t : List ℕ) → Part P Q u t → Part P Q u (g ++ t)
-part-pre {g = g} l u t h = record { lead = g ++ h .lead; body = h .body; rest = h .rest; mean = h .mean; split = rw (append-assoc, ← h .split); layout =
-    lay-join l (h .layout); part = h .part; goes = h .goes }
+part-pre {g = g} l u t h = record {
+  lead = g ++ h .lead;
+  body = h .body;
+  rest = h .rest;
+  mean = h .mean;
+  split = rw (append-assoc, ← h .split);
+  layout = lay-join l (h .layout);
+  part = h .part;
+  goes = h .goes;
+}
 
 use-pre : {g : List ℕ} → Ws g → (z : Use) (k : List Frame) (d : ℕ) (x : Meaning) (u r : List ℕ) → AfterUse z k d x u r → AfterUse z k d x u (g ++ r)
 use-pre l as-value k d x u r h = settled-pre l k d (Meaning.string u) x r h
@@ -333,7 +361,7 @@ back-line {b} y k d s x t (inl h) o =
     let v : Octets (h .rest) = Bytewise.behind (h .last) (h .rest) (end-low (h .ends)) (after c (h .last ∷ h .rest) r) in
     let l : C-line (b ++ h .body) = C-line.c-line y (Bytewise.line-chars (h .chars) c) in
     subst (ToCome k d s x) (append-assoc (b ++ h .body) (h .last ∷ []) (h .rest) ∙ append-assoc b (h .body) (h .last ∷ h .rest)
-        ∙ ap (λ (a : List ℕ). b ++ a) (sym (h .split)))
+    ∙ ap (λ (a : List ℕ). b ++ a) (sym (h .split)))
     (pre (Ws.line l (h .ends) Ws.none) k d s x (h .rest) (h .goes v))
 back-line {b} y k d s x t (inr h) o = ended-come k d s x (b ++ t) (h .1) (Last.unended Ws.none
     (C-line.c-line y (Bytewise.line-chars (h .0) (begin-octets y t o))))
@@ -352,9 +380,9 @@ back-block k d s x t h o =
     let r = subst Octets (h .split) q in
     let f = stars-first (h .closing) in
     let c : Octets (h .inner) = split-ascii r (h .inner) (ch "*") (f .0 ++ (ch "/" ∷ h .rest)) (omega arith)
-        (ap (λ (a : List ℕ). h .inner ++ (a ++ (ch "/" ∷ h .rest))) (f .1)) in
+    (ap (λ (a : List ℕ). h .inner ++ (a ++ (ch "/" ∷ h .rest))) (f .1)) in
     let v : Octets (h .rest) = Bytewise.behind (ch "/") (h .rest) (omega arith) (after (stars-octets (h .closing)) (ch "/" ∷ h .rest)
-        (after c (h .stars ++ (ch "/" ∷ h .rest)) r)) in
+    (after c (h .stars ++ (ch "/" ∷ h .rest)) r)) in
     let l : C-block (letters "/*" ++ (h .inner ++ (h .stars ++ letters "/"))) = C-block.c-block (Bytewise.block-inner (h .chars) c) (h .closing) in
     let e : (letters "/*" ++ (h .inner ++ (h .stars ++ letters "/")) ++ []) ++ h .rest ≡ letters "/*" ++ t = rw (h .split) (simp (append-assoc, append-nil)) in
     subst (ToCome k d s x) e (pre (Ws.block l Ws.none) k d s x (h .rest) (h .goes v))
@@ -402,21 +430,42 @@ line-end-of b y = go (ℕ-discrete b (ch "\n"))
     go (no f) = rw (y .2 f) Line-end.carriage-return
 
 line-more : (b : ℕ) → (b < 0x20 → b ≡ ch "\t") → (k : List Frame) (d : ℕ) (s : Base) (x : Meaning) (t : List ℕ) → LineCome k d s x t → LineCome k d s x (b ∷ t)
-line-more b l k d s x t (inl h) = inl (record { body = b ∷ h .body; last = h .last; rest = h .rest; split = rw (h .split); chars =
-    Many.more (line-byte b l) (h .chars); ends = h .ends; goes = h .goes })
+line-more b l k d s x t (inl h) = inl (record {
+  body = b ∷ h .body;
+  last = h .last;
+  rest = h .rest;
+  split = rw (h .split);
+  chars = Many.more (line-byte b l) (h .chars);
+  ends = h .ends;
+  goes = h .goes;
+})
 line-more b l k d s x t (inr h) = inr (Many.more (line-byte b l) (h .0), h .1)
 
 block-more : (c : List ℕ) → Bytewise.Inner-byte c → (k : List Frame) (d : ℕ) (s : Base) (x : Meaning) (t : List ℕ) → BlockCome k d s x t
     → BlockCome k d s x (c ++ t)
 block-more c y k d s x t h =
-    record { inner = c ++ h .inner; stars = h .stars; rest = h .rest; split = rw (append-assoc, ← h .split); chars = Many.more y (h .chars); closing =
-        h .closing; goes = h .goes }
+    record {
+      inner = c ++ h .inner;
+      stars = h .stars;
+      rest = h .rest;
+      split = rw (append-assoc, ← h .split);
+      chars = Many.more y (h .chars);
+      closing = h .closing;
+      goes = h .goes;
+    }
 
 -- one star more before a star
 star-again : {a : List ℕ} → Many Bytewise.Inner-byte a → (k : List Frame) (d : ℕ) (s : Base) (x : Meaning) (z r t : List ℕ) → Stars z → ch "*" ∷ t ≡ a
     ++ (z ++ (ch "/" ∷ r)) → BaseCome k d s x r → BlockCome k d s x (ch "*" ∷ ch "*" ∷ t)
-star-again Many.none k d s x z r t y e h = record { inner = []; stars = ch "*" ∷ z; rest = r; split = ap (λ (c : List ℕ). ch "*" ∷ c) e; chars = Many.none;
-    closing = Stars.more y; goes = h }
+star-again Many.none k d s x z r t y e h = record {
+  inner = [];
+  stars = ch "*" ∷ z;
+  rest = r;
+  split = ap (λ (c : List ℕ). ch "*" ∷ c) e;
+  chars = Many.none;
+  closing = Stars.more y;
+  goes = h;
+}
 star-again (Many.more (Bytewise.Inner-byte.no-star (Bytewise.Byte.byte {b = b} (inl w))) m) k d s x z r t y e h =
     absurd (star-class b (w .1) .1 (sym (same-head e)))
 star-again (Many.more (Bytewise.Inner-byte.no-star (Bytewise.Byte.byte {b = b} (inr w))) m) k d s x z r t y e h = absurd (omega (arith, same-head e))
@@ -478,8 +527,14 @@ value-then (inside (elements y) ∷ k) d a m x r t e v h = go (h .0) (h .1) (h .
   where
     go : (z : Inside) → Adds (inside (elements y)) m z → On (After true d) (λ z r. Settled k (suc d) (shut z) x r) z r
         → On (Rest true d) (λ z r. Settled k (suc d) (shut z) x r) (elements y) t
-    go z Adds.element q = record { first = a ++ q .first; rest = q .rest; whole = q .whole; split = rw (append-assoc, ← q .split) e; does =
-        Rest.item Ws.none (Item.element v) (q .does); goes = q .goes }
+    go z Adds.element q = record {
+      first = a ++ q .first;
+      rest = q .rest;
+      whole = q .whole;
+      split = rw (append-assoc, ← q .split) e;
+      does = Rest.item Ws.none (Item.element v) (q .does);
+      goes = q .goes;
+    }
 value-then (inside (members y) ∷ k) d a m x r t e v h = absurd (none-adds (h .1))
   where
     none-adds : {z : Inside} → Adds (inside (members y)) m z → ⊥
@@ -548,14 +603,32 @@ comma-back : (p d : ℕ) (k : List Frame) (b : ℕ) (m x : Meaning) (t : List �
     → Settled k d m x (b ∷ t)
 comma-back p d [] b m x t e o h = absurd h
 comma-back p d (inside (elements y) ∷ k) b m x t e o h =
-    let q = h o in
-    (elements (Meanings.more y m), Adds.element, record { first = ch "," ∷ q .first; rest = q .rest; whole = q .whole; split = rw (e, ← q .split); does =
-        After.comma Ws.none (q .does); goes = q .goes })
+    let q = h o in (
+      elements (Meanings.more y m),
+      Adds.element,
+      record {
+        first = ch "," ∷ q .first;
+        rest = q .rest;
+        whole = q .whole;
+        split = rw (e, ← q .split);
+        does = After.comma Ws.none (q .does);
+        goes = q .goes;
+      },
+    )
 comma-back p d (inside (members y) ∷ k) b m x t e o h = absurd h
 comma-back p d (pair y u ∷ k) b m x t e o h =
-    let q = h o in
-    (members (Members.member y u m), Adds.member, record { first = ch "," ∷ q .first; rest = q .rest; whole = q .whole; split = rw (e, ← q .split); does =
-        After.comma Ws.none (q .does); goes = q .goes })
+    let q = h o in (
+      members (Members.member y u m),
+      Adds.member,
+      record {
+        first = ch "," ∷ q .first;
+        rest = q .rest;
+        whole = q .whole;
+        split = rw (e, ← q .split);
+        does = After.comma Ws.none (q .does);
+        goes = q .goes;
+      },
+    )
 
 -- the closing bracket of y
 closed-back : (p d : ℕ) (k : List Frame) (b : ℕ) (c : Machine.Bracket) (y : Inside) (x : Meaning) (t : List ℕ) → b ≡ closing c → Octets t
@@ -569,14 +642,32 @@ close-back : (p d : ℕ) (k : List Frame) (b : ℕ) (c : Machine.Bracket) (m x :
     → Comes (Machine.closeAfter p d c k m) x t → Settled k d m x (b ∷ t)
 close-back p d [] b c m x t e o h = absurd h
 close-back p d (inside (elements y) ∷ k) b c m x t e o h =
-    let q = closed-back p d k b c (elements (Meanings.more y m)) x t e o h in
-    (elements (Meanings.more y m), Adds.element, record { first = b ∷ []; rest = t; whole = elements (Meanings.more y m); split = refl; does =
-        After.end Ws.none (q .0); goes = q .1 })
+    let q = closed-back p d k b c (elements (Meanings.more y m)) x t e o h in (
+      elements (Meanings.more y m),
+      Adds.element,
+      record {
+        first = b ∷ [];
+        rest = t;
+        whole = elements (Meanings.more y m);
+        split = refl;
+        does = After.end Ws.none (q .0);
+        goes = q .1;
+      },
+    )
 close-back p d (inside (members y) ∷ k) b c m x t e o h = absurd h
 close-back p d (pair y u ∷ k) b c m x t e o h =
-    let q = closed-back p d k b c (members (Members.member y u m)) x t e o h in
-    (members (Members.member y u m), Adds.member, record { first = b ∷ []; rest = t; whole = members (Members.member y u m); split = refl; does =
-        After.end Ws.none (q .0); goes = q .1 })
+    let q = closed-back p d k b c (members (Members.member y u m)) x t e o h in (
+      members (Members.member y u m),
+      Adds.member,
+      record {
+        first = b ∷ [];
+        rest = t;
+        whole = members (Members.member y u m);
+        split = refl;
+        does = After.end Ws.none (q .0);
+        goes = q .1;
+      },
+    )
 
 colon-back : (p d : ℕ) (k : List Frame) (b : ℕ) (u : List ℕ) (x : Meaning) (t : List ℕ) → b ≡ ch ":" → Octets t → Comes (Machine.colonAfter p d k u) x t
     → Keyed k d u x (b ∷ t)
@@ -649,10 +740,22 @@ back-got p d k g b x t Machine.otherC y h = absurd h
 
 back-out : (p d : ℕ) (k : List Frame) (i : Machine.Item) (b : ℕ) (x : Meaning) (t : List ℕ) (o : Out Machine.Item Got) → OutIs ItemRest i b o
     → Comes (onOut p d k b o) x t → ItemCome k d i x (b ∷ t)
-back-out p d k i b x t (takes j) y h = record { first = b ∷ h .first; rest = h .rest; gives = h .gives; split = rw (h .split); does =
-    y (h .first) (h .gives) (h .does); goes = h .goes }
-back-out p d k i b x t (stops g) y h = record { first = []; rest = b ∷ t; gives = g; split = refl; does = y; goes =
-    back-got p d k g b x t (classOf b) (class-is b) h }
+back-out p d k i b x t (takes j) y h = record {
+  first = b ∷ h .first;
+  rest = h .rest;
+  gives = h .gives;
+  split = rw (h .split);
+  does = y (h .first) (h .gives) (h .does);
+  goes = h .goes;
+}
+back-out p d k i b x t (stops g) y h = record {
+  first = [];
+  rest = b ∷ t;
+  gives = g;
+  split = refl;
+  does = y;
+  goes = back-got p d k g b x t (classOf b) (class-is b) h;
+}
 back-out p d k i b x t (breaks r) y h = absurd h
 
 back-item : (p d : ℕ) (k : List Frame) (i : Machine.Item) (b : ℕ) (x : Meaning) (t : List ℕ) → Comes (Machine.start p d k b i) x t → ItemCome k d i x (b ∷ t)
@@ -725,8 +828,8 @@ string-wanted k d x t h o =
     let g : GotCome k d (Got.string as-value (h .does .0)) x (h .rest) = rw (h .does .2) at (h .goes) (c .1) in
     let w = concats (String-part true) (h .first) (h .does .0) [] p (g .does) refl in
     value-then k d (h .first ++ g .first) (Meaning.string (w .mean)) x (g .rest) t
-        (h .split ∙ ap (λ (a : List ℕ). h .first ++ a) (g .split) ∙ sym (append-assoc (h .first) (g .first) (g .rest))) (Value.string (w .whole))
-        (rw (w .is) at (g .goes))
+    (h .split ∙ ap (λ (a : List ℕ). h .first ++ a) (g .split) ∙ sym (append-assoc (h .first) (g .first) (g .rest))) (Value.string (w .whole))
+    (rw (w .is) at (g .goes))
 
 binary-wanted : (k : List Frame) (d : ℕ) (x : Meaning) (t : List ℕ) → ItemCome k d (Machine.binary-part [] Binaries.begin) x t → BaseCome k d want x t
 binary-wanted k d x t h o =
@@ -735,8 +838,8 @@ binary-wanted k d x t h o =
     let g : GotCome k d (Got.binary (h .does .0)) x (h .rest) = rw (h .does .2) at (h .goes) q in
     let w = concats B-value (h .first) (h .does .0) [] p (g .does) refl in
     value-then k d (h .first ++ g .first) (Meaning.binary (w .mean)) x (g .rest) t
-        (h .split ∙ ap (λ (a : List ℕ). h .first ++ a) (g .split) ∙ sym (append-assoc (h .first) (g .first) (g .rest))) (Value.binary (w .whole))
-        (rw (w .is) at (g .goes))
+    (h .split ∙ ap (λ (a : List ℕ). h .first ++ a) (g .split) ∙ sym (append-assoc (h .first) (g .first) (g .rest))) (Value.binary (w .whole))
+    (rw (w .is) at (g .goes))
 
 close-wanted : (p d : ℕ) (k : List Frame) (b : ℕ) (c : Machine.Bracket) (y : Inside) (x : Meaning) (t : List ℕ) → b ≡ closing c → Octets t
     → Comes (Machine.closed p d k c y) x t → On (Rest true d) (λ z r. Settled k (suc d) (shut z) x r) y (b ∷ t)
@@ -813,7 +916,7 @@ string-key k d x t h o =
     let g : GotCome k d (Got.string as-key (h .does .0)) x (h .rest) = rw (h .does .2) at (h .goes) (c .1) in
     let w = concats (String-part true) (h .first) (h .does .0) [] p (g .does) refl in
     key-then k d (h .first ++ g .first) (w .mean) x (g .rest) t (h .split ∙ ap (λ (a : List ℕ). h .first ++ a) (g .split)
-        ∙ sym (append-assoc (h .first) (g .first) (g .rest))) (Key.string (w .whole)) (rw (w .is) at (g .goes))
+    ∙ sym (append-assoc (h .first) (g .first) (g .rest))) (Key.string (w .whole)) (rw (w .is) at (g .goes))
 
 name-key : (k : List Frame) (d : ℕ) (x : Meaning) (t : List ℕ) → ItemCome k d (Machine.identifier Names.begin) x t → BaseCome k d wantKey x t
 name-key k d x t h o =
@@ -853,16 +956,32 @@ string-more : (z : Use) (u : List ℕ) (k : List Frame) (d : ℕ) (x : Meaning) 
 string-more z u k d x t h o =
     let y = raw-part (h .does .1) in
     let c = part-cut y (h .rest) (subst Octets (h .split) o) in
-    record { lead = []; body = h .first; rest = h .rest; mean = h .does .0; split = h .split; layout = Ws.none; part = part-of y (c .0); goes =
-        rw (h .does .2) at (h .goes) (c .1) }
+    record {
+      lead = [];
+      body = h .first;
+      rest = h .rest;
+      mean = h .does .0;
+      split = h .split;
+      layout = Ws.none;
+      part = part-of y (c .0);
+      goes = rw (h .does .2) at (h .goes) (c .1);
+    }
 
 binary-more : (u : List ℕ) (k : List Frame) (d : ℕ) (x : Meaning) (t : List ℕ) → ItemCome k d (Machine.binary-part u Binaries.begin) x t
     → BaseCome k d (wantBinary u) x t
 binary-more u k d x t h o =
     let p = binary-of (h .does .1) in
     let q : Octets (h .rest) = after (Utf8.binary-octets (Concat.part p)) (h .rest) (subst Octets (h .split) o) in
-    record { lead = []; body = h .first; rest = h .rest; mean = h .does .0; split = h .split; layout = Ws.none; part = p; goes =
-        rw (h .does .2) at (h .goes) q }
+    record {
+      lead = [];
+      body = h .first;
+      rest = h .rest;
+      mean = h .does .0;
+      split = h .split;
+      layout = Ws.none;
+      part = p;
+      goes = rw (h .does .2) at (h .goes) q;
+    }
 
 back-part : (p d : ℕ) (k : List Frame) (b : ℕ) (x : Meaning) (t : List ℕ) (s : Base) (q r : Conf) → (Comes q x t → BaseCome k d s x (b ∷ t))
     → (Comes r x t → BaseCome k d s x (b ∷ t)) → (c : Class) → ClassIs b c → Comes (Machine.onPart p d k b s q r c) x t → BaseCome k d s x (b ∷ t)
@@ -889,10 +1008,10 @@ back-base p d k b x t want h = back-want p d k b x t (classOf b) (class-is b) h
 back-base p d k b x t wantKey h = back-key p d k b x t (classOf b) (class-is b) h
 back-base p d k b x t (wantString z u) h =
     back-part p d k b x t (wantString z u) _ _ (λ q. string-more z u k d x (b ∷ t) (back-item p d k (Machine.string-part z u Strings.begin) b x t q))
-        (λ q. absurd q) (classOf b) (class-is b) h
+    (λ q. absurd q) (classOf b) (class-is b) h
 back-base p d k b x t (wantBinary u) h =
     back-part p d k b x t (wantBinary u) _ _ (λ q. absurd q) (λ q. binary-more u k d x (b ∷ t) (back-item p d k (Machine.binary-part u Binaries.begin) b x t q))
-        (classOf b) (class-is b) h
+    (classOf b) (class-is b) h
 back-base p d k b x t (got g) h = back-got p d k g b x t (classOf b) (class-is b) h
 
 back : (p : ℕ) (c : Conf) (b : ℕ) (x : Meaning) (t : List ℕ) → Comes (step p c b) x t → Comes c x (b ∷ t)
@@ -961,12 +1080,19 @@ pub derived : (t : List ℕ) (m : Meaning) → Octets t → reading t ≡ Ok m �
 unfolding reading
 derived t m o e =
     let h = comes t 0 (at (base want) depthLimit []) m e o in
-    record { lead = h .lead; body = h .body; rest = h .rest; split = h .split; layout = h .layout; value =
-        subst (Value true depthLimit (h .body)) (h .goes .1) (h .value); last = h .goes .0 }
+    record {
+      lead = h .lead;
+      body = h .body;
+      rest = h .rest;
+      split = h .split;
+      layout = h .layout;
+      value = subst (Value true depthLimit (h .body)) (h .goes .1) (h .value);
+      last = h .goes .0;
+    }
 
 -- in UTF-8 and within the length, what the machine accepts, the grammar derives
 pub derives : (t : List ℕ) (m : Meaning) → Octets t → length t ≤ textLimit → reading t ≡ Ok m → Text true t m
 derives t m o l e =
     let h = derived t m o e in
     subst (λ (s : List ℕ). Text true s m) (sym (h .split)) (Text.text (h .layout) (h .value) (h .last)
-        (subst (λ (s : List ℕ). length s ≤ textLimit) (h .split) l))
+    (subst (λ (s : List ℕ). length s ≤ textLimit) (h .split) l))

@@ -12,8 +12,8 @@ use Rattle.rules.specs.Between.Decided.{isLeap, isDate}
 use Rattle.meaning.specs.Letters.{letters}
 use Rattle.meaning.specs.Limits.{depthLimit}
 use Rattle.meaning.specs.Paper.{numberOf, placeOf}
-use Rattle.meaning.specs.Canonical.{decimalIn, decimal, fixed, trimmed, escaped, escapes, quoted, hexPairs, binaryText, powerText, numberText, dateText,
-    fractionText, clockText, offsetText, timeText, canonical, elementsText, membersText}
+use Rattle.meaning.specs.Canonical.{decimalIn, decimal, fixed, trimmed, escaped, escapes, quoted, hexPairs, binaryText, powerText, numberText, dateText}
+use Rattle.meaning.specs.Canonical.{fractionText, clockText, offsetText, timeText, canonical, elementsText, membersText}
 use Rattle.meaning.proofs.Vectors.{Vector, gots, wants}
 use Rattle.machine.specs.Numeric.{strip, settle}
 use Rattle.machine.specs.Strings as S
@@ -42,7 +42,7 @@ unfoldable pub vectors : List (Vector (List ℕ))
 vectors =
     -- the sample record and the cases marked P (docs/FORMAT.md, 14)
     text "{ run: 0x1F, # melt\n  eta: NaN, at: 2021-03-04 05:06:07.50Z, t: [.5, 1250.5,], }"
-        (means "{\"run\":31,\"eta\":NaN,\"at\":2021-03-04T05:06:07.5Z,\"t\":[5e-1,12505e-1]}")
+    (means "{\"run\":31,\"eta\":NaN,\"at\":2021-03-04T05:06:07.5Z,\"t\":[5e-1,12505e-1]}")
     ∷ text "" (refused 3 0)
     ∷ text "[,]" (refused 3 1)
     ∷ text "[1,]" (means "[1]")
@@ -68,7 +68,7 @@ vectors =
     ∷ text "12:00:00.9999999999" (means "12:00:00.999999999")
     ∷ text "2021-03-04T05:06:07-23:59" (means "2021-03-04T05:06:07-23:59")
     ∷ text "[[[[[[[[[[[[[[[[[[[[[[[[[[[[[[[[[[[[[[[[[[[[[[[[[[[[[[[[[[[[[[[[]]]]]]]]]]]]]]]]]]]]]]]]]]]]]]]]]]]]]]]]]]]]]]]]]]]]]]]]]]]]]]]]"
-        (means "[[[[[[[[[[[[[[[[[[[[[[[[[[[[[[[[[[[[[[[[[[[[[[[[[[[[[[[[[[[[[[[[]]]]]]]]]]]]]]]]]]]]]]]]]]]]]]]]]]]]]]]]]]]]]]]]]]]]]]]]]]]]]]]]")
+    (means "[[[[[[[[[[[[[[[[[[[[[[[[[[[[[[[[[[[[[[[[[[[[[[[[[[[[[[[[[[[[[[[[]]]]]]]]]]]]]]]]]]]]]]]]]]]]]]]]]]]]]]]]]]]]]]]]]]]]]]]]]]]]]]]]")
     ∷ text "[[[[[[[[[[[[[[[[[[[[[[[[[[[[[[[[[[[[[[[[[[[[[[[[[[[[[[[[[[[[[[[[[" (refused 7 64)
     ∷ text "[{a:[{a:[{a:[{a:[{a:[{a:[{a:[{a:[{a:[{a:[{a:[{a:[{a:[{a:[{a:[{a:[{a:[{a:[{a:[{a:[{a:[{a:[{a:[{a:[{a:[{a:[{a:[{a:[{a:[{a:[{a:[{a:[" (refused 7 128)
     -- the points about texts that docs/FORMAT.md marks as decided

@@ -111,15 +111,15 @@ pub data Class : Type 0 where
 abbrev pub classes : List (ℕ × Class)
 classes =
     (0x08, otherC) ∷ (ch "\n", blankC) ∷ (0x0C, otherC) ∷ (ch "\r", blankC) ∷ (0x1F, otherC) ∷ (ch " ", blankC) ∷
-        (ch "!", otherC)
+    (ch "!", otherC)
     ∷ (ch "\"", quoteC) ∷ (ch "#", hashC) ∷ (ch "$", dollarC) ∷ (ch "&", otherC) ∷ (ch "'", quoteC) ∷ (ch "*", otherC)
     ∷ (ch "+", plusC) ∷ (ch ",", commaC) ∷ (ch ".", otherC) ∷ (ch "/", slashC) ∷ (ch "9", otherC) ∷ (ch ":", colonC)
     ∷ (ch "@", otherC) ∷ (ch "Z", letterC) ∷ (ch "[", openC square) ∷
-        (ch "\\", otherC) ∷ (ch "]", closeC square) ∷ (ch "^", otherC)
+    (ch "\\", otherC) ∷ (ch "]", closeC square) ∷ (ch "^", otherC)
     ∷ (ch "_", letterC) ∷ (ch "`", otherC) ∷ (ch "e", letterC) ∷ (ch "f", letterF) ∷ (ch "m", letterC) ∷
-        (ch "n", letterN)
+    (ch "n", letterN)
     ∷ (ch "s", letterC) ∷ (ch "t", letterT) ∷ (ch "z", letterC) ∷ (ch "{", openC curly) ∷ (ch "|", otherC) ∷
-        (ch "}", closeC curly) ∷ []
+    (ch "}", closeC curly) ∷ []
 
 abbrev pub classOf : ℕ → Class
 classOf = cut classes otherC

@@ -119,9 +119,9 @@ mutual
       let l = length-append (membersStore ms ++ k) (storeOf m) in
       let l′ = length-append (membersStore ms) k in
       fits-append (membersOf ms i at ++ (Record.Key (length k) (at + length (membersStore ms)) ∷ []))
-          (recordsOf m (i + membersRecords ms + 1) (at + length (membersStore ms) + length k))
+      (recordsOf m (i + membersRecords ms + 1) (at + length (membersStore ms) + length k))
       (fits-append (membersOf ms i at) (Record.Key (length k) (at + length (membersStore ms)) ∷ []) (members-fit ms i at (p .0) (omega arith) (omega arith))
-          ((omega arith, omega arith), tt))
+      ((omega arith, omega arith), tt))
       (records-fit m (i + membersRecords ms + 1) (at + length (membersStore ms) + length k) (p .2) (omega arith) (omega arith))
 
 mutual

@@ -9,8 +9,8 @@ use Rattle.rules.specs.Rfc3629.{Octets}
 use Rattle.meaning.specs.declared.Record.{Record}
 use Rattle.meaning.specs.Meaning.{Meaning, Meanings, Members, null, bool, number, string, binary, time, array, object, none, more, bare, member}
 use Rattle.meaning.specs.Good.{GoodParts, GoodElements, GoodMembers}
-use Rattle.meaning.specs.Tape.{records, elementsRecords, membersRecords, storeOf, elementsStore, membersStore, recordsOf, elementsOf, membersOf,
-    recordBytes, WellFormed}
+use Rattle.meaning.specs.Tape.{records, elementsRecords, membersRecords, storeOf, elementsStore, membersStore, recordsOf, elementsOf, membersOf}
+use Rattle.meaning.specs.Tape.{recordBytes, WellFormed}
 use Rattle.meaning.specs.Look.{Inside, Utf8Inside, OwnFields, wholeRecords, RecordAt}
 use Rattle.meaning.proofs.Bytes.{part-is}
 use Rattle.meaning.proofs.Sizes.{records-length, elements-length, members-length}

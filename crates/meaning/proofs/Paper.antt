@@ -4,8 +4,8 @@ use mathlib.Core.Bool.{cond}
 use Prim.Native.Nat.{ℕ}
 use lib.Dec.{eqb}
 use Rattle.meaning.specs.declared.Refusal.{Refusal}
-use Rattle.meaning.specs.declared.Refusal.the-variants.{TextTooLong, NotUtf8, NotGrammar, BadEscape, BadTime, BadNumber, TooDeep, TapeTooShort,
-    StoreTooShort, NotWellFormed, NoJsonForm, OutputTooShort, WrittenTooLong, NoSuchRecord}
+use Rattle.meaning.specs.declared.Refusal.the-variants.{TextTooLong, NotUtf8, NotGrammar, BadEscape, BadTime, BadNumber, TooDeep, TapeTooShort}
+use Rattle.meaning.specs.declared.Refusal.the-variants.{StoreTooShort, NotWellFormed, NoJsonForm, OutputTooShort, WrittenTooLong, NoSuchRecord}
 use Rattle.rules.specs.Paper.{Said, numberSaid, placeSaid}
 use Rattle.meaning.specs.Paper.{numberOf, placeOf, refusalSaid}
 

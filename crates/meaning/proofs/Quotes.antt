@@ -167,7 +167,7 @@ pub quoted-octets : {s : List ℕ} → Octets s → Octets (quoted s)
 unfolding quoted
 quoted-octets {s} o =
     octets-append (letters "\"") (octets-append (escapes s) (ascii-octets (letters "\"") (omega arith)) (escapes-octets o))
-        (ascii-octets (letters "\"") (omega arith))
+    (ascii-octets (letters "\"") (omega arith))
 
 -- ---- binary
 

@@ -181,6 +181,6 @@ pub same-meaning : (m n : Meaning) → recordsOf m 0 0 ≡ recordsOf n 0 0 → s
 same-meaning m n r s =
     let a = rebuilt (storeOf m) m refl in
     let b = rebuilt (storeOf m) n s in
-    let c : run (storeOf m) (recordsOf m 0 0) 0 nothing ≡ run (storeOf m) (recordsOf n 0 0) 0 nothing = ap (λ (l : List Record). run (storeOf m) l 0 nothing) r
-        in
+    let c : run (storeOf m) (recordsOf m 0 0) 0 nothing ≡ run (storeOf m) (recordsOf n 0 0) 0 nothing =
+    ap (λ (l : List Record). run (storeOf m) l 0 nothing) r in
     cc

@@ -98,7 +98,7 @@ pub record Small (a b c d : ℕ) : Type 0 where
   pub mid-fits : c < 256 ^ 4
   pub high-fits : d < 256 ^ 8
 
-flag-small : (b : Bool) → flag b < 2
+pub flag-small : (b : Bool) → flag b < 2
 flag-small true = omega arith
 flag-small false = omega arith
 
@@ -274,9 +274,9 @@ records-injective (r ∷ rs) (s ∷ ss) f g e =
     let h = record-length r in
     let k = record-length s in
     let a : recordBytes r ≡ recordBytes s = sym (take-at (recordBytes r) (recordsBytes rs) 16 h) ∙ ap (take 16) e
-        ∙ take-at (recordBytes s) (recordsBytes ss) 16 k in
+    ∙ take-at (recordBytes s) (recordsBytes ss) 16 k in
     let b : recordsBytes rs ≡ recordsBytes ss = sym (drop-at (recordBytes r) (recordsBytes rs) 16 h) ∙ ap (drop 16) e
-        ∙ drop-at (recordBytes s) (recordsBytes ss) 16 k in
+    ∙ drop-at (recordBytes s) (recordsBytes ss) 16 k in
     ap₂ (λ (x : Record) (y : List Record). x ∷ y) (record-injective r s (f .0) (g .0) a) (records-injective rs ss (f .1) (g .1) b)
 
 past : (r : Record) (l : List ℕ) (n i : ℕ) → 16 + n ≡ i → drop i (recordBytes r ++ l) ≡ drop n l

@@ -18,8 +18,8 @@ use Rattle.meaning.specs.Limits.{powerLimit, second, fractionDigits, rec
 use Rattle.meaning.specs.Meaning.{Meaning, Meanings, Members, null, bool, number, string, binary, time, array, object, none, more, bare, member}
 use Rattle.meaning.specs.Good.{GoodNumber, GoodParts, GoodElements, GoodMembers}
 use Rattle.meaning.specs.Tape.{records, elementsRecords, membersRecords, storeOf, elementsStore, membersStore, bytes}
-use Rattle.meaning.specs.Canonical.{decimal, fixed, trimmed, quoted, binaryText, minusText, powerText, numberText, dateText, fractionText, clockText,
-    minutesText, offsetText, timeText, elementsComma, membersComma, canonical, elementsText, membersText}
+use Rattle.meaning.specs.Canonical.{decimal, fixed, trimmed, quoted, binaryText, minusText, powerText, numberText, dateText, fractionText, clockText}
+use Rattle.meaning.specs.Canonical.{minutesText, offsetText, timeText, elementsComma, membersComma, canonical, elementsText, membersText}
 use Rattle.meaning.proofs.Digits.{Ascii, ascii-append, decimal-ascii, decimal-length, fixed-ascii, fixed-length, trimmed-ascii, trimmed-length}
 use Rattle.meaning.proofs.Fitting.{finite-below, finite-power}
 use Rattle.meaning.proofs.Quotes.{octets-append, ascii-octets, quoted-octets, quoted-length, escapes-length, pairs-length, binary-ascii}
@@ -144,7 +144,7 @@ time-ascii (LocalTime t) = clock-ascii t
 time-ascii (LocalDateTime d t) = between (dateText d) (clockText t) (ch "T") (date-ascii d) (omega arith) (clock-ascii t)
 time-ascii (OffsetDateTime d t o) =
     ascii-append (dateText d ++ letters "T" ++ clockText t) (offsetText o) (between (dateText d) (clockText t) (ch "T") (date-ascii d) (omega arith)
-        (clock-ascii t))
+    (clock-ascii t))
     (offset-ascii o)
 
 pub time-length : (t : Time) → length (timeText t) ≤ 35
@@ -190,7 +190,7 @@ mutual
   canonical-octets (time t) p = plain (timeText t) (time-ascii t)
   canonical-octets (array ms) p =
       octets-append (letters "]") (octets-append (elementsText ms) (plain (letters "[") (omega arith)) (elements-octets ms p))
-          (plain (letters "]") (omega arith))
+      (plain (letters "]") (omega arith))
   canonical-octets (object ms) p =
       octets-append (letters "}") (octets-append (membersText ms) (plain (letters "{") (omega arith)) (members-octets ms p)) (plain (letters "}") (omega arith))
 
@@ -206,7 +206,7 @@ mutual
       octets-append (canonical m)
       (octets-append (letters ":")
       (octets-append (quoted k) (octets-append (membersComma ms) (members-octets ms (p .0)) (plain (membersComma ms) (members-comma ms)))
-          (quoted-octets (p .1)))
+      (quoted-octets (p .1)))
       (plain (letters ":") (omega arith)))
       (canonical-octets m (p .2))
 

@@ -20,14 +20,14 @@ use Rattle.meaning.specs.Clock.{timeOfDay}
 use Rattle.meaning.specs.Meaning.{Meaning, null, bool, number, string, binary, time, array, object, none, more, bare, member}
 use Rattle.meaning.specs.Good.{GoodFinite, nonzero, GoodDate, most, depth, Good}
 use Rattle.meaning.specs.Tape.{records, storeOf, bytes, recordsOf, recordBytes}
-use Rattle.meaning.specs.Canonical.{decimalIn, decimal, fixed, trimmed, escaped, escapes, quoted, hexPairs, binaryText, powerText, numberText, dateText,
-    fractionText, clockText, offsetText, timeText, canonical}
+use Rattle.meaning.specs.Canonical.{decimalIn, decimal, fixed, trimmed, escaped, escapes, quoted, hexPairs, binaryText, powerText, numberText, dateText}
+use Rattle.meaning.specs.Canonical.{fractionText, clockText, offsetText, timeText, canonical}
 use Rattle.meaning.specs.Json.{firstWithout, noJson}
 
 abbrev pub march : Date
 march = record { year = 2021; month = 3; day = 4 }
 
--- { run: 0x1F, eta: NaN, at: 2021-03-04 05:06:07.50Z, t: [.5, 1250.5,], }
+-- { run: 0x1F, eta: NaN, at: 2021-03-04 05:06:07.50Z, t: [.5, 1250.5,]}
 abbrev pub sample : Meaning
 sample =
     object
@@ -79,7 +79,7 @@ meanings =
     ∷ shows (number (Infinite false)) 1 0 "" "Infinity" (first 0)
     ∷ shows (number (Infinite true)) 1 0 "" "-Infinity" (first 0)
     ∷ shows (string (letters "a\"\\\u{8}\u{c}\n\r\t\u{1}\u{1f}/\u{7f}")) 1 12 "a\"\\\u{8}\u{c}\n\r\t\u{1}\u{1f}/\u{7f}"
-        "\"a\\\"\\\\\\b\\f\\n\\r\\t\\u0001\\u001f/\u{7f}\"" nowhere
+    "\"a\\\"\\\\\\b\\f\\n\\r\\t\\u0001\\u001f/\u{7f}\"" nowhere
     ∷ shows (binary (letters "\0\nÿ")) 1 3 "\0\nÿ" "$000aff" (first 0)
     ∷ shows (time (LocalDate march)) 1 0 "" "2021-03-04" (first 0)
     ∷ shows (time (LocalTime 86399999999999)) 1 0 "" "23:59:59.999999999" (first 0)

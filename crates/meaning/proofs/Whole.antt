@@ -36,7 +36,7 @@ injective m n p q h k l t s =
     let l′ : bytes n ≤ storeLimit = omega (arith, ap length s) in
     same-meaning m n
     (records-injective (recordsOf m 0 0) (recordsOf n 0 0) (records-fit m 0 0 p (omega arith) (omega arith)) (records-fit n 0 0 q (omega arith) (omega arith))
-        t) s
+    t) s
 
 -- a tape and a store are those of one meaning only
 pub one-meaning : (tape store : List ℕ) (v w : WellFormed tape store) → v .meaning ≡ w .meaning

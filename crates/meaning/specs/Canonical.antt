@@ -11,8 +11,8 @@ use Rattle.meaning.specs.declared.Time.{Time}
 use Rattle.meaning.specs.declared.Time.the-variants.{LocalDate, LocalTime, LocalDateTime, OffsetDateTime}
 use Rattle.meaning.specs.Letters.{letters, ch}
 use Rattle.meaning.specs.Limits.{fractionDigits, second}
-use Rattle.meaning.specs.Meaning.{Meaning, Meanings, Members, null, bool, number, string, binary, time, array,
-    object, none, more, bare, member}
+use Rattle.meaning.specs.Meaning.{Meaning, Meanings, Members, null, bool, number, string, binary, time, array}
+use Rattle.meaning.specs.Meaning.{object, none, more, bare, member}
 
 -- ---- digits
 
@@ -112,7 +112,7 @@ fractionText n = cond (eqb n 0) [] (letters "." ++ trimmed fractionDigits n)
 unfoldable pub clockText : ℕ → List ℕ
 clockText t =
     fixed 2 (t / (60 * 60 * second)) ++ letters ":" ++ fixed 2 (t / (60 * second) % 60) ++ letters ":"
-        ++ fixed 2 (t / second % 60)
+    ++ fixed 2 (t / second % 60)
     ++ fractionText (t % second)
 
 -- hh:mm

@@ -13,8 +13,8 @@ use Rattle.meaning.specs.declared.Date.{Date}
 use Rattle.meaning.specs.declared.Time.{Time}
 use Rattle.meaning.specs.declared.Time.the-variants.{LocalDate, LocalTime, LocalDateTime, OffsetDateTime}
 use Rattle.meaning.specs.Limits.{depthLimit, coefficientLimit, powerLimit, offsetLimit, day}
-use Rattle.meaning.specs.Meaning.{Meaning, Meanings, Members, null, bool, number, string, binary, time, array,
-    object, none, more, bare, member}
+use Rattle.meaning.specs.Meaning.{Meaning, Meanings, Members, null, bool, number, string, binary, time, array}
+use Rattle.meaning.specs.Meaning.{object, none, more, bare, member}
 
 -- A coefficient and a power of ten: the coefficient is below 2^64 and doesn't end in the digit 0, the power lies from
 -- -9,999 to 9,999. Zero has coefficient 0 and power 0.

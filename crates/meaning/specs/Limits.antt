@@ -32,10 +32,6 @@ second = 10 ^ fractionDigits
 abbrev pub day : ℕ
 day = 24 * 60 * 60 * second
 
--- years 0000 to 9999
-abbrev pub yearLimit : ℕ
-yearLimit = 9999
-
 -- the records of a well-formed tape, and the bytes of its store
 abbrev pub recordLimit : ℕ
 recordLimit = 16777216

@@ -12,8 +12,8 @@ use Rattle.meaning.specs.declared.Time.the-variants.{LocalDate, LocalTim
 use Rattle.meaning.specs.declared.Record.{Record}
 use Rattle.meaning.specs.Letters.{letters}
 use Rattle.meaning.specs.Limits.{recordLimit, storeLimit}
-use Rattle.meaning.specs.Meaning.{Meaning, Meanings, Members, null, bool, number, string, binary, time, array,
-    object, none, more, bare, member}
+use Rattle.meaning.specs.Meaning.{Meaning, Meanings, Members, null, bool, number, string, binary, time, array}
+use Rattle.meaning.specs.Meaning.{object, none, more, bare, member}
 use Rattle.meaning.specs.Good.{Good}
 use Rattle.meaning.specs.Bytes.{le, unnamed, flag}
 

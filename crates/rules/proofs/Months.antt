@@ -8,8 +8,8 @@ use native.Mathlib.Omega.{arith}
 use lib.Dec.{eqb, leb}
 use lib.ListN.{getD, List·getD-eq-default}
 use borrow.Author.Tests.{eq-eqb, ne-eqb, le-leb, leb-true}
-use Rattle.rules.specs.Rfc3339.{Leap, fourth, fourth-hundred, Days, january, february-normal, february-leap, march, april, may, june, july, august,
-    september, october, november, december, Date, Dated, done}
+use Rattle.rules.specs.Rfc3339.{Leap, fourth, fourth-hundred, Days, january, february-normal, february-leap, march, april, may, june, july, august}
+use Rattle.rules.specs.Rfc3339.{september, october, november, december, Date, Dated, done}
 use Rattle.rules.specs.Rfc3339
 use Rattle.rules.specs.Between.Decided.{table, isLeap, daysOf, isDate}
 use Rattle.rules.specs.Between.Posts.{IsLeap, leap, common, Lasts, month, no-month}

@@ -121,17 +121,38 @@ numbered (utf8-2 {a = a} {b = b} x y) =
       scalar = low-scalar (omega arith);
       bytes = two (omega arith) (omega arith) ∙ sym (row-2 (number-2 a b) (omega arith) (omega arith));
     }
-numbered (utf8-3a {b = b} {c = c} y z) = record { number = number-3 0xE0 b c; scalar = low-scalar (omega arith); bytes =
-    bytes-3 0xE0 b c (omega arith) (omega arith) z (omega arith) }
-numbered (utf8-3b {a = a} {b = b} {c = c} x y z) = record { number = number-3 a b c; scalar = low-scalar (omega arith); bytes =
-    bytes-3 a b c (omega arith) y z (omega arith) }
-numbered (utf8-3c {b = b} {c = c} y z) = record { number = number-3 0xED b c; scalar = low-scalar (omega arith); bytes =
-    bytes-3 0xED b c (omega arith) (omega arith) z (omega arith) }
-numbered (utf8-3d {a = a} {b = b} {c = c} x y z) = record { number = number-3 a b c; scalar = high-scalar (omega arith) (omega arith); bytes =
-    bytes-3 a b c (omega arith) y z (omega arith) }
-numbered (utf8-4a {b = b} {c = c} {d = d} y z w) = record { number = number-4 0xF0 b c d; scalar = high-scalar (omega arith) (omega arith); bytes =
-    bytes-4 0xF0 b c d (omega arith) (omega arith) z w (omega arith) }
-numbered (utf8-4b {a = a} {b = b} {c = c} {d = d} x y z w) = record { number = number-4 a b c d; scalar = high-scalar (omega arith) (omega arith); bytes =
-    bytes-4 a b c d (omega arith) y z w (omega arith) }
-numbered (utf8-4c {b = b} {c = c} {d = d} y z w) = record { number = number-4 0xF4 b c d; scalar = high-scalar (omega arith) (omega arith); bytes =
-    bytes-4 0xF4 b c d (omega arith) (omega arith) z w (omega arith) }
+numbered (utf8-3a {b = b} {c = c} y z) = record {
+  number = number-3 0xE0 b c;
+  scalar = low-scalar (omega arith);
+  bytes = bytes-3 0xE0 b c (omega arith) (omega arith) z (omega arith);
+}
+numbered (utf8-3b {a = a} {b = b} {c = c} x y z) = record {
+  number = number-3 a b c;
+  scalar = low-scalar (omega arith);
+  bytes = bytes-3 a b c (omega arith) y z (omega arith);
+}
+numbered (utf8-3c {b = b} {c = c} y z) = record {
+  number = number-3 0xED b c;
+  scalar = low-scalar (omega arith);
+  bytes = bytes-3 0xED b c (omega arith) (omega arith) z (omega arith);
+}
+numbered (utf8-3d {a = a} {b = b} {c = c} x y z) = record {
+  number = number-3 a b c;
+  scalar = high-scalar (omega arith) (omega arith);
+  bytes = bytes-3 a b c (omega arith) y z (omega arith);
+}
+numbered (utf8-4a {b = b} {c = c} {d = d} y z w) = record {
+  number = number-4 0xF0 b c d;
+  scalar = high-scalar (omega arith) (omega arith);
+  bytes = bytes-4 0xF0 b c d (omega arith) (omega arith) z w (omega arith);
+}
+numbered (utf8-4b {a = a} {b = b} {c = c} {d = d} x y z w) = record {
+  number = number-4 a b c d;
+  scalar = high-scalar (omega arith) (omega arith);
+  bytes = bytes-4 a b c d (omega arith) y z w (omega arith);
+}
+numbered (utf8-4c {b = b} {c = c} {d = d} y z w) = record {
+  number = number-4 0xF4 b c d;
+  scalar = high-scalar (omega arith) (omega arith);
+  bytes = bytes-4 0xF4 b c d (omega arith) (omega arith) z w (omega arith);
+}

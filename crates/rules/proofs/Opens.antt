@@ -8,8 +8,8 @@ use lib.ListN.{length, getD, take, drop, take-append-drop, length-drop}
 use lib.Seq.{length-take-le}
 use Rattle.rules.specs.Rfc3629.{Char}
 use Rattle.rules.specs.Between.Posts.{AtMost, Ascii, Passed, CharAt, char, gap, lowOf, highOf}
-use Rattle.rules.specs.Between.Beside.{Greater, IsTail, Wanted, Barred, Beside, Clean, Topped, BlockIs, plain, wide, faulty, Open, whole, one, two, three,
-    Begun}
+use Rattle.rules.specs.Between.Beside.{Greater, IsTail, Wanted, Barred, Beside, Clean, Topped, BlockIs, plain, wide, faulty, Open, whole, one, two, three}
+use Rattle.rules.specs.Between.Beside.{Begun}
 use Rattle.rules.specs.declared.blocks.Block.{Block}
 use Rattle.rules.specs.declared.blocks.Block.the-variants.{Plain, Wide, Faulty}
 use Rattle.rules.proofs.Characters.{short}

@@ -201,8 +201,15 @@ module _ (s : List ℕ) (i : ℕ) where
 
   take-4 : i + 4 ≤ length s → take 4 (drop i s) ≡ getD s i 0 ∷ getD s (i + 1) 0 ∷ getD s (i + 2) 0 ∷ getD s (i + 3) 0 ∷ []
   take-4 h =
-      rw (add-one i, add-two i, add-three i, drop-cons s i 0 (omega arith), drop-cons s (suc i) 0 (omega arith), drop-cons s (suc (suc i)) 0 (omega arith),
-          drop-cons s (suc (suc (suc i))) 0 (omega arith))
+      rw (
+        add-one i,
+        add-two i,
+        add-three i,
+        drop-cons s i 0 (omega arith),
+        drop-cons s (suc i) 0 (omega arith),
+        drop-cons s (suc (suc i)) 0 (omega arith),
+        drop-cons s (suc (suc (suc i))) 0 (omega arith),
+      )
 
   -- the bounds give the rule
   pub ascii-char : i < length s → getD s i 0 < 0x80 → CharAt s i 1

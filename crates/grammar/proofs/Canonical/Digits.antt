@@ -66,7 +66,7 @@ lead-in (suc count) n h l = go (λ p q. lead-in count (n / 10) p q) (ltb n 10) r
     go f false e =
         let g = ltb-false n 10 e in
         subst (Lead (decimalIn count (n / 10) ++ (digit (n % 10) ∷ []))) (ten-times n)
-            (lead-behind (f (omega (arith, div-lt-self {n = n} {k = 10} l (omega arith))) (omega arith)) (digit-is (n % 10) (omega arith)))
+        (lead-behind (f (omega (arith, div-lt-self {n = n} {k = 10} l (omega arith))) (omega arith)) (digit-is (n % 10) (omega arith)))
 
 pub decimal-lead : (n : ℕ) → 0 < n → Lead (decimal n) n
 unfolding decimal

@@ -42,9 +42,9 @@ module _ {a u : List ℕ} (r : Inner a u) where
   control b h =
       let d : Hexadecimal 4 (letters "00" ++ hexPair b) b = subst (λ (w : ℕ). Hexadecimal 4 (letters "00" ++ hexPair b) w) (omega arith)
       (Digits.next (hex-digit-is 0 (omega arith)) (Digits.next (hex-digit-is 0 (omega arith))
-          (Digits.next (hex-digit-is (b / 16) (omega arith)) (Digits.next (hex-digit-is (b % 16) (omega arith)) Digits.over)))) in
+      (Digits.next (hex-digit-is (b / 16) (omega arith)) (Digits.next (hex-digit-is (b % 16) (omega arith)) Digits.over)))) in
       subst (λ (v : List ℕ). Inner (letters "\\u00" ++ (hexPair b ++ a)) (v ++ u)) (row-1 b (omega arith))
-          (Chars.escaped {e = letters "u00" ++ hexPair b} (Escape.unit {n = b} d (record { top = omega arith; whole = inl (omega arith) })) r)
+      (Chars.escaped {e = letters "u00" ++ hexPair b} (Escape.unit {n = b} d (record { top = omega arith; whole = inl (omega arith) })) r)
 
   -- a character that needs no escape
   character : (n : ℕ) → Scalar n → Of unescaped n → Inner (encode n ++ a) (encode n ++ u)
@@ -81,7 +81,7 @@ module _ {a u : List ℕ} (r : Inner a u) where
       by (λ e. Inner (e ++ a) (b ∷ u)) (eqb b (ch "\r")) (λ e. one Short.carriage-return b (eqb-true b _ e)) (λ x.
       by (λ e. Inner (e ++ a) (b ∷ u)) (eqb b (ch "\t")) (λ e. one Short.tab b (eqb-true b _ e)) (λ x.
       by (λ e. Inner (e ++ a) (b ∷ u)) (ltb b (ch " ")) (λ e. control b (ltb-true b _ e))
-          (λ x. plain b (ltb-false b _ x) h (eqb-false b _ p) (eqb-false b _ q)))))))))
+      (λ x. plain b (ltb-false b _ x) h (eqb-false b _ p) (eqb-false b _ q)))))))))
 
 -- ---- a longer character
 
@@ -93,8 +93,16 @@ escapes-join (c ∷ a) b = rw (escapes-join a b, append-assoc (escaped c) (escap
 high-escaped : (b : ℕ) → 0x80 ≤ b → escaped b ≡ b ∷ []
 unfolding escaped
 high-escaped b h =
-    rw (ne-eqb b 0x22 (λ e. omega arith), ne-eqb b 0x5C (λ e. omega arith), ne-eqb b 0x8 (λ e. omega arith), ne-eqb b 0xC (λ e. omega arith),
-        ne-eqb b 0xA (λ e. omega arith), ne-eqb b 0xD (λ e. omega arith), ne-eqb b 0x9 (λ e. omega arith), le-ltb b 0x20 (omega arith))
+    rw (
+      ne-eqb b 0x22 (λ e. omega arith),
+      ne-eqb b 0x5C (λ e. omega arith),
+      ne-eqb b 0x8 (λ e. omega arith),
+      ne-eqb b 0xC (λ e. omega arith),
+      ne-eqb b 0xA (λ e. omega arith),
+      ne-eqb b 0xD (λ e. omega arith),
+      ne-eqb b 0x9 (λ e. omega arith),
+      le-ltb b 0x20 (omega arith),
+    )
 
 high-escapes : {c : List ℕ} → Each High c → escapes c ≡ c
 unfolding escapes
@@ -106,7 +114,7 @@ longer {c} {a} {u} x h r =
     let m = numbered x in
     let l = above (m .number) (subst (λ (d : List ℕ). 1 < length d) (m .bytes) h) in
     rw (high-escapes (long x h)) (subst (λ (d : List ℕ). Inner (d ++ a) (d ++ u)) (sym (m .bytes))
-        (character r (m .number) (m .scalar) (inr (inr (inr (inl (record { low = omega arith; high = m .scalar .top })))))))
+    (character r (m .number) (m .scalar) (inr (inr (inr (inl (record { low = omega arith; high = m .scalar .top })))))))
 
 first : {c a u : List ℕ} → Char c → Inner a u → Inner (escapes c ++ a) (c ++ u)
 unfolding escapes

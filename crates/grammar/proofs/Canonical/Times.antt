@@ -18,8 +18,8 @@ use Rattle.meaning.specs.Clock.{timeOfDay}
 use Rattle.meaning.specs.Good.{GoodDate, GoodTime}
 use Rattle.meaning.specs.Canonical.{fixed, trimmed, dateText, fractionText, clockText, minutesText, offsetText, timeText}
 use Rattle.grammar.specs.Characters.{Digit, Digits, Decimal}
-use Rattle.grammar.specs.Times.{Fraction, Time-secfrac, Time-hour, Time-minute, Local-time, Local-date, Separator, Zulu, signed, Plus-minus, Time-offset,
-    Time-value}
+use Rattle.grammar.specs.Times.{Fraction, Time-secfrac, Time-hour, Time-minute, Local-time, Local-date, Separator, Zulu, signed, Plus-minus, Time-offset}
+use Rattle.grammar.specs.Times.{Time-value}
 use Rattle.grammar.proofs.Canonical.Digits.{fixed-is}
 
 -- ---- dates
@@ -44,7 +44,7 @@ unfolding dateText
 date-derived d g =
     let h = month-least (g .month) in
     simp append-assoc (Local-date.local-date (fixed-is 4 (d .year) (omega (arith, g .year))) (fixed-is 2 (d .month) (omega (arith, h .0)))
-        (fixed-is 2 (d .day) (omega (arith, h .1, g .to))) g)
+    (fixed-is 2 (d .day) (omega (arith, h .1, g .to))) g)
 
 -- ---- clocks
 
@@ -65,10 +65,10 @@ trimmed-is (suc w) n j h l = go (λ p q. trimmed-is w (n / 10) (suc j) p q) (eqb
     go f true e =
         let z : n / 10 * 10 ≡ n = omega (arith, eqb-true (n % 10) 0 e) in
         let p : n / 10 * 10 ^ suc j ≡ n * 10 ^ j = ap (λ (x : ℕ). n / 10 * x) (pow-succ' 10 j) ∙ sym (mul-assoc (n / 10) 10 (10 ^ j))
-            ∙ ap (λ (x : ℕ). x * 10 ^ j) z in
+        ∙ ap (λ (x : ℕ). x * 10 ^ j) z in
         let k : w + suc j ≡ suc w + j = omega arith in
         subst (λ (x : ℕ). Fraction x 0 (trimmed w (n / 10)) (n * 10 ^ j)) k (subst (Fraction (w + suc j) 0 (trimmed w (n / 10))) p
-            (f (omega (arith, pow-suc 10 w)) (omega arith)))
+        (f (omega (arith, pow-suc 10 w)) (omega arith)))
     go f false e = counted j (fixed-is (suc w) n h)
 
 -- a fraction that is not 0 has a digit
@@ -101,7 +101,7 @@ unfolding clockText
 clock-derived t h =
     subst (Local-time true _) (clock-is t)
     (simp append-assoc (Local-time.local-time (hour (t / (60 * 60 * second)) (omega arith)) (minute (t / (60 * second) % 60) (omega arith))
-        (minute (t / second % 60) (omega arith)) (secfrac (t % second) (omega arith))))
+    (minute (t / second % 60) (omega arith)) (secfrac (t % second) (omega arith))))
 
 -- ---- offsets
 

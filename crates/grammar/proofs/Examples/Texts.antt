@@ -50,8 +50,10 @@ examples =
     -- strings
     ∷ (letters "\"Add \\0 or \\v, even \\' is allowed in a string.\"", text "Add \0 or \u{b}, even ' is allowed in a string.")
     ∷ (letters "\"\\u{1D11E} was my first love \" + \"and it will be my last.\"", string (clef ++ letters " was my first love and it will be my last."))
-    ∷ (letters "\"\"\"String with a \\ and \" characters - no escape sequences,\nmay contain line breaks\"\"\"",
-        text "String with a \\ and \" characters - no escape sequences,\nmay contain line breaks")
+    ∷ (
+      letters "\"\"\"String with a \\ and \" characters - no escape sequences,\nmay contain line breaks\"\"\"",
+      text "String with a \\ and \" characters - no escape sequences,\nmay contain line breaks",
+    )
     ∷ (letters "\"\\ud834\\udd1e\"", string clef)
     ∷ (letters "\"\"\"\"\"\"", text "")
     -- times, with a tenth fraction digit

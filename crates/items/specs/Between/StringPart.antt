@@ -12,8 +12,8 @@ use Rattle.meaning.specs.declared.Refusal.the-variants.{NotGrammar, BadEscape}
 use Rattle.meaning.specs.Letters.{ch}
 use Rattle.machine.specs.Scan.{over, Ran, ended, broke, ran}
 use Rattle.machine.specs.Strings as S
-use Rattle.machine.specs.Strings.{Ctx, mk, give, blame, first, fine, spoilt, whole, unit, one, lines0, lines, body,
-    begin, scan, plainByte}
+use Rattle.machine.specs.Strings.{Ctx, mk, give, blame, first, fine, spoilt, whole, unit, one, lines0, lines, body}
+use Rattle.machine.specs.Strings.{begin, scan, plainByte}
 use Rattle.items.specs.Between.Places.{byteAt, ranFrom, Goes}
 use Rattle.items.specs.declared.string_part.Escape.{Escape}
 use Rattle.items.specs.declared.string_part.Escape.the-variants.{Half, Code}

@@ -4,7 +4,9 @@ use mathlib.Core.List.{List}
 use Prim.Native.Nat.{ℕ}
 use native.Mathlib.Omega.{arith}
 use Rattle.meaning.specs.declared.Refusal.{Refusal}
-use Rattle.meaning.specs.declared.Refusal.the-variants.{TextTooLong, NotUtf8, NotGrammar, BadEscape, BadTime, BadNumber, TooDeep, TapeTooShort, StoreTooShort, NotWellFormed, NoJsonForm, OutputTooShort, WrittenTooLong, NoSuchRecord}
+use Rattle.meaning.specs.declared.Refusal.the-variants.{TextTooLong, NotUtf8, NotGrammar, BadEscape, BadTime, BadNumber, TooDeep, TapeTooShort, StoreTooShort}
+use Rattle.meaning.specs.declared.Refusal.the-variants.{NotWellFormed, NoJsonForm, OutputTooShort, WrittenTooLong, NoSuchRecord}
+use Rattle.rules.specs.Paper.{utf8Said, dateSaid}
 use Rattle.meaning.specs.Paper.{numberOf}
 use Rattle.reader.specs.declared.Answer.{Answer}
 use Rattle.reader.specs.Answers.{Measures, Reads}
@@ -14,42 +16,50 @@ use Rattle.lanternrung.specs.declared.exports.Status.{Status}
 use Rattle.lanternrung.specs.declared.exports.Sizes.{Sizes}
 use Rattle.lanternrung.specs.declared.exports.Text.{Text}
 use Rattle.lanternrung.specs.declared.exports.Fields.{Fields}
-use Rattle.lanternrung.specs.Told.{sizesOf, textOf, lookedFields, utf8Status, dateStatus, Utf8Told, DateTold, MeasureTold, ReadTold, LookTold, JaxnTold, JsonTold}
-use Rattle.lanternrung.proofs.Claims.Outcomes.{untouched, one-outcome-utf8, one-outcome-date, one-outcome-measure, one-outcome-read, one-outcome-look, one-outcome-write-jaxn, one-outcome-write-json}
+use Rattle.lanternrung.specs.Told.{sizesOf, textOf, lookedFields, statusOf, Utf8Told, DateTold, MeasureTold, ReadTold, LookTold, JaxnTold, JsonTold}
+use Rattle.lanternrung.specs.Claims.{OneOutcomeC, CallsForC}
+use Rattle.lanternrung.proofs.Claims.Outcomes.{untouched, one-outcome-utf8, one-outcome-date, one-outcome-measure, one-outcome-read, one-outcome-look}
+use Rattle.lanternrung.proofs.Claims.Outcomes.{one-outcome-write-jaxn, one-outcome-write-json}
 
 -- ---- two outcomes that the promise of a call for C allows for the same input are equal
 
 pub one-outcome-c-utf8 : {s : List ℕ} {a b : Status} → Utf8Told s a → Utf8Told s b → a ≡ b
-one-outcome-c-utf8 p q = p .told ∙ ap utf8Status (one-outcome-utf8 (p .allowed) (q .allowed)) ∙ sym (q .told)
+one-outcome-c-utf8 p q = p .told ∙ ap (λ a. statusOf (utf8Said a)) (one-outcome-utf8 (p .allowed) (q .allowed)) ∙ sym (q .told)
 
 pub one-outcome-c-date : {year month day : ℕ} {a b : Status} → DateTold year month day a → DateTold year month day b → a ≡ b
-one-outcome-c-date p q = p .told ∙ ap dateStatus (one-outcome-date (p .allowed) (q .allowed)) ∙ sym (q .told)
+one-outcome-c-date p q = p .told ∙ ap (λ a. statusOf (dateSaid a)) (one-outcome-date (p .allowed) (q .allowed)) ∙ sym (q .told)
 
 pub one-outcome-c-measure : {text : List ℕ} {a b : Sizes} → MeasureTold text a → MeasureTold text b → a ≡ b
 one-outcome-c-measure {text} p q = p .told ∙ ap sizesOf (one-outcome-measure text (p .allowed) (q .allowed)) ∙ sym (q .told)
 
-pub one-outcome-c-read : {text tape store : List ℕ} {a b : Sizes} {t u s v : List ℕ} → ReadTold text tape store a t s → ReadTold text tape store b u v → (a ≡ b) × (t ≡ u) × (s ≡ v)
+pub one-outcome-c-read : {text tape store : List ℕ} {a b : Sizes} {t u s v : List ℕ} → ReadTold text tape store a t s → ReadTold text tape store b u v → (a ≡ b)
+    × (t ≡ u) × (s ≡ v)
 one-outcome-c-read p q = let e = one-outcome-read (p .allowed) (q .allowed) in (p .told ∙ ap sizesOf (e .0) ∙ sym (q .told), e .1, e .2)
 
 pub one-outcome-c-look : {tape store : List ℕ} {index : ℕ} {a b : Fields} → LookTold tape store index a → LookTold tape store index b → a ≡ b
 one-outcome-c-look p q = p .told ∙ ap lookedFields (one-outcome-look (p .allowed) (q .allowed)) ∙ sym (q .told)
 
-pub one-outcome-c-write-jaxn : {tape store out : List ℕ} {a b : Text} {x y : List ℕ} → JaxnTold tape store out a x → JaxnTold tape store out b y → (a ≡ b) × (x ≡ y)
+pub one-outcome-c-write-jaxn : {tape store out : List ℕ} {a b : Text} {x y : List ℕ} → JaxnTold tape store out a x → JaxnTold tape store out b y → (a ≡ b)
+    × (x ≡ y)
 one-outcome-c-write-jaxn p q = let e = one-outcome-write-jaxn (p .allowed) (q .allowed) in (p .told ∙ ap textOf (e .0) ∙ sym (q .told), e .1)
 
-pub one-outcome-c-write-json : {tape store out : List ℕ} {a b : Text} {x y : List ℕ} → JsonTold tape store out a x → JsonTold tape store out b y → (a ≡ b) × (x ≡ y)
+pub one-outcome-c-write-json : {tape store out : List ℕ} {a b : Text} {x y : List ℕ} → JsonTold tape store out a x → JsonTold tape store out b y → (a ≡ b)
+    × (x ≡ y)
 one-outcome-c-write-json p q = let e = one-outcome-write-json (p .allowed) (q .allowed) in (p .told ∙ ap textOf (e .0) ∙ sym (q .told), e .1)
 
--- ---- where `refused` is 0 the library's answer is done, with these counts; where it is not, each lent buffer is as it was
+pub one-outcome-c : OneOutcomeC
+one-outcome-c =
+    record {
+      utf8 = λ s p q. one-outcome-c-utf8 p q;
+      date = λ year month day p q. one-outcome-c-date p q;
+      measure = λ text p q. one-outcome-c-measure p q;
+      read = λ text tape store p q. one-outcome-c-read p q;
+      look = λ tape store index p q. one-outcome-c-look p q;
+      write-jaxn = λ tape store out p q. one-outcome-c-write-jaxn p q;
+      write-json = λ tape store out p q. one-outcome-c-write-json p q;
+    }
 
-pub record CallsForC : Type 0 where
-  pub measure-done : {text : List ℕ} {r : Sizes} → MeasureTold text r → r .refused ≡ 0 → Measures text (Answer.Counts (r .records) (r .bytes))
-  pub read-done : {text tape store : List ℕ} {r : Sizes} {tape' store' : List ℕ} → ReadTold text tape store r tape' store' → r .refused ≡ 0 → Reads text tape store (Answer.Counts (r .records) (r .bytes)) tape' store'
-  pub jaxn-done : {tape store out : List ℕ} {r : Text} {out' : List ℕ} → JaxnTold tape store out r out' → r .refused ≡ 0 → WritesJaxn tape store out (Written.Wrote (r .length)) out'
-  pub json-done : {tape store out : List ℕ} {r : Text} {out' : List ℕ} → JsonTold tape store out r out' → r .refused ≡ 0 → WritesJson tape store out (Written.Wrote (r .length)) out'
-  pub read-refused : {text tape store : List ℕ} {r : Sizes} {tape' store' : List ℕ} → ReadTold text tape store r tape' store' → (r .refused ≡ 0 → ⊥) → (tape' ≡ tape) × (store' ≡ store)
-  pub jaxn-refused : {tape store out : List ℕ} {r : Text} {out' : List ℕ} → JaxnTold tape store out r out' → (r .refused ≡ 0 → ⊥) → out' ≡ out
-  pub json-refused : {tape store out : List ℕ} {r : Text} {out' : List ℕ} → JsonTold tape store out r out' → (r .refused ≡ 0 → ⊥) → out' ≡ out
+-- ---- where `refused` is 0 the library's answer is done, with these counts; where it is not, each lent buffer is as it was
 
 -- no refusal has the number 0
 numbered : (why : Refusal) → numberOf why ≡ 0 → ⊥
@@ -105,10 +115,14 @@ pub calls-for-c : CallsForC
 calls-for-c =
     record {
       measure-done = λ {text} t z. subst (Measures text) (sizes-done (t .told) z) (t .allowed);
-      read-done = λ {text} {tape} {store} {r} {tape'} {store'} t z. subst (λ (a : Answer). Reads text tape store a tape' store') (sizes-done (t .told) z) (t .allowed);
+      read-done = λ {text} {tape} {store} {r} {tape'} {store'} t z.
+          subst (λ (a : Answer). Reads text tape store a tape' store') (sizes-done (t .told) z) (t .allowed);
       jaxn-done = λ {tape} {store} {out} {r} {out'} t z. subst (λ (a : Written). WritesJaxn tape store out a out') (text-done (t .told) z) (t .allowed);
       json-done = λ {tape} {store} {out} {r} {out'} t z. subst (λ (a : Written). WritesJson tape store out a out') (text-done (t .told) z) (t .allowed);
-      read-refused = λ {text} {tape} {store} {r} {tape'} {store'} t n. untouched .read (subst (λ (a : Answer). Reads text tape store a tape' store') (sizes-refused (t .told) n .1) (t .allowed));
-      jaxn-refused = λ {tape} {store} {out} {r} {out'} t n. untouched .write-jaxn (subst (λ (a : Written). WritesJaxn tape store out a out') (text-refused (t .told) n .1) (t .allowed));
-      json-refused = λ {tape} {store} {out} {r} {out'} t n. untouched .write-json (subst (λ (a : Written). WritesJson tape store out a out') (text-refused (t .told) n .1) (t .allowed));
+      read-refused = λ {text} {tape} {store} {r} {tape'} {store'} t n.
+          untouched .read (subst (λ (a : Answer). Reads text tape store a tape' store') (sizes-refused (t .told) n .1) (t .allowed));
+      jaxn-refused = λ {tape} {store} {out} {r} {out'} t n.
+          untouched .write-jaxn (subst (λ (a : Written). WritesJaxn tape store out a out') (text-refused (t .told) n .1) (t .allowed));
+      json-refused = λ {tape} {store} {out} {r} {out'} t n.
+          untouched .write-json (subst (λ (a : Written). WritesJson tape store out a out') (text-refused (t .told) n .1) (t .allowed));
     }

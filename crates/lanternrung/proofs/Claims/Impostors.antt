@@ -49,93 +49,13 @@ use Rattle.reader.specs.Answers.{tapeBytes, Measures, Reads}
 use Rattle.reader.proofs.Claims.{measure-refuses, read-refuses}
 use Rattle.writer.specs.declared.Written.{Written}
 use Rattle.writer.specs.Written.{WritesJaxn, WritesJson}
-use Rattle.lanternrung.specs.Samples.{Outcome, Says, IsTaken, Case, All, _&_}
+use Rattle.lanternrung.specs.Trials.Samples.{Outcome, Says, IsTaken, Case, All, _&_}
 use Rattle.lanternrung.proofs.Claims.PList.{P-list, slips-hold}
-use Rattle.lanternrung.proofs.Claims.Reading.{Done, Takes, Holds, accepted, measured}
-use Rattle.lanternrung.proofs.Claims.Writing.{Room, Prints, written}
-
--- what a program can be lent: bytes, fewer than 2^64
-pub record Lent (s : List ℕ) : Type 0 where
-  pub each : Bytes s
-  pub few : length s < 2 ^ 64
-
--- ---- programs, and what it is for one to keep its promise, whatever it is given
-
-abbrev pub Measurer : Type 0
-Measurer = List ℕ → Answer
-
-abbrev pub KeepsMeasure : Measurer → Type 0
-KeepsMeasure f = (text : List ℕ) → Lent text → Measures text (f text)
-
--- the answer, the tape and the store at exit
-abbrev pub Reader : Type 0
-Reader = List ℕ → List ℕ → List ℕ → Answer × List ℕ × List ℕ
-
-abbrev pub KeepsRead : Reader → Type 0
-KeepsRead f = (text tape store : List ℕ) → Lent text → Lent tape → Lent store → Reads text tape store (f text tape store .0) (f text tape store .1) (f text tape store .2)
-
--- the answer, and the output at exit
-abbrev pub Writer : Type 0
-Writer = List ℕ → List ℕ → List ℕ → Written × List ℕ
-
-abbrev pub KeepsJaxn : Writer → Type 0
-KeepsJaxn f = (tape store out : List ℕ) → Lent tape → Lent store → Lent out → WritesJaxn tape store out (f tape store out .0) (f tape store out .1)
-
-abbrev pub KeepsJson : Writer → Type 0
-KeepsJson f = (tape store out : List ℕ) → Lent tape → Lent store → Lent out → WritesJson tape store out (f tape store out .0) (f tape store out .1)
-
-abbrev pub Looker : Type 0
-Looker = List ℕ → List ℕ → ℕ → Looked
-
-abbrev pub KeepsLook : Looker → Type 0
-KeepsLook f = (tape store : List ℕ) (index : ℕ) → Lent tape → Lent store → index < 2 ^ 64 → Looks tape store index (f tape store index)
-
-abbrev pub KeepsUtf8 : (List ℕ → Utf8Answer) → Type 0
-KeepsUtf8 f = (s : List ℕ) → Lent s → Judged s (f s)
-
-abbrev pub Calendar : Type 0
-Calendar = ℕ → ℕ → ℕ → DateAnswer
-
-abbrev pub KeepsDate : Calendar → Type 0
-KeepsDate f = (y m d : ℕ) → y < 2 ^ 64 → m < 2 ^ 64 → d < 2 ^ 64 → Dated y m d (f y m d)
-
--- whatever it writes is the text t
-abbrev pub WritesOnly : List ℕ → Writer → Type 0
-WritesOnly t f = (tape store out : List ℕ) (n : ℕ) → f tape store out .0 ≡ Written.Wrote n → f tape store out .1 ≡ t ++ drop (length t) out
-
-pub record Impostors : Type 0 where
-  -- a reader that refuses everything, for whatever reason
-  pub refuses-all : (f : Reader) → ((text tape store : List ℕ) → (why : Refusal) × (f text tape store .0 ≡ Answer.Refused why)) → KeepsRead f → ⊥
-  -- one that answers `null` for all that it accepts
-  pub null-for-all : (f : Reader)
-      → ((text tape store : List ℕ) (m : Meaning) → Takes text tape store m → Holds null tape store (f text tape store .0) (f text tape store .1) (f text tape store .2)) → KeepsRead f → ⊥
-  -- one that touches no buffer; one that leaves the tape, or the store, as it was
-  pub touches-nothing : (f : Reader) → ((text tape store : List ℕ) → (f text tape store .1 ≡ tape) × (f text tape store .2 ≡ store)) → KeepsRead f → ⊥
-  pub leaves-tape : (f : Reader) → ((text tape store : List ℕ) → f text tape store .1 ≡ tape) → KeepsRead f → ⊥
-  pub leaves-store : (f : Reader) → ((text tape store : List ℕ) → f text tape store .2 ≡ store) → KeepsRead f → ⊥
-  -- a writer that always prints one text, or refuses
-  pub one-text-jaxn : (f : Writer) (t : List ℕ) → WritesOnly t f → KeepsJaxn f → ⊥
-  pub one-text-json : (f : Writer) (t : List ℕ) → WritesOnly t f → KeepsJson f → ⊥
-  -- one that remembers the text that its tape was read from, and prints that
-  pub copies : (f : List ℕ → Writer)
-      → ((text : List ℕ) (m : Meaning) (out : List ℕ) → Text true text m → length text ≤ length out → Prints text out (f text (tapeOf m) (storeOf m) out .0) (f text (tapeOf m) (storeOf m) out .1))
-      → ((text : List ℕ) → KeepsJaxn (f text)) → ⊥
-  -- a measure that invents its counts: for one text; the same for all; some for all
-  pub invents : (f : Measurer) {text : List ℕ} {m : Meaning} → Text true text m → (f text ≡ Answer.Counts (records m) (bytes m) → ⊥) → KeepsMeasure f → ⊥
-  pub one-count : (f : Measurer) (r s : ℕ) → ((text : List ℕ) → Done (f text) → f text ≡ Answer.Counts r s) → KeepsMeasure f → ⊥
-  pub counts-all : (f : Measurer) → ((text : List ℕ) → Done (f text)) → KeepsMeasure f → ⊥
-  -- a measure, and a reader, that refuses some text with another number or at another place than the grammar
-  pub misplaces : (f : Measurer) {text : List ℕ} {why : Refusal} → Lent text → Text-refused text why → (f text ≡ Answer.Refused why → ⊥) → KeepsMeasure f → ⊥
-  pub misplaces-reading : (f : Reader) {text : List ℕ} {why : Refusal} → Lent text → Text-refused text why → (f text [] [] .0 ≡ Answer.Refused why → ⊥) → KeepsRead f → ⊥
-  -- a look that answers `null` for all, or refuses all
-  pub looks-null : (f : Looker) → ((tape store : List ℕ) (index : ℕ) → index < wholeRecords tape → f tape store index ≡ Looked.Record Record.Null) → KeepsLook f → ⊥
-  pub looks-nowhere : (f : Looker) → ((tape store : List ℕ) (index : ℕ) → (why : Refusal) × (f tape store index ≡ Looked.Refused why)) → KeepsLook f → ⊥
-  -- a test of UTF-8 that passes all, or refuses all
-  pub all-utf8 : (f : List ℕ → Utf8Answer) → ((s : List ℕ) → f s ≡ Utf8Answer.Done) → KeepsUtf8 f → ⊥
-  pub no-utf8 : (f : List ℕ → Utf8Answer) → ((s : List ℕ) → (k : ℕ) × (f s ≡ Utf8Answer.IllFormed k)) → KeepsUtf8 f → ⊥
-  -- a calendar in which every month has 31 days, or that refuses all
-  pub long-months : (f : Calendar) → ((y m d : ℕ) → y ≤ 9999 → 1 ≤ m → m ≤ 12 → 1 ≤ d → d ≤ 31 → f y m d ≡ DateAnswer.Done) → KeepsDate f → ⊥
-  pub no-date : (f : Calendar) → ((y m d : ℕ) → f y m d ≡ DateAnswer.NoDate) → KeepsDate f → ⊥
+use Rattle.lanternrung.specs.Claims.{Counted, Takes, Holds, Room, Prints}
+use Rattle.lanternrung.specs.Trials.Impostors.{Lent, Measurer, KeepsMeasure, Reader, KeepsRead, Writer, KeepsJaxn, KeepsJson}
+use Rattle.lanternrung.specs.Trials.Impostors.{Looker, KeepsLook, KeepsUtf8, Calendar, KeepsDate, WritesOnly, Impostors}
+use Rattle.lanternrung.proofs.Claims.Reading.{accepted, measured}
+use Rattle.lanternrung.proofs.Claims.Writing.{written}
 
 -- ---- what they are tried on
 
@@ -178,19 +98,23 @@ module _ {m : Meaning} (s : Small m) where
   takes : Takes (canonical m) tape₀ store₀ m
   takes = record { means = derived; tape-room = omega (arith, le-length (tapeBytes m) 0); store-room = omega (arith, le-length (bytes m) 0) }
 
-  reads : (f : Reader) → KeepsRead f → Holds m tape₀ store₀ (f (canonical m) tape₀ store₀ .0) (f (canonical m) tape₀ store₀ .1) (f (canonical m) tape₀ store₀ .2)
+  reads : (f : Reader) → KeepsRead f → Holds m tape₀ store₀ (f (canonical m) tape₀ store₀ .0) (f (canonical m) tape₀ store₀ .1)
+      (f (canonical m) tape₀ store₀ .2)
   reads f k =
       let x = text-fits derived in
       let l = text-length derived in
-      accepted (k (canonical m) tape₀ store₀ (text-lent derived) (zeros (tapeBytes m) (omega (arith, x .few))) (zeros (bytes m) (omega (arith, x .small)))) .then m takes
+      accepted (k (canonical m) tape₀ store₀ (text-lent derived) (zeros (tapeBytes m) (omega (arith, x .few))) (zeros (bytes m) (omega (arith, x .small))))
+      .then m takes
 
   room : (n : ℕ) → length (canonical m) ≤ n → Room (canonical m) (unnamed n)
   room n h = record { short = s .short; fits = omega (arith, le-length n 0) }
 
-  prints-jaxn : (f : Writer) → KeepsJaxn f → (n : ℕ) → length (canonical m) ≤ n → n < 2 ^ 64 → Prints (canonical m) (unnamed n) (f (tapeOf m) (storeOf m) (unnamed n) .0) (f (tapeOf m) (storeOf m) (unnamed n) .1)
+  prints-jaxn : (f : Writer) → KeepsJaxn f → (n : ℕ) → length (canonical m) ≤ n → n < 2 ^ 64
+      → Prints (canonical m) (unnamed n) (f (tapeOf m) (storeOf m) (unnamed n) .0) (f (tapeOf m) (storeOf m) (unnamed n) .1)
   prints-jaxn f k n h l = written .jaxn (k (tapeOf m) (storeOf m) (unnamed n) tape-lent store-lent (zeros n l)) .then well-formed (room n h)
 
-  prints-json : (f : Writer) → KeepsJson f → noJson m ≡ nowhere → (n : ℕ) → length (canonical m) ≤ n → n < 2 ^ 64 → Prints (canonical m) (unnamed n) (f (tapeOf m) (storeOf m) (unnamed n) .0) (f (tapeOf m) (storeOf m) (unnamed n) .1)
+  prints-json : (f : Writer) → KeepsJson f → noJson m ≡ nowhere → (n : ℕ) → length (canonical m) ≤ n → n < 2 ^ 64
+      → Prints (canonical m) (unnamed n) (f (tapeOf m) (storeOf m) (unnamed n) .0) (f (tapeOf m) (storeOf m) (unnamed n) .1)
   prints-json f k e n h l = written .json (k (tapeOf m) (storeOf m) (unnamed n) tape-lent store-lent (zeros n l)) .then well-formed e (room n h)
 
 small-null : Small null
@@ -211,7 +135,8 @@ refuses-all f r k =
     omega arith
 
 null-for-all : (f : Reader)
-    → ((text tape store : List ℕ) (m : Meaning) → Takes text tape store m → Holds null tape store (f text tape store .0) (f text tape store .1) (f text tape store .2)) → KeepsRead f → ⊥
+    → ((text tape store : List ℕ) (m : Meaning) → Takes text tape store m → Holds null tape store (f text tape store .0) (f text tape store .1)
+    (f text tape store .2)) → KeepsRead f → ⊥
 unfolding tapeOf recordsOf recordsBytes recordBytes
 null-for-all f r k =
     let h = reads small-true f k .taped in
@@ -241,7 +166,8 @@ leaves-store f r k =
     omega arith
 
 -- two outputs of four bytes, one `null` and one `true`
-two-texts : (t x y : List ℕ) → x ≡ t ++ drop (length t) (unnamed 4) → y ≡ t ++ drop (length t) (unnamed 4) → x ≡ canonical null ++ drop (length (canonical null)) (unnamed 4)
+two-texts : (t x y : List ℕ) → x ≡ t ++ drop (length t) (unnamed 4) → y ≡ t ++ drop (length t) (unnamed 4) → x ≡ canonical null
+    ++ drop (length (canonical null)) (unnamed 4)
     → y ≡ canonical (bool true) ++ drop (length (canonical (bool true))) (unnamed 4) → ⊥
 unfolding canonical
 two-texts t x y a b c d =
@@ -275,7 +201,8 @@ hundred-thousand : IsTaken (letters "100000") (number (Finite false 1 (pos 5))) 
 hundred-thousand = first (later (later (later (later slips-hold))))
 
 copies : (f : List ℕ → Writer)
-    → ((text : List ℕ) (m : Meaning) (out : List ℕ) → Text true text m → length text ≤ length out → Prints text out (f text (tapeOf m) (storeOf m) out .0) (f text (tapeOf m) (storeOf m) out .1))
+    → ((text : List ℕ) (m : Meaning) (out : List ℕ) → Text true text m → length text ≤ length out
+    → Prints text out (f text (tapeOf m) (storeOf m) out .0) (f text (tapeOf m) (storeOf m) out .1))
     → ((text : List ℕ) → KeepsJaxn (f text)) → ⊥
 copies f r k =
     let t = letters "100000" in
@@ -299,7 +226,7 @@ small-array = record { good = record { parts = (tt, tt); shallow = lit≤ tt }; 
 counted : {m : Meaning} → Small m → (f : Measurer) → KeepsMeasure f → f (canonical m) ≡ Answer.Counts (records m) (bytes m)
 counted {m} s f k = let x = derived s in measured (k (canonical m) (text-lent x)) .then m x .answer
 
-one-count : (f : Measurer) (r s : ℕ) → ((text : List ℕ) → Done (f text) → f text ≡ Answer.Counts r s) → KeepsMeasure f → ⊥
+one-count : (f : Measurer) (r s : ℕ) → ((text : List ℕ) → Counted (f text) → f text ≡ Answer.Counts r s) → KeepsMeasure f → ⊥
 unfolding records
 one-count f r s g k =
     let p = counted small-null f k in
@@ -309,7 +236,7 @@ one-count f r s g k =
     let z : records null ≡ records (array (more none null)) = cc in
     omega arith
 
-counts-all : (f : Measurer) → ((text : List ℕ) → Done (f text)) → KeepsMeasure f → ⊥
+counts-all : (f : Measurer) → ((text : List ℕ) → Counted (f text)) → KeepsMeasure f → ⊥
 counts-all f g k =
     let x = first P-list in
     let d = g [] in
@@ -317,13 +244,15 @@ counts-all f g k =
 
 -- ---- look, utf8, date
 
-looked : {m : Meaning} (s : Small m) (f : Looker) → KeepsLook f → 0 < records m → f (tapeOf m) (storeOf m) 0 ≡ Looked.Record (getD (recordsOf m 0 0) 0 Record.Null)
+looked : {m : Meaning} (s : Small m) (f : Looker) → KeepsLook f → 0 < records m → f (tapeOf m) (storeOf m) 0
+    ≡ Looked.Record (getD (recordsOf m 0 0) 0 Record.Null)
 looked {m} s f k h = look-well-formed (well-formed s) h (k (tapeOf m) (storeOf m) 0 (tape-lent s) (store-lent s) (lit< tt))
 
 misplaces : (f : Measurer) {text : List ℕ} {why : Refusal} → Lent text → Text-refused text why → (f text ≡ Answer.Refused why → ⊥) → KeepsMeasure f → ⊥
 misplaces f {text} l x n k = n (measure-refuses x (k text l))
 
-misplaces-reading : (f : Reader) {text : List ℕ} {why : Refusal} → Lent text → Text-refused text why → (f text [] [] .0 ≡ Answer.Refused why → ⊥) → KeepsRead f → ⊥
+misplaces-reading : (f : Reader) {text : List ℕ} {why : Refusal} → Lent text → Text-refused text why → (f text [] [] .0 ≡ Answer.Refused why → ⊥) → KeepsRead f
+    → ⊥
 misplaces-reading f {text} l x n k = let nothing : Lent [] = record { each = tt; few = lit< tt } in n (read-refuses x (k text [] [] l nothing nothing))
 
 looks-null : (f : Looker) → ((tape store : List ℕ) (index : ℕ) → index < wholeRecords tape → f tape store index ≡ Looked.Record Record.Null) → KeepsLook f → ⊥
@@ -375,7 +304,8 @@ long-months f r k =
 no-date : (f : Calendar) → ((y m d : ℕ) → f y m d ≡ DateAnswer.NoDate) → KeepsDate f → ⊥
 unfolding isDate isLeap
 no-date f r k =
-    let e : DateAnswer.Done ≡ f 2000 2 29 = one-outcome-date (Dated.done (is-date {y = 2000} {m = 2} {d = 29} refl) refl) (k 2000 2 29 (lit< tt) (lit< tt) (lit< tt)) in
+    let e : DateAnswer.Done ≡ f 2000 2 29 = one-outcome-date (Dated.done (is-date {y = 2000} {m = 2} {d = 29} refl) refl)
+    (k 2000 2 29 (lit< tt) (lit< tt) (lit< tt)) in
     let q = r 2000 2 29 in
     let z : _≡_ {A = ℕ} 0 1 = cc in
     omega arith

@@ -17,13 +17,9 @@ use Rattle.reader.proofs.Claims as reader
 use Rattle.writer.specs.declared.Written.{Written}
 use Rattle.writer.specs.Written.{WritesJaxn, WritesJson}
 use Rattle.writer.proofs.Outcomes as writer
+use Rattle.lanternrung.specs.Claims.{Untouched, OneOutcome}
 
 -- ---- untouched: after a refusal each lent buffer holds what it held before the call; utf8, date, measure and look are lent none to write
-
-pub record Untouched : Type 0 where
-  pub read : {text tape store : List ℕ} {why : Refusal} {tape' store' : List ℕ} → Reads text tape store (Answer.Refused why) tape' store' → (tape' ≡ tape) × (store' ≡ store)
-  pub write-jaxn : {tape store out : List ℕ} {why : Refusal} {out' : List ℕ} → WritesJaxn tape store out (Written.Refused why) out' → out' ≡ out
-  pub write-json : {tape store out : List ℕ} {why : Refusal} {out' : List ℕ} → WritesJson tape store out (Written.Refused why) out' → out' ≡ out
 
 pub untouched : Untouched
 untouched =
@@ -44,14 +40,29 @@ one-outcome-date = rules.one-outcome-date
 pub one-outcome-measure : (text : List ℕ) {a b : Answer} → Measures text a → Measures text b → a ≡ b
 one-outcome-measure text {a} {b} = reader.one-outcome-measure text a b
 
-pub one-outcome-read : {text tape store : List ℕ} {a b : Answer} {t u s v : List ℕ} → Reads text tape store a t s → Reads text tape store b u v → (a ≡ b) × (t ≡ u) × (s ≡ v)
+pub one-outcome-read : {text tape store : List ℕ} {a b : Answer} {t u s v : List ℕ} → Reads text tape store a t s → Reads text tape store b u v → (a ≡ b)
+    × (t ≡ u) × (s ≡ v)
 one-outcome-read = reader.one-outcome-read
 
 pub one-outcome-look : {tape store : List ℕ} {index : ℕ} {a b : Looked} → Looks tape store index a → Looks tape store index b → a ≡ b
 one-outcome-look = tapes.one-outcome-look
 
-pub one-outcome-write-jaxn : {tape store out : List ℕ} {a b : Written} {x y : List ℕ} → WritesJaxn tape store out a x → WritesJaxn tape store out b y → (a ≡ b) × (x ≡ y)
+pub one-outcome-write-jaxn : {tape store out : List ℕ} {a b : Written} {x y : List ℕ} → WritesJaxn tape store out a x → WritesJaxn tape store out b y → (a ≡ b)
+    × (x ≡ y)
 one-outcome-write-jaxn = writer.one-outcome-jaxn
 
-pub one-outcome-write-json : {tape store out : List ℕ} {a b : Written} {x y : List ℕ} → WritesJson tape store out a x → WritesJson tape store out b y → (a ≡ b) × (x ≡ y)
+pub one-outcome-write-json : {tape store out : List ℕ} {a b : Written} {x y : List ℕ} → WritesJson tape store out a x → WritesJson tape store out b y → (a ≡ b)
+    × (x ≡ y)
 one-outcome-write-json = writer.one-outcome-json
+
+pub one-outcome : OneOutcome
+one-outcome =
+    record {
+      utf8 = λ s p q. one-outcome-utf8 p q;
+      date = λ year month day p q. one-outcome-date p q;
+      measure = λ text p q. one-outcome-measure text p q;
+      read = λ text tape store p q. one-outcome-read p q;
+      look = λ tape store index p q. one-outcome-look p q;
+      write-jaxn = λ tape store out p q. one-outcome-write-jaxn p q;
+      write-json = λ tape store out p q. one-outcome-write-json p q;
+    }

@@ -14,7 +14,8 @@ use Rattle.meaning.specs.declared.Refusal.the-variants.{NotGrammar, BadEscape, 
 use Rattle.meaning.specs.Limits.{depthLimit}
 use Rattle.meaning.specs.Meaning.{Meaning}
 use Rattle.meaning.specs.Paper.{numberOf, placeOf}
-use Rattle.meaning.specs.Canonical.{decimalIn, decimal, fixed, trimmed, escaped, escapes, quoted, hexPairs, binaryText, powerText, numberText, dateText, fractionText, clockText, timeText, canonical, elementsText}
+use Rattle.meaning.specs.Canonical.{decimalIn, decimal, fixed, trimmed, escaped, escapes, quoted, hexPairs, binaryText, powerText, numberText, dateText}
+use Rattle.meaning.specs.Canonical.{fractionText, clockText, timeText, canonical, elementsText}
 use Rattle.grammar.specs.Refused.{Text-refused}
 use Rattle.machine.specs.Numeric.{strip, settle}
 use Rattle.machine.specs.Strings as S
@@ -26,7 +27,7 @@ use Rattle.machine.proofs.Whole.{sound, unambiguous}
 use Rattle.machine.proofs.Refusals.Whole.{text-refusals, not-refused}
 use Rattle.reader.specs.declared.Answer.{Answer}
 use Rattle.reader.proofs.Claims.{measure-refuses, read-refuses}
-use Rattle.lanternrung.specs.Samples.{samples, slips, IsTaken, Says, IsRefused, All, done, _&_}
+use Rattle.lanternrung.specs.Trials.Samples.{samples, slips, IsTaken, Says, IsRefused, All, done, _&_}
 use Rattle.lanternrung.proofs.Claims.Reading.{accepted, measured}
 
 -- ---- from a verdict to what the grammar and the promises say of the text
@@ -57,7 +58,10 @@ refuses text why e =
 -- ---- the verdicts are computed
 
 both : All samples × All slips
-unfolding verdict decoded judged faultFrom lengthAt isWide lowOf highOf leadingZeros encode isLeap isDate depthLimit decimalIn decimal fixed trimmed escaped escapes quoted hexPairs binaryText powerText numberText dateText fractionText clockText timeText canonical elementsText strip settle read reading S.hexOf S.shortOf S.alone S.unit S.inBraces S.hexed S.onHex S.onBrace S.onShort S.plainByte S.onBody S.lineByte S.onLines S.scan B.onDigit B.onShort B.onText B.scan N.classOf N.onStart N.onName N.scan N.wordScan
+unfolding verdict decoded judged faultFrom lengthAt isWide lowOf highOf leadingZeros encode isLeap isDate depthLimit decimalIn decimal fixed trimmed escaped
+    escapes quoted hexPairs binaryText powerText numberText dateText fractionText clockText timeText canonical elementsText strip settle read reading S.hexOf
+    S.shortOf S.alone S.unit S.inBraces S.hexed S.onHex S.onBrace S.onShort S.plainByte S.onBody S.lineByte S.onLines S.scan B.onDigit B.onShort B.onText B.scan
+    N.classOf N.onStart N.onName N.scan N.wordScan
 both = (
   refuses _ (NotGrammar 0) refl
       & refuses _ (NotGrammar 1) refl

@@ -18,47 +18,31 @@ use Rattle.meaning.proofs.Whole.{tape-length}
 use Rattle.grammar.specs.Values.{Text}
 use Rattle.grammar.specs.Refused.{Refused, Text-refused}
 use Rattle.grammar.proofs.Sizes.{text-fits}
-use Rattle.machine.specs.Machine.{No, reading}
 use Rattle.machine.proofs.Whole as machine
 use Rattle.machine.proofs.Refusals.Whole as machine-refusals
 use Rattle.reader.specs.declared.Answer.{Answer}
 use Rattle.reader.specs.Answers.{tapeBytes, Measures, Reads}
 use Rattle.reader.proofs.Claims as reader
-
--- done, and not refused
-abbrev pub Done : Answer → Type 0
-Done a = (r : ℕ) × (s : ℕ) × (a ≡ Answer.Counts r s)
+use Rattle.lanternrung.specs.Claims.{Unambiguous, Counted, Takes, Holds, Accepted, SizesOf, Measured, Refusals, OneRefusal, Within, Bounded}
 
 -- ---- unambiguous: the grammar gives no text two meanings
 
-pub unambiguous : {text : List ℕ} {m n : Meaning} → Text true text m → Text true text n → m ≡ n
+pub unambiguous : Unambiguous
 unambiguous = machine.unambiguous
 
 -- ---- accepted
 
--- the grammar gives the text the meaning m, within the limits, and there is room for its tape and its store
-pub record Takes (text tape store : List ℕ) (m : Meaning) : Type 0 where
-  pub means : Text true text m
-  pub tape-room : tapeBytes m ≤ length tape
-  pub store-room : bytes m ≤ length store
-
--- the counts of m are answered; its tape and its store lie at the start of the two buffers, and the rest of each is as it was
-pub record Holds (m : Meaning) (tape store : List ℕ) (a : Answer) (tape' store' : List ℕ) : Type 0 where
-  pub answer : a ≡ Answer.Counts (records m) (bytes m)
-  pub taped : tape' ≡ tapeOf m ++ drop (length (tapeOf m)) tape
-  pub stored : store' ≡ storeOf m ++ drop (length (storeOf m)) store
-
-pub record Accepted (text tape store : List ℕ) (a : Answer) (tape' store' : List ℕ) : Type 0 where
-  pub exactly : Done a ↔ ((m : Meaning) × Takes text tape store m)
-  pub then : (m : Meaning) → Takes text tape store m → Holds m tape store a tape' store'
-
 pub accepted : {text tape store : List ℕ} {a : Answer} {tape' store' : List ℕ} → Reads text tape store a tape' store' → Accepted text tape store a tape' store'
-accepted {text} {tape} {store} {a} {tape'} {store'} p = record { exactly = (only, λ w. (records (w .0), bytes (w .0), held (w .0) (w .1) .answer)); then = held }
+accepted {text} {tape} {store} {a} {tape'} {store'} p = record {
+  exactly = (only, λ w. (records (w .0), bytes (w .0), held (w .0) (w .1) .answer));
+  then =
+      held;
+}
   where
     by-counts : {r s : ℕ} → a ≡ Answer.Counts r s → reader.Held text tape store r s tape' store'
     by-counts {r} {s} e = reader.read-accepts text tape store r s tape' store' (subst (λ (x : Answer). Reads text tape store x tape' store') e p)
 
-    only : Done a → (m : Meaning) × Takes text tape store m
+    only : Counted a → (m : Meaning) × Takes text tape store m
     only d = let h = by-counts (d .2) in (h .meaning, record { means = h .text-means; tape-room = h .tape-room; store-room = h .store-room })
 
     held : (m : Meaning) → Takes text tape store m → Holds m tape store a tape' store'
@@ -70,40 +54,28 @@ accepted {text} {tape} {store} {a} {tape'} {store'} p = record { exactly = (only
 
 -- ---- measured
 
--- the counts of m are answered: they are the sizes of its tape, sixteen bytes a record, and of its store
-pub record Sizes (m : Meaning) (a : Answer) : Type 0 where
-  pub answer : a ≡ Answer.Counts (records m) (bytes m)
-  pub tape-size : length (tapeOf m) ≡ records m * 16
-  pub store-size : length (storeOf m) ≡ bytes m
-
-pub record Measured (text : List ℕ) (a : Answer) : Type 0 where
-  pub exactly : Done a ↔ ((m : Meaning) × Text true text m)
-  pub then : (m : Meaning) → Text true text m → Sizes m a
-
 pub measured : {text : List ℕ} {a : Answer} → Measures text a → Measured text a
 measured {text} {a} p = record { exactly = (only, λ w. (records (w .0), bytes (w .0), sized (w .0) (w .1) .answer)); then = sized }
   where
-    only : Done a → (m : Meaning) × Text true text m
+    only : Counted a → (m : Meaning) × Text true text m
     only d = let h = reader.measure-accepts text (d .0) (d .1) (subst (Measures text) (d .2) p) in (h .meaning, h .text-means)
 
-    sized : (m : Meaning) → Text true text m → Sizes m a
-    sized m x = record { answer = reader.one-outcome-measure text a (Answer.Counts (records m) (bytes m)) p (reader.accepts-measure x); tape-size = tape-length m; store-size = refl }
+    sized : (m : Meaning) → Text true text m → SizesOf m a
+    sized m x = record {
+      answer = reader.one-outcome-measure text a (Answer.Counts (records m) (bytes m)) p (reader.accepts-measure x);
+      tape-size =
+          tape-length m;
+      store-size = refl;
+    }
 
 -- ---- refusals: which of 1 to 7 is given, and where
-
-pub record Refusals : Type 0 where
-  -- the machine, of UTF-8: 3 to 7
-  pub machine : (text : List ℕ) → Octets text → (why : Refusal) → (reading text ≡ No why) ↔ Refused text why
-  pub measure : {text : List ℕ} {a : Answer} {why : Refusal} → Measures text a → (a ≡ Answer.Refused why) ↔ Text-refused text why
-  -- whatever is lent
-  pub read : {text tape store : List ℕ} {a : Answer} {tape' store' : List ℕ} {why : Refusal} → Reads text tape store a tape' store' → numberOf why ≤ 7
-      → (a ≡ Answer.Refused why) ↔ Text-refused text why
 
 measure-why : {text : List ℕ} {why : Refusal} → Measures text (Answer.Refused why) → Text-refused text why
 measure-why (Measures.sizes x e) = absurd (done-apart (sym e))
 measure-why {text} {why} (Measures.no-text {why = w} x e) = subst (Text-refused text) (same-refusal w why (sym e)) x
 
-read-why : {text tape store : List ℕ} {tape' store' : List ℕ} {why : Refusal} → Reads text tape store (Answer.Refused why) tape' store' → numberOf why ≤ 7 → Text-refused text why
+read-why : {text tape store : List ℕ} {tape' store' : List ℕ} {why : Refusal} → Reads text tape store (Answer.Refused why) tape' store' → numberOf why ≤ 7
+    → Text-refused text why
 read-why (Reads.filled x h k e) n = absurd (done-apart (sym e))
 read-why (Reads.tape-short x h e) n = absurd (let z = ap numberSaid e in omega arith)
 read-why (Reads.store-short x h k e) n = absurd (let z = ap numberSaid e in omega arith)
@@ -112,24 +84,19 @@ read-why {text} {why = why} (Reads.no-text {why = w} x e) n = subst (Text-refuse
 pub refusals : Refusals
 refusals =
     record {
-      machine = machine-refusals.refusals;
       measure = λ {text} p. (λ e. measure-why (subst (Measures text) e p), λ x. reader.measure-refuses x p);
-      read = λ {text} {tape} {store} {a} {tape'} {store'} p n. (λ e. read-why (subst (λ (x : Answer). Reads text tape store x tape' store') e p) n, λ x. reader.read-refuses x p);
+      read = λ {text} {tape} {store} {a} {tape'} {store'} p n. (
+        λ e. read-why (subst (λ (x : Answer). Reads text tape store x tape' store') e p) n,
+        λ x.
+            reader.read-refuses x p,
+      );
     }
 
 -- two refusals that the grammar gives a text are one
-pub one-refusal : {text : List ℕ} {v w : Refusal} → Text-refused text v → Text-refused text w → v ≡ w
+pub one-refusal : OneRefusal
 one-refusal = machine-refusals.one-text-refusal
 
 -- ---- bounded: for every accepted text, records and store bytes are each at most its length
-
-abbrev pub Within : List ℕ → ℕ → ℕ → Type 0
-Within text r s = (r ≤ length text) × (s ≤ length text)
-
-pub record Bounded : Type 0 where
-  pub grammar : {text : List ℕ} {m : Meaning} → Text true text m → Within text (records m) (bytes m)
-  pub measure : (text : List ℕ) {r s : ℕ} → Measures text (Answer.Counts r s) → Within text r s
-  pub read : {text tape store : List ℕ} {r s : ℕ} {tape' store' : List ℕ} → Reads text tape store (Answer.Counts r s) tape' store' → Within text r s
 
 pub bounded : Bounded
 bounded = record { grammar = by-grammar; measure = by-measure; read = by-read }

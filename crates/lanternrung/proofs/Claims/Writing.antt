@@ -26,39 +26,8 @@ use Rattle.reader.proofs.Claims.{one-outcome-read, reads-as, read-accepts}
 use Rattle.writer.specs.declared.Written.{Written}
 use Rattle.writer.specs.Written.{Writes, too-long, too-short, WritesJaxn, WritesJson}
 use Rattle.writer.proofs.Outcomes as writer
-use Rattle.lanternrung.proofs.Claims.Reading.{Holds, accepted}
-
--- done, and not refused
-abbrev pub Done : Written → Type 0
-Done a = (n : ℕ) × (a ≡ Written.Wrote n)
-
--- the text t is within the limit, and there is room for it
-pub record Room (t out : List ℕ) : Type 0 where
-  pub short : length t ≤ textLimit
-  pub fits : length t ≤ length out
-
--- the length of t is answered; t lies at the start of the output, and the rest is as it was
-pub record Prints (t out : List ℕ) (a : Written) (out' : List ℕ) : Type 0 where
-  pub answer : a ≡ Written.Wrote (length t)
-  pub holds : out' ≡ t ++ drop (length t) out
-
--- ---- written
-
-pub record WrittenJaxn (tape store out : List ℕ) (a : Written) (out' : List ℕ) : Type 0 where
-  pub exactly : Done a ↔ ((w : WellFormed tape store) × Room (canonical (w .meaning)) out)
-  pub then : (w : WellFormed tape store) → Room (canonical (w .meaning)) out → Prints (canonical (w .meaning)) out a out'
-
-pub record WrittenJson (tape store out : List ℕ) (a : Written) (out' : List ℕ) : Type 0 where
-  pub exactly : Done a ↔ ((w : WellFormed tape store) × (noJson (w .meaning) ≡ none) × Room (canonical (w .meaning)) out)
-  pub then : (w : WellFormed tape store) → noJson (w .meaning) ≡ none → Room (canonical (w .meaning)) out → Prints (canonical (w .meaning)) out a out'
-
--- a well-formed tape and store have exactly one meaning; the writers' text is its canonical text
-pub record IsWritten : Type 0 where
-  pub one-meaning : {tape store : List ℕ} (v w : WellFormed tape store) → v .meaning ≡ w .meaning
-  pub jaxn : {tape store out : List ℕ} {a : Written} {out' : List ℕ} → WritesJaxn tape store out a out' → WrittenJaxn tape store out a out'
-  pub json : {tape store out : List ℕ} {a : Written} {out' : List ℕ} → WritesJson tape store out a out' → WrittenJson tape store out a out'
-  -- what `read` filled is well formed, and has the text's meaning
-  pub filled : {text tape store : List ℕ} {r s : ℕ} {tape' store' : List ℕ} → Reads text tape store (Answer.Counts r s) tape' store' → (w : WellFormed (take (r * 16) tape') (take s store')) × Text true text (w .meaning)
+use Rattle.lanternrung.specs.Claims.{Room, Prints, WrittenJaxn, WrittenJson, IsWritten, SameText, Again, ReadBack, Holds}
+use Rattle.lanternrung.proofs.Claims.Reading.{accepted}
 
 -- from the text to the output
 printed : {t out out' : List ℕ} {a : Written} → Room t out → Writes t out a out' → Prints t out a out'
@@ -73,23 +42,32 @@ roomy (too-short h g s) e = absurd (writer.wrote-apart s e)
 roomy (Writes.written h g s) e = record { short = h; fits = g }
 
 module _ {tape store out : List ℕ} where
-  jaxn-done : {a : Written} {out' : List ℕ} {n : ℕ} → WritesJaxn tape store out a out' → a ≡ Written.Wrote n → (w : WellFormed tape store) × Room (canonical (w .meaning)) out
+  jaxn-done : {a : Written} {out' : List ℕ} {n : ℕ} → WritesJaxn tape store out a out' → a ≡ Written.Wrote n → (w : WellFormed tape store)
+      × Room (canonical (w .meaning)) out
   jaxn-done (WritesJaxn.ill n s) e = absurd (writer.wrote-apart s e)
   jaxn-done (WritesJaxn.text w p) e = (w, roomy p e)
 
-  json-done : {a : Written} {out' : List ℕ} {n : ℕ} → WritesJson tape store out a out' → a ≡ Written.Wrote n → (w : WellFormed tape store) × (noJson (w .meaning) ≡ none) × Room (canonical (w .meaning)) out
+  json-done : {a : Written} {out' : List ℕ} {n : ℕ} → WritesJson tape store out a out' → a ≡ Written.Wrote n → (w : WellFormed tape store)
+      × (noJson (w .meaning) ≡ none) × Room (canonical (w .meaning)) out
   json-done (WritesJson.ill n s) e = absurd (writer.wrote-apart s e)
   json-done (WritesJson.formless w f s) e = absurd (writer.wrote-apart s e)
   json-done (WritesJson.text w f p) e = (w, f, roomy p e)
 
   jaxn-written : {a : Written} {out' : List ℕ} → WritesJaxn tape store out a out' → WrittenJaxn tape store out a out'
-  jaxn-written {a} {out'} p = record { exactly = (λ d. jaxn-done p (d .1), λ w. (length (canonical (w .0 .meaning)), prints (w .0) (w .1) .answer)); then = prints }
+  jaxn-written {a} {out'} p = record {
+    exactly = (λ d. jaxn-done p (d .1), λ w. (length (canonical (w .0 .meaning)), prints (w .0) (w .1) .answer));
+    then =
+        prints;
+  }
     where
       prints : (w : WellFormed tape store) → Room (canonical (w .meaning)) out → Prints (canonical (w .meaning)) out a out'
       prints w r = printed r (writer.written-jaxn w p)
 
   json-written : {a : Written} {out' : List ℕ} → WritesJson tape store out a out' → WrittenJson tape store out a out'
-  json-written {a} {out'} p = record { exactly = (λ d. json-done p (d .1), λ w. (length (canonical (w .0 .meaning)), prints (w .0) (w .1) (w .2) .answer)); then = prints }
+  json-written {a} {out'} p = record {
+    exactly = (λ d. json-done p (d .1), λ w. (length (canonical (w .0 .meaning)), prints (w .0) (w .1) (w .2) .answer));
+    then = prints;
+  }
     where
       prints : (w : WellFormed tape store) → noJson (w .meaning) ≡ none → Room (canonical (w .meaning)) out → Prints (canonical (w .meaning)) out a out'
       prints w f r = printed r (writer.written-json w f p)
@@ -97,7 +75,8 @@ module _ {tape store out : List ℕ} where
 text-length : {t : List ℕ} {m : Meaning} → Text true t m → length t ≤ textLimit
 text-length (Text.text w v l h) = h
 
-filled : {text tape store : List ℕ} {r s : ℕ} {tape' store' : List ℕ} → Reads text tape store (Answer.Counts r s) tape' store' → (w : WellFormed (take (r * 16) tape') (take s store')) × Text true text (w .meaning)
+filled : {text tape store : List ℕ} {r s : ℕ} {tape' store' : List ℕ} → Reads text tape store (Answer.Counts r s) tape' store'
+    → (w : WellFormed (take (r * 16) tape') (take s store')) × Text true text (w .meaning)
 filled {text} {tape} {store} {r} {s} {tape'} {store'} p =
     let h = read-accepts text tape store r s tape' store' p in
     let m = h .meaning in
@@ -120,12 +99,6 @@ written = record { one-meaning = λ {tape} {store}. one-meaning tape store; jaxn
 
 -- ---- same-text: the canonical texts are the same bytes exactly when the meanings are the same
 
-pub record SameText : Type 0 where
-  -- of two accepted texts
-  pub texts : {s t : List ℕ} {m n : Meaning} → Text true s m → Text true t n → (canonical m ≡ canonical n) ↔ (m ≡ n)
-  -- of two meanings within the limits
-  pub meanings : {m n : Meaning} → Good m → Good n → (canonical m ≡ canonical n) ↔ (m ≡ n)
-
 pub same-text : SameText
 same-text = record { texts = λ x y. same (text-good x) (text-good y); meanings = same }
   where
@@ -134,26 +107,8 @@ same-text = record { texts = λ x y. same (text-good x) (text-good y); meanings 
 
 -- ---- read-back: the canonical text of a meaning within the limits is accepted, and gives the same tape and store
 
--- the counts of this tape and store are answered, and they are what the two buffers hold
-pub record Again (tape store : List ℕ) (a : Answer) (tape' store' : List ℕ) : Type 0 where
-  pub answer : a ≡ Answer.Counts (length tape / 16) (length store)
-  pub taped : tape' ≡ tape
-  pub stored : store' ≡ store
-
-pub record ReadBack : Type 0 where
-  -- of a meaning within the limits
-  pub meaning : {m : Meaning} {tape store : List ℕ} {a : Answer} {tape' store' : List ℕ} → Good m → length (canonical m) ≤ textLimit → tapeBytes m ≤ length tape → bytes m ≤ length store
-      → Reads (canonical m) tape store a tape' store' → Holds m tape store a tape' store'
-  -- of an accepted text: whatever buffers are lent, to read its canonical text is to read it
-  pub text : {text : List ℕ} {m : Meaning} {tape store : List ℕ} {a b : Answer} {t u s v : List ℕ} → Text true text m → length (canonical m) ≤ textLimit
-      → Reads text tape store a t s → Reads (canonical m) tape store b u v → (a ≡ b) × (t ≡ u) × (s ≡ v)
-  -- of what the writers wrote, read into buffers as long as the tape and the store that they wrote it from
-  pub jaxn : {tape store out : List ℕ} {n : ℕ} {out' t s : List ℕ} {a : Answer} {t' s' : List ℕ} → WritesJaxn tape store out (Written.Wrote n) out'
-      → length t ≡ length tape → length s ≡ length store → Reads (take n out') t s a t' s' → Again tape store a t' s'
-  pub json : {tape store out : List ℕ} {n : ℕ} {out' t s : List ℕ} {a : Answer} {t' s' : List ℕ} → WritesJson tape store out (Written.Wrote n) out'
-      → length t ≡ length tape → length s ≡ length store → Reads (take n out') t s a t' s' → Again tape store a t' s'
-
-back-meaning : {m : Meaning} {tape store : List ℕ} {a : Answer} {tape' store' : List ℕ} → Good m → length (canonical m) ≤ textLimit → tapeBytes m ≤ length tape → bytes m ≤ length store
+back-meaning : {m : Meaning} {tape store : List ℕ} {a : Answer} {tape' store' : List ℕ} → Good m → length (canonical m) ≤ textLimit → tapeBytes m ≤ length tape
+    → bytes m ≤ length store
     → Reads (canonical m) tape store a tape' store' → Holds m tape store a tape' store'
 back-meaning {m} g l h k p = accepted p .then m (record { means = text-derived m g l; tape-room = h; store-room = k })
 
@@ -182,10 +137,12 @@ module _ {tape store out : List ℕ} {n : ℕ} {out' t s : List ℕ} {a : Answer
         stored = x .stored ∙ all-of (storeOf m) s (omega arith) ∙ sym (w .stored);
       }
 
-  back-jaxn : WritesJaxn tape store out (Written.Wrote n) out' → length t ≡ length tape → length s ≡ length store → Reads (take n out') t s a t' s' → Again tape store a t' s'
+  back-jaxn : WritesJaxn tape store out (Written.Wrote n) out' → length t ≡ length tape → length s ≡ length store → Reads (take n out') t s a t' s' → Again
+      tape store a t' s'
   back-jaxn p h k q = let d = jaxn-done p refl in back (d .0) (d .1) (jaxn-written p .then (d .0) (d .1)) h k q
 
-  back-json : WritesJson tape store out (Written.Wrote n) out' → length t ≡ length tape → length s ≡ length store → Reads (take n out') t s a t' s' → Again tape store a t' s'
+  back-json : WritesJson tape store out (Written.Wrote n) out' → length t ≡ length tape → length s ≡ length store → Reads (take n out') t s a t' s' → Again
+      tape store a t' s'
   back-json p h k q = let d = json-done p refl in back (d .0) (d .2) (json-written p .then (d .0) (d .1) (d .2)) h k q
 
 pub read-back : ReadBack

@@ -24,20 +24,20 @@ use Rattle.grammar.specs.Characters.{Digit, Digits}
 use Rattle.grammar.specs.Numbers.{Sign, Unsigned, Number, raised, lowered}
 use Rattle.grammar.specs.Times.{Fraction, Time-secfrac, Time-hour, Time-minute, Separator, Plus-minus, Time-offset, signed}
 use Rattle.machine.specs.Scan.{takes, stops, breaks}
-use Rattle.machine.specs.Numeric.{St, Res, begin, sign, word, nought, int, point, frac, exp, expSign, expDigits, hexMark, hex, both, field, spaced,
-    secPoint, nanos, zulu, Len, d1, d2, d3, d4, When, alone, on, Slot, month, day, hour, minute, second, offsetHour, offsetMinute, scan, settle, dig, okDate,
-    okClock, onZone, tested, only, dated}
+use Rattle.machine.specs.Numeric.{St, Res, begin, sign, word, nought, int, point, frac, exp, expSign, expDigits, hexMark, hex, both, field, spaced}
+use Rattle.machine.specs.Numeric.{secPoint, nanos, zulu, Len, d1, d2, d3, d4, When, alone, on, Slot, month, day, hour, minute, second, offsetHour}
+use Rattle.machine.specs.Numeric.{offsetMinute, scan, settle, dig, okDate, okClock, onZone, tested, only, dated}
 use Rattle.machine.specs.Numeric as S
 use Rattle.machine.proofs.Runs.{OutIs}
-use Rattle.machine.proofs.Numeric.Rows.{Decimal-digit, NumIs, num-class, DgIs, dg-class, ExpIs, exp-class, FstIs, fst-class, HexIs, hex-class, SecIs,
-    sec-class, DayIs, day-class}
+use Rattle.machine.proofs.Numeric.Rows.{Decimal-digit, NumIs, num-class, DgIs, dg-class, ExpIs, exp-class, FstIs, fst-class, HexIs, hex-class, SecIs}
+use Rattle.machine.proofs.Numeric.Rows.{sec-class, DayIs, day-class}
 use Rattle.machine.proofs.Numeric.Value.{settle-is, some-finite, finite-by}
 use Rattle.machine.proofs.Numeric.CompleteTime.{by-check}
 use Rattle.machine.proofs.Numeric.Items.{NumericItem, Taken}
 use Rattle.machine.proofs.Numeric.Sound.{Fin, Bare, ExpDigitsRest, SignRest, PowerRest, FracRest, PointRest, IntRest, HexRest, MarkRest, NoughtRest}
 use Rattle.machine.proofs.Numeric.Sound as Sound
-use Rattle.machine.proofs.Numeric.SoundTime.{FieldRest, Then, OffsetMinute, OffsetHour, EndRest, NanosRest, SecPointRest, Second, Hour, DateRest,
-    SpacedRest, Year, SlotRest, field-digit, field-full, hour-taken, year-taken, and-both}
+use Rattle.machine.proofs.Numeric.SoundTime.{FieldRest, Then, OffsetMinute, OffsetHour, EndRest, NanosRest, SecPointRest, Second, Hour, DateRest}
+use Rattle.machine.proofs.Numeric.SoundTime.{SpacedRest, Year, SlotRest, field-digit, field-full, hour-taken, year-taken, and-both}
 
 check : (k : Bool) {P : Type 0} → P → Checked k P
 check true x = x
@@ -235,9 +235,15 @@ module _ (ck : Bool) where
         let i = k .5 .2 in
         let j = i .5 in
         let e : a ≡ k .0 ++ (ch ":" ∷ i .0) = k .3 ∙ ap (λ (l : List ℕ). k .0 ++ l)
-            (k .5 .1 ∙ ap (λ (l : List ℕ). ch ":" ∷ l) (i .3 ∙ ap (λ (l : List ℕ). i .0 ++ l) (j .0) ∙ append-nil (i .0))) in
-        (j .1, j .2, inr (signed g (k .2 * 60 + i .2), rw e (Time-offset.numoffset p (Time-hour.hour (k .4) (j .3)) (Time-minute.sixtieth (i .4) (j .4))),
-            j .5))
+        (k .5 .1 ∙ ap (λ (l : List ℕ). ch ":" ∷ l) (i .3 ∙ ap (λ (l : List ℕ). i .0 ++ l) (j .0) ∙ append-nil (i .0))) in (
+          j .1,
+          j .2,
+          inr (
+            signed g (k .2 * 60 + i .2),
+            rw e (Time-offset.numoffset p (Time-hour.hour (k .4) (j .3)) (Time-minute.sixtieth (i .4) (j .4))),
+            j .5,
+          ),
+        )
 
     done-step : (c : When) (h m s n b : ℕ) → From (EndRest ck c h m s n) b (S.clockDone q c h m s n)
     done-step alone h m s n b = test-is (EndRest ck alone h m s n) q b (okClock h m s) (LocalTime (timeOfDay h m s n)) (λ e. (e, refl, refl))
@@ -260,8 +266,14 @@ module _ (ck : Bool) where
 
       second-step : {b : ℕ} {k : S.Sec} → SecIs b k → From (Second ck c h m s) b (S.onSec q c h m s k)
       second-step {b} (SecIs.digit i) = second-zone (SecIs.digit i)
-      second-step SecIs.point = λ a w k. (ch "." ∷ (k .0 ∷ k .4 .0), k .4 .1, k .4 .2, cc (k .2, k .4 .3),
-          Time-secfrac.given (Fraction.counts (Digit.digit (k .3)) (k .4 .4)), k .4 .5)
+      second-step SecIs.point = λ a w k. (
+        ch "." ∷ (k .0 ∷ k .4 .0),
+        k .4 .1,
+        k .4 .2,
+        cc (k .2, k .4 .3),
+        Time-secfrac.given (Fraction.counts (Digit.digit (k .3)) (k .4 .4)),
+        k .4 .5,
+      )
       second-step (SecIs.zIs z) = second-zone (SecIs.zIs z)
       second-step SecIs.plus = second-zone SecIs.plus
       second-step SecIs.minus = second-zone SecIs.minus
@@ -306,9 +318,9 @@ module _ (ck : Bool) where
     full-step p (offsetHour d h m s n g) v b = only-is p b (ch ":") (field q (offsetMinute d h m s n g v) 2 0)
     full-step p (offsetMinute d h m s n g i) v b =
         test-is (OffsetMinute ck d h m s n g i v) q b ((okDate d && okClock h m s) && (leb i 23 && leb v 59))
-            (OffsetDateTime d (timeOfDay h m s n) (signed g (i * 60 + v)))
+        (OffsetDateTime d (timeOfDay h m s n) (signed g (i * 60 + v)))
         (λ e. let k = and-checked ck _ _ e in let j = and-checked ck _ _ (k .0) in let o = and-checked ck _ _ (k .1) in
-            (refl, j .0, j .1, by-check ck (leb-true i 23) (o .0), by-check ck (leb-true v 59) (o .1), refl))
+        (refl, j .0, j .1, by-check ck (leb-true i 23) (o .0), by-check ck (leb-true v 59) (o .1), refl))
 
     field-step : (p : ℕ) (l : Slot) (n v : ℕ) {b : ℕ} {k : S.Dg} → DgIs b k → From (FieldRest (suc n) v (SlotRest ck l)) b (S.onField p q l n v b k)
     field-step p l n v {b} (DgIs.digit i) = λ a w k. field-digit n v b (SlotRest ck l) a w i k

@@ -16,8 +16,8 @@ use Rattle.grammar.specs.Checks.{Checked}
 use Rattle.grammar.specs.Characters.{Digit, Hexdig, Digits, Decimal}
 use Rattle.grammar.specs.Numbers.{Finite, Sign, Int, Frac0, Frac1, E, Exp, Dec, X, Unsigned, Number, raised, lowered}
 use Rattle.machine.specs.Scan.{takes, stops, breaks}
-use Rattle.machine.specs.Numeric.{St, Res, begin, sign, word, nought, int, point, frac, exp, expSign, expDigits, hexMark, hex, both, Len, d1, d2, d3, d4,
-    scan, scaled, settle}
+use Rattle.machine.specs.Numeric.{St, Res, begin, sign, word, nought, int, point, frac, exp, expSign, expDigits, hexMark, hex, both, Len, d1, d2, d3, d4}
+use Rattle.machine.specs.Numeric.{scan, scaled, settle}
 use Rattle.machine.proofs.Runs.{EndsItem, Goes, GoesTo}
 use Rattle.machine.proofs.Runs as Runs
 use Rattle.machine.proofs.Numeric.Rows.{num-digit, dg-digit, exp-digit, fst-digit, hex-is, ending}

@@ -17,10 +17,10 @@ use Rattle.meaning.specs.Meaning.{Meaning}
 use Rattle.grammar.specs.Checks.{Checked}
 use Rattle.grammar.specs.Characters.{Digit, Digits, Decimal}
 use Rattle.grammar.specs.Comments.{Blank}
-use Rattle.grammar.specs.Times.{Fraction, Time-secfrac, Time-hour, Time-minute, Local-time, Local-date, Separator, Zulu, Plus-minus, Time-offset, Time-value,
-    signed}
-use Rattle.machine.specs.Numeric.{St, Res, begin, both, field, spaced, nanos, d1, d2, d3, d4, When, alone, on, Slot, month, day, hour, minute, second,
-    offsetHour, offsetMinute, scan, dig, onZone, okDate, okClock, dated}
+use Rattle.grammar.specs.Times.{Fraction, Time-secfrac, Time-hour, Time-minute, Local-time, Local-date, Separator, Zulu, Plus-minus, Time-offset, Time-value}
+use Rattle.grammar.specs.Times.{signed}
+use Rattle.machine.specs.Numeric.{St, Res, begin, both, field, spaced, nanos, d1, d2, d3, d4, When, alone, on, Slot, month, day, hour, minute, second}
+use Rattle.machine.specs.Numeric.{offsetHour, offsetMinute, scan, dig, onZone, okDate, okClock, dated}
 use Rattle.machine.specs.Numeric as S
 use Rattle.machine.proofs.Runs.{EndsItem, HaltTo, Goes, GoesTo, goes-value}
 use Rattle.machine.proofs.Numeric.Rows.{Decimal-digit, num-digit, dg-digit, fst-digit, sec-digit, dg-none, zulu-is, ending}
@@ -161,7 +161,7 @@ module _ (k : Bool) (q : ℕ) (d : D.Date) (h m s n : ℕ) {Q : Res → Type 0} 
       → Run Q p (field q (offsetHour d h m s n g) 2 0) (a ++ (ch ":" ∷ b))
   offset-run g {i = i} {j = j} (Time-hour.hour u l) (Time-minute.sixtieth v r) y p =
       field-run (offsetHour d h m s n g) u (λ p. took (last-field (offsetMinute d h m s n g i) v
-          (λ p b w. y _ (by-checks k (both-ok _ _) e (ok-offset k i j l r))) (suc p)) refl) p
+      (λ p b w. y _ (by-checks k (both-ok _ _) e (ok-offset k i j l r))) (suc p)) refl) p
 
   zone-run : {c : List ℕ} {o : ℤ} → Time-offset k c o → Judged k Q q (OffsetDateTime d (timeOfDay h m s n) o) → (st : St) → Clocked q (on d) h m s n st
       → (p : ℕ) → Run Q p st c
@@ -183,15 +183,15 @@ time-goes-to {k} {Q = Q} p (Time-value.local-date (Local-date.local-date {y = y}
 time-goes-to {k} {Q = Q} p (Time-value.local-time (Local-time.local-time {h = h} {m = m} {s = s} {n = n} (Time-hour.hour i l) (Time-minute.sixtieth j v)
     (Time-minute.sixtieth o w) u)) y =
     rw append-nil at (hour-first {Q = Q} i p (λ z t. took {c = ch ":"} (clock-run p alone h j o u (time-end k p h m s n (ok-clock k h m s l v w) y) (suc t))
-        refl))
+    refl))
 time-goes-to {k} {Q = Q} p (Time-value.local-date-time (Local-date.local-date {y = y} {m = mo} {d = d} i j o t) x
     (Local-time.local-time {h = h} {m = m} {s = s} {n = n} (Time-hour.hour a l) (Time-minute.sixtieth b v) (Time-minute.sixtieth c w) f)) z =
     simp append-assoc (rw append-nil at (date-run {Q = Q} i j o p (sep-run x a b c f p
-        (stamp-end k p (dated y mo d) h m s n (by-checks k (both-ok _ _) (by-check k date-is t) (ok-clock k h m s l v w)) z))))
+    (stamp-end k p (dated y mo d) h m s n (by-checks k (both-ok _ _) (by-check k date-is t) (ok-clock k h m s l v w)) z))))
 time-goes-to {k} {Q = Q} p (Time-value.offset-date-time (Local-date.local-date {y = y} {m = mo} {d = d} i j o t) x
     (Local-time.local-time {h = h} {m = m} {s = s} {n = n} (Time-hour.hour a l) (Time-minute.sixtieth b v) (Time-minute.sixtieth c w) f) e) z =
     simp append-assoc (date-run i j o p (sep-run x a b c f p (zone-run k p (dated y mo d) h m s n
-        (by-checks k (both-ok _ _) (by-check k date-is t) (ok-clock k h m s l v w)) e z)))
+    (by-checks k (both-ok _ _) (by-check k date-is t) (ok-clock k h m s l v w)) e z)))
 
 pub time-goes : {a : List ℕ} {t : M.Time} → Time-value true a t → (p : ℕ) → Goes scan EndsItem p begin a (Meaning.time t)
 time-goes x p = goes-value scan (time-goes-to p x (λ ok e. rw e))

@@ -10,17 +10,17 @@ use Rattle.meaning.specs.declared.Date as D
 use Rattle.meaning.specs.declared.Time as T
 use Rattle.meaning.specs.declared.Time.the-variants.{LocalDate, LocalTime, LocalDateTime, OffsetDateTime}
 use Rattle.meaning.specs.declared.Refusal.{Refusal}
-use Rattle.meaning.specs.declared.Refusal.the-variants.{TextTooLong, NotUtf8, NotGrammar, BadEscape, BadTime, BadNumber, TooDeep, TapeTooShort, StoreTooShort,
-    NotWellFormed, NoJsonForm, OutputTooShort, WrittenTooLong, NoSuchRecord}
+use Rattle.meaning.specs.declared.Refusal.the-variants.{TextTooLong, NotUtf8, NotGrammar, BadEscape, BadTime, BadNumber, TooDeep, TapeTooShort, StoreTooShort}
+use Rattle.meaning.specs.declared.Refusal.the-variants.{NotWellFormed, NoJsonForm, OutputTooShort, WrittenTooLong, NoSuchRecord}
 use Rattle.meaning.specs.Limits.{coefficientLimit}
 use Rattle.meaning.specs.Letters.{ch}
 use Rattle.meaning.specs.Clock.{timeOfDay}
 use Rattle.grammar.specs.Numbers.{raised, lowered}
 use Rattle.grammar.specs.Times.{signed}
 use Rattle.machine.specs.Scan.{takes, stops, breaks}
-use Rattle.machine.specs.Numeric.{St, Res, begin, sign, word, nought, int, point, frac, exp, expSign, expDigits, hexMark, hex, both, field, spaced,
-    secPoint, nanos, zulu, Len, d1, d2, d3, d4, When, alone, on, Slot, month, day, hour, minute, second, offsetHour, offsetMinute, scan, settle, only, dated,
-    tested, okDate, okClock}
+use Rattle.machine.specs.Numeric.{St, Res, begin, sign, word, nought, int, point, frac, exp, expSign, expDigits, hexMark, hex, both, field, spaced}
+use Rattle.machine.specs.Numeric.{secPoint, nanos, zulu, Len, d1, d2, d3, d4, When, alone, on, Slot, month, day, hour, minute, second, offsetHour}
+use Rattle.machine.specs.Numeric.{offsetMinute, scan, settle, only, dated, tested, okDate, okClock}
 use Rattle.machine.specs.Numeric as S
 use Rattle.machine.proofs.Numeric.Value.{settle-is}
 

@@ -155,8 +155,10 @@ pub data HexIs : ℕ → S.HexB → Type 0 where
   other : {b : ℕ} → HexIs b S.noHex
 
 pub hex-class : (b : ℕ) → HexIs b (S.hexOf b)
-hex-class b = pick-is HexIs (S.hexTable b) S.noHex b ((λ i. HexIs.value (Hexdig.decimal i)),
-    ((λ i. HexIs.value (Hexdig.upper i)), ((λ i. HexIs.value (Hexdig.lower i)), HexIs.other)))
+hex-class b = pick-is HexIs (S.hexTable b) S.noHex b (
+  (λ i. HexIs.value (Hexdig.decimal i)),
+  ((λ i. HexIs.value (Hexdig.upper i)), ((λ i. HexIs.value (Hexdig.lower i)), HexIs.other)),
+)
 
 pub data DayIs : ℕ → S.Day → Type 0 where
   letter : {b : ℕ} → Separator b → DayIs b S.letterD

@@ -82,8 +82,15 @@ module _ (ck : Bool) where
     frac-digit m f b a w i h = (b ∷ h .0, h .1, h .2, suc (h .3), h .4, rw (h .5), Digits.next (Digit.digit i) (h .6), omega (arith, h .7), h .8)
 
     pub point-digit : (b : ℕ) (a : List ℕ) (w : Meaning) → Decimal-digit b → FracRest g (dig 0 b) 1 a w → PointRest g (b ∷ a) w
-    point-digit b a w i h = let e : h .4 ≡ suc (h .3) = omega (arith, h .7) in (b ∷ h .0, h .1, h .2, h .3, rw (h .5), Digits.next (Digit.digit i) (h .6),
-        subst (λ (x : ℕ). ExpRest g (h .2) x (h .1) w) e (h .8))
+    point-digit b a w i h = let e : h .4 ≡ suc (h .3) = omega (arith, h .7) in (
+      b ∷ h .0,
+      h .1,
+      h .2,
+      h .3,
+      rw (h .5),
+      Digits.next (Digit.digit i) (h .6),
+      subst (λ (x : ℕ). ExpRest g (h .2) x (h .1) w) e (h .8),
+    )
 
     pub whole-e : (m b : ℕ) (a : List ℕ) (w : Meaning) → E b → PowerRest g m 0 a w → WholeRest g m (b ∷ a) w
     whole-e m b a w e h = ([], b ∷ a, m, 0, refl, Frac0.absent, exp-e m 0 b a w e h)
@@ -92,8 +99,15 @@ module _ (ck : Bool) where
     whole-none m w h = ([], [], m, 0, refl, Frac0.absent, exp-none m 0 w h)
 
     pub whole-point : (m : ℕ) (a : List ℕ) (w : Meaning) → FracRest g m 0 a w → WholeRest g m (ch "." ∷ a) w
-    whole-point m a w h = let e : h .4 ≡ h .3 = omega (arith, h .7) in (ch "." ∷ h .0, h .1, h .2, h .3, rw (h .5), Frac0.given (h .6),
-        subst (λ (x : ℕ). ExpRest g (h .2) x (h .1) w) e (h .8))
+    whole-point m a w h = let e : h .4 ≡ h .3 = omega (arith, h .7) in (
+      ch "." ∷ h .0,
+      h .1,
+      h .2,
+      h .3,
+      rw (h .5),
+      Frac0.given (h .6),
+      subst (λ (x : ℕ). ExpRest g (h .2) x (h .1) w) e (h .8),
+    )
 
     pub int-of : (m : ℕ) (a : List ℕ) (w : Meaning) → WholeRest g m a w → IntRest g m a w
     int-of m a w h = ([], a, m, 0, refl, Digits.over, h)

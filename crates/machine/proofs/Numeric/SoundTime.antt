@@ -167,4 +167,4 @@ module _ (ck : Bool) where
       let z = y .5 .2 in
       taken-by (simp append-assoc (cc (x .3, x .5 .1, y .3, y .5 .1, z .3))) refl
       (date-taken (x .0 ++ (ch "-" ∷ (y .0 ++ (ch "-" ∷ z .0)))) (dated (x .2) (y .2) (z .2)) w
-          (λ e. Local-date.local-date (x .4) (y .4) (z .4) (by-check ck is-date e)) (z .1) (z .5))
+      (λ e. Local-date.local-date (x .4) (y .4) (z .4) (by-check ck is-date e)) (z .1) (z .5))

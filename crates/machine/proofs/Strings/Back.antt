@@ -15,8 +15,8 @@ use Rattle.grammar.specs.Characters.{Hexdig, Digits, Hexadecimal}
 use Rattle.grammar.specs.Strings.{Quote, double, single, mark, three, joined, Escape, Up-to-two, Newline, No-newline}
 use Rattle.machine.specs.Scan.{Out, takes, over}
 use Rattle.machine.specs.Strings as S
-use Rattle.machine.specs.Strings.{St, Ctx, Bad, Half, mk, lost, badNow, give, wait, blame, scan, start, one, two, lines0, linesCR, lines, body, esc, uni,
-    hex, brace0, brace, done, fine, spoilt, whole, half, hexOf, shortOf, begin}
+use Rattle.machine.specs.Strings.{St, Ctx, Bad, Half, mk, lost, badNow, give, wait, blame, scan, start, one, two, lines0, linesCR, lines, body, esc, uni}
+use Rattle.machine.specs.Strings.{hex, brace0, brace, done, fine, spoilt, whole, half, hexOf, shortOf, begin}
 use Rattle.machine.proofs.Runs.{OutIs}
 use Rattle.machine.proofs.Strings.Raw.{Plain, Body, Inner, Lines, Raw-part}
 use Rattle.machine.proofs.Strings.Tests.{by-bool, by-eqb, by-ltb, by-leb, hex-is, hex-small, short-is, short-of}
@@ -31,7 +31,7 @@ abbrev pub Halved : Half → Quote → List ℕ → List ℕ → List ℕ → Ty
 Halved whole j acc a v = Tail j acc a v
 Halved (half from h) j acc a v =
     (ds : List ℕ) × (r : List ℕ) × (w : ℕ) × (a ≡ letters "\\u" ++ (ds ++ r)) × Hexadecimal 4 ds w × In 0xDC00 0xDFFF w
-        × Tail j (acc ++ encode (joined h w)) r v
+    × Tail j (acc ++ encode (joined h w)) r v
 
 abbrev pub BodyRest : Ctx → List ℕ → List ℕ → Type 0
 BodyRest k a v = (j : Quote) → k .quote ≡ mark j → (k .bad ≡ fine) × Halved (k .high) j (k .acc) a v
@@ -118,9 +118,15 @@ wait-back k at w {ds} x i r v f j q = go (k .high) (f j q .0) (f j q .1)
   where
     go : (h : Half) → lost (k .bad) h ≡ fine → Halved (half at w) j (k .acc) r v → (k .bad ≡ fine) × Halved h j (k .acc) (letters "\\u" ++ (ds ++ r)) v
     go whole b t =
-        let u = t .6 in
-        (b, (encode (joined w (t .2)) ++ u .0, rw (t .3, ← append-assoc ds (letters "\\u" ++ t .0) (t .1))
-            (Body.escaped (Escape.pair x i (t .4) (t .5)) (u .1)), rw append-assoc at (u .2)))
+        let u = t .6 in (
+          b,
+          (
+            encode (joined w (t .2)) ++ u .0,
+            rw (t .3, ← append-assoc ds (letters "\\u" ++ t .0) (t .1))
+                (Body.escaped (Escape.pair x i (t .4) (t .5)) (u .1)),
+            rw append-assoc at (u .2),
+          ),
+        )
     go (half from h) b t = absurd (spoilt-not (k .bad) from b)
 
 alone-back : (k : Ctx) (at w : ℕ) {ds : List ℕ} → Hexadecimal 4 ds w → (r v : List ℕ) → BodyRest (S.alone k at w) r v
@@ -183,9 +189,11 @@ lines-is p q n acc b s f =
     (λ e. by-eqb (λ t. Is s b (takes t)) n 2 _ _ (λ m a v h. f a v (λ j i l. ([], rw (m, e, i, h .0) Lines.shut, append-nil acc ∙ h .1)))
     (λ m a v h. f a v (λ j i l. let t = h j i (omega arith) in (t .0, rw e (rw (one-more n q a) at (t .1)), t .2)))) λ m.
     by-bool (Is s b) (S.lineByte b) _ _
-    (λ e a v h. f a v (λ j i l. let t = h j i (omega arith) in
-    (replicate n q ++ (b ∷ t .0), Lines.byte {s = replicate n q} (rw i (up-to-two n j l)) (record { no-end = λ z. m (z ∙ sym i); may = e }) (t .1),
-        simp append-assoc at (t .2))))
+    (λ e a v h. f a v (λ j i l. let t = h j i (omega arith) in (
+      replicate n q ++ (b ∷ t .0),
+      Lines.byte {s = replicate n q} (rw i (up-to-two n j l)) (record { no-end = λ z. m (z ∙ sym i); may = e }) (t .1),
+      simp append-assoc at (t .2),
+    )))
     (λ e. tt)
 
 -- ---- every state
@@ -216,20 +224,20 @@ part-is p (lines0 q) b =
     by-eqb (Is (lines0 q) b) b 10 _ _ (λ e a v h j i. let t = h j i (omega arith) in rw e (by-value (t .2) (Raw-part.trimmed j Newline.line-feed (t .1)))) λ n.
     by-eqb (Is (lines0 q) b) b 13 _ _ (λ e a v h j i. rw e (h j i))
     (λ m. lines-is p q 0 [] b (lines0 q) (λ a v h j i. let t = h j i (omega arith) in
-        by-value (t .2) (Raw-part.multiline j (t .1) (No-newline.other-byte n m))))
+    by-value (t .2) (Raw-part.multiline j (t .1) (No-newline.other-byte n m))))
 part-is p (linesCR q) b =
     by-eqb (Is (linesCR q) b) b 10 _ _ (λ e a v h j i. let t = h j i (omega arith) in
-        rw e (by-value (t .2) (Raw-part.trimmed j Newline.return-line-feed (t .1))))
+    rw e (by-value (t .2) (Raw-part.trimmed j Newline.return-line-feed (t .1))))
     (λ n. lines-is p q 0 (letters "\r") b (linesCR q)
     (λ a v h j i. let t = h j i (omega arith) in by-value (t .2) (Raw-part.multiline j (Lines.byte Up-to-two.no-quote (inner-return j) (t .1))
-        (No-newline.return-before n))))
+    (No-newline.return-before n))))
 part-is p (lines q n acc) b = lines-is p q n acc b (lines q n acc) (λ a v h. h)
 part-is p (body k) b = body-is p k b (body k) (λ a v h. h)
 part-is p (esc k at) b =
     by-eqb (Is (esc k at) b) b 0x75 _ _ (λ e a v h. rw e h)
     (λ n. by-ltb (Is (esc k at) b) (shortOf b) 256 _ _
     (λ l a v h. let s = short-of (short-is b l) in escape-back k (b ∷ []) (shortOf b ∷ []) (Escape.short (short-is b l)) a v
-        (rw (row-1 (shortOf b) (omega arith)) at h)) (λ l. tt))
+    (rw (row-1 (shortOf b) (omega arith)) at h)) (λ l. tt))
 part-is p (uni k at) b =
     by-eqb (Is (uni k at) b) b 0x7B _ _ (λ e a v h. rw (e, h .4) (braces-back k at (h .0) (h .3) (h .1) (h .5) (h .2) v (h .6)))
     (λ n. digit-is (uni k at) b _ _ (λ x a v h. rw (h .3) (unit-back k at (h .2) (Digits.next x (h .4)) (h .1) v (h .5))) tt)

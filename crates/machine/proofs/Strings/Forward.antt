@@ -13,12 +13,12 @@ use Rattle.rules.proofs.Characters.{Each, all-none, all-more, each-map, High, l
 use Rattle.rules.proofs.Numbers.{row-1, row-2, row-3, row-4, encoded}
 use Rattle.meaning.specs.Letters.{letters, ch}
 use Rattle.grammar.specs.Characters.{Of, Among, Many, Hexdig, Digits, Hexadecimal}
-use Rattle.grammar.specs.Strings.{Quote, double, single, mark, other, three, Chars, Quoted, joined, Escape, unescaped, Up-to-two, source, M-char, Newline,
-    No-newline, String-part}
+use Rattle.grammar.specs.Strings.{Quote, double, single, mark, other, three, Chars, Quoted, joined, Escape, unescaped, Up-to-two, source, M-char, Newline}
+use Rattle.grammar.specs.Strings.{No-newline, String-part}
 use Rattle.machine.specs.Scan.{Out, takes, over}
 use Rattle.machine.specs.Strings as S
-use Rattle.machine.specs.Strings.{St, Ctx, Half, mk, give, wait, scan, start, one, two, lines0, linesCR, lines, body, esc, uni, hex, brace, done, fine,
-    whole, half, hexOf, begin}
+use Rattle.machine.specs.Strings.{St, Ctx, Half, mk, give, wait, scan, start, one, two, lines0, linesCR, lines, body, esc, uni, hex, brace, done, fine}
+use Rattle.machine.specs.Strings.{whole, half, hexOf, begin}
 use Rattle.machine.proofs.Runs.{PartEnds, adv, Goes, took, halts, Steps, eats, steps-join, steps-go}
 use Rattle.machine.proofs.Strings.Raw.{Plain, Inner}
 use Rattle.machine.proofs.Strings.Quotes.{mark-ascii, mark-high, between, between-other, line-ranges, line-of}
@@ -174,7 +174,7 @@ chars-steps {q} (Chars.plain (Among.character {n = n} s o) y) p acc =
     steps-join scan (plain-steps (plain-each q n s o) p acc) (rw append-assoc at (chars-steps y (adv p (encode n)) (acc ++ encode n)))
 chars-steps {q} (Chars.escaped {e = e} {v = v} x y) p acc =
     eats scan (steps-join scan (escape-steps x (suc p) (clear (mark q) acc) p) (rw append-assoc at (chars-steps y (adv (suc p) e) (acc ++ v))))
-        (back-step p (clear (mark q) acc))
+    (back-step p (clear (mark q) acc))
 chars-steps {q} (Chars.other-quote y) p acc =
     eats scan (rw append-assoc at (chars-steps y (suc p) (acc ++ (mark (other q) ∷ [])))) (plain-step (between-other q 0xFF (omega arith)) p acc)
 
@@ -251,7 +251,7 @@ inner-of m n l (inr (inr (inr (inr (inl i))))) h = record { no-end = omega arith
 inner-each : (q : Quote) (n : ℕ) → Scalar n → Of (source q) n → Each (Inner (mark q)) (encode n)
 inner-each q n s o =
     encode-each (Inner (mark q)) n s (inner-of (mark q) n (mark-high q) (line-of q n o))
-        (λ b h. let i = mark-ascii q in record { no-end = omega arith; may = line-high b (omega arith) (omega arith) })
+    (λ b h. let i = mark-ascii q in record { no-end = omega arith; may = line-high b (omega arith) (omega arith) })
 
 line-step : {q b : ℕ} → Inner q b → (p n : ℕ) (acc : List ℕ) → scan p (lines q n acc) b ≡ takes (lines q 0 (acc ++ (replicate n q ++ (b ∷ []))))
 unfolding scan S.onLines

@@ -40,8 +40,14 @@ unfolding hexOf
 hex-of {b} (Hexdig.decimal w) = simp (le-ltb b 0x30 (w .low), le-leb b 0x39 (w .high))
 hex-of {b} (Hexdig.upper w) = simp (le-ltb b 0x30 (omega arith), lt-leb b 0x39 (omega arith), le-ltb b 0x41 (w .low), le-leb b 0x46 (w .high))
 hex-of {b} (Hexdig.lower w) =
-    simp (le-ltb b 0x30 (omega arith), lt-leb b 0x39 (omega arith), le-ltb b 0x41 (omega arith), lt-leb b 0x46 (omega arith), le-ltb b 0x61 (w .low),
-        le-leb b 0x66 (w .high))
+    simp (
+      le-ltb b 0x30 (omega arith),
+      lt-leb b 0x39 (omega arith),
+      le-ltb b 0x41 (omega arith),
+      lt-leb b 0x46 (omega arith),
+      le-ltb b 0x61 (w .low),
+      le-leb b 0x66 (w .high),
+    )
 
 pub hex-small : {b x : ℕ} → Hexdig b x → x < 16
 hex-small (Hexdig.decimal w) = omega arith

@@ -56,8 +56,13 @@ body-of {k} {q} (Body.plain {b = b} {a = a} {u = u} x y) [] t e all-none o = go 
     go : ((c t : List ℕ) → a ≡ c ++ t → Each High c → Octets t → Split k q c t u) → (Ascii b × Octets a) ⊎ Long b a → Split k q [] t (b ∷ u)
     go f (inl i) =
         let s = f [] a refl all-none (i .1) in
-        record { value = b ∷ s .value; inner = b ∷ s .inner; means = rw (s .means); is = sym e ∙ ap {B = List ℕ} (λ (l : List ℕ). b ∷ l) (s .is); chars =
-            plain-char q 0x10FFFF (wider x) (ascii-among unescaped b (i .0)) (s .chars) }
+        record {
+          value = b ∷ s .value;
+          inner = b ∷ s .inner;
+          means = rw (s .means);
+          is = sym e ∙ ap {B = List ℕ} (λ (l : List ℕ). b ∷ l) (s .is);
+          chars = plain-char q 0x10FFFF (wider x) (ascii-among unescaped b (i .0)) (s .chars);
+        }
     go f (inr l) =
         let s = f (l .rest) (l .then) (l .is) (l .all) (l .good) in
         record {
@@ -77,9 +82,8 @@ body-of {q = q} (Body.escaped {e = w} {v = v} {a = a} x y) [] t e all-none o =
       value = v ++ s .value;
       inner = ch "\\" ∷ (w ++ s .inner);
       means = ap {B = List ℕ} (λ (z : List ℕ). v ++ z) (s .means);
-      is = sym e
-          ∙ ap {B = List ℕ}
-          (λ (z : List ℕ). ch "\\" ∷ (w ++ z)) (s .is) ∙ ap {B = List ℕ} (λ (z : List ℕ). ch "\\" ∷ z) (sym (append-assoc w (s .inner) (mark q ∷ [])));
+      is = sym e ∙ ap {B = List ℕ} (λ (z : List ℕ). ch "\\" ∷ (w ++ z)) (s .is) ∙ ap {B = List ℕ} (λ (z : List ℕ). ch "\\" ∷ z)
+          (sym (append-assoc w (s .inner) (mark q ∷ [])));
       chars = Chars.escaped x (s .chars);
     }
 body-of (Body.escaped x y) (d ∷ c) t e (all-more h z) o = let f = same-head e in absurd (omega arith)

@@ -7,8 +7,8 @@ use lib.ListN.{length}
 use Rattle.machine.specs.Strings.{noDigit}
 use Rattle.machine.specs.Binaries.{low}
 use Rattle.items.specs.Between.Places.{digitAt}
-use Rattle.items.proofs.BinaryPartLaws.{Filling, filling, fill-more, fill-wrong, fill-last, pairing, next-place, pair-open, pair-more, pair-wrongs,
-    pair-ends, digit-in}
+use Rattle.items.proofs.BinaryPartLaws.{Filling, filling, fill-more, fill-wrong, fill-last, pairing, next-place, pair-open, pair-more, pair-wrongs}
+use Rattle.items.proofs.BinaryPartLaws.{pair-ends, digit-in}
 use Rattle.items.proofs.binary_part.pairs.Statement.{statement}
 use Rattle.items.proofs.binary_part.pairs.Tie as tie
 use Rattle.items.proofs.binary_part.pairs.Reads as reads
@@ -25,22 +25,34 @@ abbrev μ-loop : tie.MeasureT-loop
 μ-loop text from store₀ start i₀ out₀ store i out = length text - i
 
 loop-holds : tie.Need-loop-holds Inv-loop μ-loop
-loop-holds c = ((filling (c .before .before .args .text .now) (pairing (c .before .before .args .text .now)) next-place (c .before .before .args .from)
-    (c .before .before .args .start) (c .before .before .args .store .now) (omega arith), c .before .before .pre .2), refl)
+loop-holds c = (
+  (
+    filling (c .before .before .args .text .now) (pairing (c .before .before .args .text .now)) next-place (c .before .before .args .from)
+        (c .before .before .args .start) (c .before .before .args .store .now) (omega arith),
+    c .before .before .pre .2,
+  ),
+  refl,
+)
 
 digit-requires : tie.Need-digit-requires Inv-loop μ-loop
 digit-requires c κs = search needs
 
 add-digit : tie.Need-add-digit Inv-loop μ-loop
-add-digit c = let v = c .before .loop .inv .0 .0 in omega (arith, digit-in (c .before .before .before .before .args .text .now) (c .before .loop .i)
-    (c .before .loop .inv .0 .1))
+add-digit c = let v = c .before .loop .inv .0 .0 in omega (
+  arith,
+  digit-in (c .before .before .before .before .args .text .now) (c .before .loop .i)
+      (c .before .loop .inv .0 .1),
+)
 
 digit-requires-2 : tie.Need-digit-requires-2 Inv-loop μ-loop
 digit-requires-2 c κs = search needs
 
 add-t14 : tie.Need-add-t14 Inv-loop μ-loop
-add-t14 c = let v = c .before .before .before .loop .inv .0 .0 in omega (arith, digit-in
-    (c .before .before .before .before .before .before .args .text .now) (c .before .before .before .loop .i) (c .before .before .before .loop .inv .0 .1))
+add-t14 c = let v = c .before .before .before .loop .inv .0 .0 in omega (
+  arith,
+  digit-in
+      (c .before .before .before .before .before .before .args .text .now) (c .before .before .before .loop .i) (c .before .before .before .loop .inv .0 .1),
+)
 
 same-length : tie.Need-same-length Inv-loop μ-loop
 same-length c = c .before .before .before .loop .inv .1
@@ -66,15 +78,21 @@ add-after-pair : tie.Need-add-after-pair Inv-loop μ-loop
 add-after-pair c = let d : digitAt (c .before .before .before .before .before .before .before .before .before .before .args .text .now)
     (c .before .before .before .before .before .before .before .loop .i + 1) < noDigit =
     rw (c .before .before .before .before .before .digit2 .ensures) at (c .before .before .before .before .if1 .left) in
-    omega (arith, digit-in (c .before .before .before .before .before .before .before .before .before .before .args .text .now)
-    (c .before .before .before .before .before .before .before .loop .i + 1) d)
+    omega (
+      arith,
+      digit-in (c .before .before .before .before .before .before .before .before .before .before .args .text .now)
+          (c .before .before .before .before .before .before .before .loop .i + 1) d,
+    )
 
 after-pair-requires : tie.Need-after-pair-requires Inv-loop μ-loop
 after-pair-requires c κs = let d : digitAt (c .before .before .before .before .before .before .before .before .before .before .args .text .now)
     (c .before .before .before .before .before .before .before .loop .i + 1) < noDigit =
     rw (c .before .before .before .before .before .digit2 .ensures) at (c .before .before .before .before .if1 .left) in
-    omega (arith, digit-in (c .before .before .before .before .before .before .before .before .before .before .args .text .now)
-    (c .before .before .before .before .before .before .before .loop .i + 1) d)
+    omega (
+      arith,
+      digit-in (c .before .before .before .before .before .before .before .before .before .before .args .text .now)
+          (c .before .before .before .before .before .before .before .loop .i + 1) d,
+    )
 
 enum-known-p : tie.Need-enum-known-p Inv-loop μ-loop
 enum-known-p c = search needs
@@ -107,18 +125,26 @@ returns-3 c = let w = rw (c .before .p2 .given .1) at (c .before .before .before
     rw (c .before .before .before .before .before .before .before .before .before .digit2 .ensures) at
     (c .before .before .before .before .before .before .before .before .if1 .left) in let v =
     c .before .before .before .before .before .before .before .before .before .before .before .loop .inv .0 .0 in
-    rw (c .before .before .before .before .before .before .put-byte .ensures, c .before .before .before .before .before .before .before .before .before .before
-    .digit .ensures, c .before .before .before .before .before .before .before .before .before .digit2 .ensures)
+    rw (
+      c .before .before .before .before .before .before .put-byte .ensures,
+      c .before .before .before .before .before .before .before .before .before .before
+          .digit .ensures,
+      c .before .before .before .before .before .before .before .before .before .digit2 .ensures,
+    )
     (fill-last v (16 * digitAt (c .before .before .before .before .before .before .before .before .before .before .before .before .before .before .args .text
     .now) (c .before .before .before .before .before .before .before .before .before .before .before .loop .i) + digitAt
     (c .before .before .before .before .before .before .before .before .before .before .before .before .before .before .args .text .now)
     (c .before .before .before .before .before .before .before .before .before .before .before .loop .i + 1)) (c .before .p2 .given .0 .0)
-    (c .before .before .before .before .before .before .before .before .before .before .before .loop .out + 1 - c .before .before .before .before .before
-    .before .before .before .before .before .before .before .before .before .args .start)
+    (c .before .before .before .before .before .before .before .before .before .before .before .loop .out + 1 -
+    c .before .before .before .before .before .before .before .before .before .before .before .before .before .before .args .start)
     (pair-ends (c .before .before .before .before .before .before .before .before .before .before .before .before .before .before .args .text .now)
     (c .before .before .before .before .before .before .before .before .before .before .before .loop .i) (v .u) d (c .before .p2 .given .0 .0) w)
-    (omega (arith, w .1)) (omega (arith, w .1, digit-in (c .before .before .before .before .before .before .before .before .before .before .before .before
-    .before .before .args .text .now) (c .before .before .before .before .before .before .before .before .before .before .before .loop .i + 1) d))
+    (omega (arith, w .1)) (omega (
+      arith,
+      w .1,
+      digit-in (c .before .before .before .before .before .before .before .before .before .before .before .before
+          .before .before .args .text .now) (c .before .before .before .before .before .before .before .before .before .before .before .loop .i + 1) d,
+    ))
     (omega (arith, v .placed)))
 
 enum-known-p-3 : tie.Need-enum-known-p-3 Inv-loop μ-loop
@@ -133,16 +159,28 @@ loop-again c = let w = rw (c .before .p3 .given .1) at (c .before .before .befor
     (c .before .before .before .before .before .before .before .before .before .before .before .loop .i + 1) < noDigit =
     rw (c .before .before .before .before .before .before .before .before .before .digit2 .ensures) at
     (c .before .before .before .before .before .before .before .before .if1 .left) in let v =
-    c .before .before .before .before .before .before .before .before .before .before .before .loop .inv .0 .0 in
-    ((rw (c .before .before .before .before .before .before .put-byte .ensures, c .before .before .before .before .before .before .before .before .before
-    .before .digit .ensures, c .before .before .before .before .before .before .before .before .before .digit2 .ensures)
-    (fill-more v (16 * digitAt (c .before .before .before .before .before .before .before .before .before .before .before .before .before .before .args .text
-    .now) (c .before .before .before .before .before .before .before .before .before .before .before .loop .i) + digitAt
-    (c .before .before .before .before .before .before .before .before .before .before .before .before .before .before .args .text .now)
-    (c .before .before .before .before .before .before .before .before .before .before .before .loop .i + 1)) (c .before .p3 .given .0 .0) (omega (arith, w .2))
-    (omega (arith, w .1)) (pair-more (c .before .before .before .before .before .before .before .before .before .before .before .before .before .before .args
-    .text .now) (c .before .before .before .before .before .before .before .before .before .before .before .loop .i) (v .u) d (c .before .p3 .given .0 .0) w)),
-    w .3), search needs)
+    c .before .before .before .before .before .before .before .before .before .before .before .loop .inv .0 .0 in (
+      (
+        rw (
+          c .before .before .before .before .before .before .put-byte .ensures,
+          c .before .before .before .before .before .before .before .before .before
+              .before .digit .ensures,
+          c .before .before .before .before .before .before .before .before .before .digit2 .ensures,
+        )
+            (fill-more v (16 * digitAt (c .before .before .before .before .before .before .before .before .before .before .before .before .before .before .args
+            .text
+            .now) (c .before .before .before .before .before .before .before .before .before .before .before .loop .i) + digitAt
+            (c .before .before .before .before .before .before .before .before .before .before .before .before .before .before .args .text .now)
+            (c .before .before .before .before .before .before .before .before .before .before .before .loop .i + 1)) (c .before .p3 .given .0 .0)
+            (omega (arith, w .2))
+            (omega (arith, w .1)) (pair-more (c .before .before .before .before .before .before .before .before .before .before .before .before .before .before
+            .args
+            .text .now) (c .before .before .before .before .before .before .before .before .before .before .before .loop .i) (v .u) d
+            (c .before .p3 .given .0 .0) w)),
+        w .3,
+      ),
+      search needs,
+    )
 
 pub pairs-spec : {M : Type 1} → statement M
 pairs-spec =

@@ -21,8 +21,11 @@ abbrev μ-loop : tie.MeasureT-loop
 μ-loop text from q store₀ start i₀ out₀ store i out = length text - i
 
 loop-holds : tie.Need-loop-holds Inv-loop μ-loop
-loop-holds c = (filling (c .before .before .args .text .now) (texting (c .before .before .args .q)) (λ j. j) (c .before .before .args .from)
-    (c .before .before .args .start) (c .before .before .args .store .now) (omega arith), refl)
+loop-holds c = (
+  filling (c .before .before .args .text .now) (texting (c .before .before .args .q)) (λ j. j) (c .before .before .args .from)
+      (c .before .before .args .start) (c .before .before .args .store .now) (omega arith),
+  refl,
+)
 
 shared-slice-read-if1 : tie.Need-shared-slice-read-if1 Inv-loop μ-loop
 shared-slice-read-if1 c = omega arith
@@ -66,8 +69,14 @@ put-byte-requires c κs = search needs
 
 add-out : tie.Need-add-out Inv-loop μ-loop
 add-out c = let v = c .before .before .before .before .before .before .before .before .before .before .before .loop .inv .0 in
-    omega (arith, v .placed, v .room, v .within, c .before .before .before .before .before .before .before .before .before .before .before .before .before
-    .before .pre .1)
+    omega (
+      arith,
+      v .placed,
+      v .room,
+      v .within,
+      c .before .before .before .before .before .before .before .before .before .before .before .before .before
+          .before .pre .1,
+    )
 
 loop-less : tie.Need-loop-less Inv-loop μ-loop
 loop-less c = let w = rw (c .before .before .before .before .before .value .given .1) at
@@ -75,12 +84,14 @@ loop-less c = let w = rw (c .before .before .before .before .before .value .give
 
 loop-again : tie.Need-loop-again Inv-loop μ-loop
 loop-again c = let w = rw (c .before .before .before .before .before .value .given .1) at
-    (c .before .before .before .before .before .before .before .one-byte .ensures) in
-    (rw (c .before .before .put-byte .ensures) (fill-more (c .before .before .before .before .before .before .before .before .before .before .before .loop .inv
-    .0) _ (c .before .before .before .before .before .value .given .0 .1 .0) (omega (arith, w .past)) (w .within)
-    (w .runs (c .before .before .before .before .before .before .before .before .before .before .before .before .before .before .args .q)
-    (c .before .before .before .before .before .before .before .before .before .before .before .loop .inv .0 .u)
-    (c .before .before .before .before .before .before .before .before .if1 .left))), search needs)
+    (c .before .before .before .before .before .before .before .one-byte .ensures) in (
+      rw (c .before .before .put-byte .ensures) (fill-more (c .before .before .before .before .before .before .before .before .before .before .before .loop .inv
+          .0) _ (c .before .before .before .before .before .value .given .0 .1 .0) (omega (arith, w .past)) (w .within)
+          (w .runs (c .before .before .before .before .before .before .before .before .before .before .before .before .before .before .args .q)
+          (c .before .before .before .before .before .before .before .before .before .before .before .loop .inv .0 .u)
+          (c .before .before .before .before .before .before .before .before .if1 .left))),
+      search needs,
+    )
 
 same-length-3 : tie.Need-same-length-3 Inv-loop μ-loop
 same-length-3 c = search needs

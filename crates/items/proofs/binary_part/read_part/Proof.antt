@@ -95,10 +95,13 @@ hex-requires : tie.Need-hex-requires
 hex-requires c κs = search needs
 
 pairs-requires : tie.Need-pairs-requires
-pairs-requires c κs = (c .before .before .before .before .before .before .if3 .left, omega arith,
-    (let e = digit-is (c .before .before .before .before .before .before .before .before .before .before .before .before .args .text .now)
-    (c .before .before .before .before .before .before .before .before .before .before .before .before .args .at + 1)
-    (c .before .before .before .before .before .before .if3 .left) in omega (arith, c .before .before .hex .ensures, c .before .if6 .taken)))
+pairs-requires c κs = (
+  c .before .before .before .before .before .before .if3 .left,
+  omega arith,
+  (let e = digit-is (c .before .before .before .before .before .before .before .before .before .before .before .before .args .text .now)
+      (c .before .before .before .before .before .before .before .before .before .before .before .before .args .at + 1)
+      (c .before .before .before .before .before .before .if3 .left) in omega (arith, c .before .before .hex .ensures, c .before .if6 .taken)),
+)
 
 same-length-3 : tie.Need-same-length-3
 same-length-3 c = search needs

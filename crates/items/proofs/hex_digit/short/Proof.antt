@@ -52,10 +52,19 @@ returns-11 c = simp (c .match .keys11)
 
 returns-12 : tie.Need-returns-12
 unfolding shortOf
-returns-12 c = simp (ne-eqb _ _ (c .match .rest .0 .0 .0 .0 .0 .0 .0 .0 .0 .0 .1), ne-eqb _ _ (c .match .rest .0 .0 .0 .0 .0 .0 .0 .0 .0 .1),
-    ne-eqb _ _ (c .match .rest .0 .0 .0 .0 .0 .0 .0 .0 .1), ne-eqb _ _ (c .match .rest .0 .0 .0 .0 .0 .0 .0 .1),
-    ne-eqb _ _ (c .match .rest .0 .0 .0 .0 .0 .0 .1), ne-eqb _ _ (c .match .rest .0 .0 .0 .0 .0 .1), ne-eqb _ _ (c .match .rest .0 .0 .0 .0 .1),
-    ne-eqb _ _ (c .match .rest .0 .0 .0 .1), ne-eqb _ _ (c .match .rest .0 .0 .1), ne-eqb _ _ (c .match .rest .0 .1), ne-eqb _ _ (c .match .rest .1))
+returns-12 c = simp (
+  ne-eqb _ _ (c .match .rest .0 .0 .0 .0 .0 .0 .0 .0 .0 .0 .1),
+  ne-eqb _ _ (c .match .rest .0 .0 .0 .0 .0 .0 .0 .0 .0 .1),
+  ne-eqb _ _ (c .match .rest .0 .0 .0 .0 .0 .0 .0 .0 .1),
+  ne-eqb _ _ (c .match .rest .0 .0 .0 .0 .0 .0 .0 .1),
+  ne-eqb _ _ (c .match .rest .0 .0 .0 .0 .0 .0 .1),
+  ne-eqb _ _ (c .match .rest .0 .0 .0 .0 .0 .1),
+  ne-eqb _ _ (c .match .rest .0 .0 .0 .0 .1),
+  ne-eqb _ _ (c .match .rest .0 .0 .0 .1),
+  ne-eqb _ _ (c .match .rest .0 .0 .1),
+  ne-eqb _ _ (c .match .rest .0 .1),
+  ne-eqb _ _ (c .match .rest .1),
+)
 
 pub short-spec : {M : Type 1} → statement M
 short-spec =

@@ -43,26 +43,74 @@ returns-7 c = cut-found rows neither (c .before .before .before .before .before 
 returns-8 : tie.Need-returns-8
 unfolding classOf
 returns-8 c = cut-found rows neither (c .before .before .before .before .before .before .before .before .args .b) letter
-    (inr (omega arith, inr (omega arith, inr (omega arith, inr (omega arith, inr
-    (omega arith, inr (omega arith, inr (omega arith, inl (omega arith, refl)))))))))
+    (inr (
+      omega arith,
+      inr (
+        omega arith,
+        inr (
+          omega arith,
+          inr (
+            omega arith,
+            inr
+                (omega arith, inr (omega arith, inr (omega arith, inl (omega arith, refl)))),
+          ),
+        ),
+      ),
+    ))
 
 returns-9 : tie.Need-returns-9
 unfolding classOf
 returns-9 c = cut-found rows neither (c .before .before .before .before .before .before .before .before .before .args .b) neither
-    (inr (omega arith, inr (omega arith, inr (omega arith, inr (omega arith, inr
-    (omega arith, inr (omega arith, inr (omega arith, inr (omega arith, inl (omega arith, refl))))))))))
+    (inr (
+      omega arith,
+      inr (
+        omega arith,
+        inr (
+          omega arith,
+          inr (
+            omega arith,
+            inr
+                (omega arith, inr (omega arith, inr (omega arith, inr (omega arith, inl (omega arith, refl))))),
+          ),
+        ),
+      ),
+    ))
 
 returns-10 : tie.Need-returns-10
 unfolding classOf
 returns-10 c = cut-found rows neither (c .before .before .before .before .before .before .before .before .before .before .args .b) letter
-    (inr (omega arith, inr (omega arith, inr (omega arith, inr (omega arith, inr
-    (omega arith, inr (omega arith, inr (omega arith, inr (omega arith, inr (omega arith, inl (omega arith, refl)))))))))))
+    (inr (
+      omega arith,
+      inr (
+        omega arith,
+        inr (
+          omega arith,
+          inr (
+            omega arith,
+            inr
+                (omega arith, inr (omega arith, inr (omega arith, inr (omega arith, inr (omega arith, inl (omega arith, refl)))))),
+          ),
+        ),
+      ),
+    ))
 
 returns-11 : tie.Need-returns-11
 unfolding classOf
 returns-11 c = cut-found rows neither (c .before .before .before .before .before .before .before .before .before .before .args .b) neither
-    (inr (omega arith, inr (omega arith, inr (omega arith, inr (omega arith, inr
-    (omega arith, inr (omega arith, inr (omega arith, inr (omega arith, inr (omega arith, inr (omega arith, refl)))))))))))
+    (inr (
+      omega arith,
+      inr (
+        omega arith,
+        inr (
+          omega arith,
+          inr (
+            omega arith,
+            inr
+                (omega arith, inr (omega arith, inr (omega arith, inr (omega arith, inr (omega arith, inr (omega arith, refl)))))),
+          ),
+        ),
+      ),
+    ))
 
 pub sort-of-spec : {M : Type 1} → statement M
 sort-of-spec =

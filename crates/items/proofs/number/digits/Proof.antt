@@ -21,12 +21,22 @@ shared-slice-read-b : tie.Need-shared-slice-read-b Inv-loop μ-loop
 shared-slice-read-b c = omega arith
 
 returns : tie.Need-returns Inv-loop μ-loop
-returns c = record { low = c .before .before .before .loop .inv .1; high = c .before .before .before .loop .inv .0; edge = Edge.under (c .if1 .taken); zeros =
-    c .before .before .before .loop .inv .2; holds = c .before .before .before .loop .inv .3 }
+returns c = record {
+  low = c .before .before .before .loop .inv .1;
+  high = c .before .before .before .loop .inv .0;
+  edge = Edge.under (c .if1 .taken);
+  zeros = c .before .before .before .loop .inv .2;
+  holds = c .before .before .before .loop .inv .3;
+}
 
 returns-2 : tie.Need-returns-2 Inv-loop μ-loop
-returns-2 c = record { low = c .before .before .before .before .loop .inv .1; high = c .before .before .before .before .loop .inv .0; edge =
-    Edge.past (c .if2 .taken); zeros = c .before .before .before .before .loop .inv .2; holds = c .before .before .before .before .loop .inv .3 }
+returns-2 c = record {
+  low = c .before .before .before .before .loop .inv .1;
+  high = c .before .before .before .before .loop .inv .0;
+  edge = Edge.past (c .if2 .taken);
+  zeros = c .before .before .before .before .loop .inv .2;
+  holds = c .before .before .before .before .loop .inv .3;
+}
 
 push-requires : tie.Need-push-requires Inv-loop μ-loop
 push-requires c κs = (omega arith, omega (arith, c .before .before .before .before .before .before .pre))
@@ -38,15 +48,25 @@ loop-less : tie.Need-loop-less Inv-loop μ-loop
 loop-less c = omega arith
 
 loop-again : tie.Need-loop-again Inv-loop μ-loop
-loop-again c = (omega arith, omega arith, omega (arith, c .push .ensures .0), loop-next
-    (c .before .before .before .before .before .before .before .args .s .now) (c .before .before .before .before .before .before .before .args .from)
-    (c .before .before .before .before .before .before .before .args .a) (c .before .before .before .before .before .loop .x) (c .push .result)
-    (c .before .before .before .before .before .loop .i) _ refl (c .before .before .before .before .before .loop .inv .3)
-    (c .before .before .before .before .loop-test .taken) (omega arith) (omega arith) (c .push .ensures .1))
+loop-again c = (
+  omega arith,
+  omega arith,
+  omega (arith, c .push .ensures .0),
+  loop-next
+      (c .before .before .before .before .before .before .before .args .s .now) (c .before .before .before .before .before .before .before .args .from)
+      (c .before .before .before .before .before .before .before .args .a) (c .before .before .before .before .before .loop .x) (c .push .result)
+      (c .before .before .before .before .before .loop .i) _ refl (c .before .before .before .before .before .loop .inv .3)
+      (c .before .before .before .before .loop-test .taken) (omega arith) (omega arith) (c .push .ensures .1),
+)
 
 returns-3 : tie.Need-returns-3 Inv-loop μ-loop
-returns-3 c = record { low = c .before .loop .inv .1; high = c .before .loop .inv .0; edge = Edge.ends (omega arith); zeros = c .before .loop .inv .2; holds =
-    c .before .loop .inv .3 }
+returns-3 c = record {
+  low = c .before .loop .inv .1;
+  high = c .before .loop .inv .0;
+  edge = Edge.ends (omega arith);
+  zeros = c .before .loop .inv .2;
+  holds = c .before .loop .inv .3;
+}
 
 pub digits-spec : {M : Type 1} → statement M
 digits-spec =

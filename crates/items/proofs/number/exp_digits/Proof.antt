@@ -22,12 +22,22 @@ shared-slice-read-b : tie.Need-shared-slice-read-b Inv-loop μ-loop
 shared-slice-read-b c = omega arith
 
 returns : tie.Need-returns Inv-loop μ-loop
-returns c = record { low = c .before .before .before .loop .inv .1; high = c .before .before .before .loop .inv .0; edge = Edge.under (c .if1 .taken); small =
-    c .before .before .before .loop .inv .2; says = c .before .before .before .loop .inv .3 }
+returns c = record {
+  low = c .before .before .before .loop .inv .1;
+  high = c .before .before .before .loop .inv .0;
+  edge = Edge.under (c .if1 .taken);
+  small = c .before .before .before .loop .inv .2;
+  says = c .before .before .before .loop .inv .3;
+}
 
 returns-2 : tie.Need-returns-2 Inv-loop μ-loop
-returns-2 c = record { low = c .before .before .before .before .loop .inv .1; high = c .before .before .before .before .loop .inv .0; edge =
-    Edge.past (c .if2 .taken); small = c .before .before .before .before .loop .inv .2; says = c .before .before .before .before .loop .inv .3 }
+returns-2 c = record {
+  low = c .before .before .before .before .loop .inv .1;
+  high = c .before .before .before .before .loop .inv .0;
+  edge = Edge.past (c .if2 .taken);
+  small = c .before .before .before .before .loop .inv .2;
+  says = c .before .before .before .before .loop .inv .3;
+}
 
 raise-requires : tie.Need-raise-requires Inv-loop μ-loop
 raise-requires c κs = (omega arith, omega arith)
@@ -39,14 +49,24 @@ loop-less : tie.Need-loop-less Inv-loop μ-loop
 loop-less c = omega arith
 
 loop-again : tie.Need-loop-again Inv-loop μ-loop
-loop-again c = (omega arith, omega arith, c .raise .ensures .0, rises-next (c .before .before .before .before .before .before .before .args .s .now)
-    (c .before .before .before .before .before .before .before .args .from) (c .before .before .before .before .before .loop .e) (c .raise .result)
-    (c .before .before .before .before .before .loop .i) _ refl (c .before .before .before .before .before .loop .inv .3)
-    (c .before .before .before .before .loop-test .taken) (omega arith) (omega arith) (c .raise .ensures .1))
+loop-again c = (
+  omega arith,
+  omega arith,
+  c .raise .ensures .0,
+  rises-next (c .before .before .before .before .before .before .before .args .s .now)
+      (c .before .before .before .before .before .before .before .args .from) (c .before .before .before .before .before .loop .e) (c .raise .result)
+      (c .before .before .before .before .before .loop .i) _ refl (c .before .before .before .before .before .loop .inv .3)
+      (c .before .before .before .before .loop-test .taken) (omega arith) (omega arith) (c .raise .ensures .1),
+)
 
 returns-3 : tie.Need-returns-3 Inv-loop μ-loop
-returns-3 c = record { low = c .before .loop .inv .1; high = c .before .loop .inv .0; edge = Edge.ends (omega arith); small = c .before .loop .inv .2; says =
-    c .before .loop .inv .3 }
+returns-3 c = record {
+  low = c .before .loop .inv .1;
+  high = c .before .loop .inv .0;
+  edge = Edge.ends (omega arith);
+  small = c .before .loop .inv .2;
+  says = c .before .loop .inv .3;
+}
 
 pub exp-digits-spec : {M : Type 1} → statement M
 exp-digits-spec =

@@ -24,16 +24,28 @@ shared-slice-read-b : tie.Need-shared-slice-read-b Inv-loop μ-loop
 shared-slice-read-b c = omega arith
 
 returns : tie.Need-returns Inv-loop μ-loop
-returns c = record { low = c .before .before .before .loop .inv .0; high = c .before .before .before .loop .inv .1; span =
-    c .before .before .before .loop .inv .2; stop = inl (Edge.under (c .if1 .taken)) }
+returns c = record {
+  low = c .before .before .before .loop .inv .0;
+  high = c .before .before .before .loop .inv .1;
+  span = c .before .before .before .loop .inv .2;
+  stop = inl (Edge.under (c .if1 .taken));
+}
 
 returns-2 : tie.Need-returns-2 Inv-loop μ-loop
-returns-2 c = record { low = c .before .before .before .before .loop .inv .0; high = c .before .before .before .before .loop .inv .1; span =
-    c .before .before .before .before .loop .inv .2; stop = inl (Edge.past (c .if2 .taken)) }
+returns-2 c = record {
+  low = c .before .before .before .before .loop .inv .0;
+  high = c .before .before .before .before .loop .inv .1;
+  span = c .before .before .before .before .loop .inv .2;
+  stop = inl (Edge.past (c .if2 .taken));
+}
 
 returns-3 : tie.Need-returns-3 Inv-loop μ-loop
-returns-3 c = record { low = c .before .before .before .before .before .loop .inv .0; high = c .before .before .before .before .before .loop .inv .1; span =
-    c .before .before .before .before .before .loop .inv .2; stop = inr (c .if3 .taken) }
+returns-3 c = record {
+  low = c .before .before .before .before .before .loop .inv .0;
+  high = c .before .before .before .before .before .loop .inv .1;
+  span = c .before .before .before .before .before .loop .inv .2;
+  stop = inr (c .if3 .taken);
+}
 
 mul-v : tie.Need-mul-v Inv-loop μ-loop
 mul-v c = omega arith
@@ -51,8 +63,12 @@ loop-less : tie.Need-loop-less Inv-loop μ-loop
 loop-less c = omega arith
 
 loop-again : tie.Need-loop-again Inv-loop μ-loop
-loop-again c = (omega arith, omega arith, span-more _ _ _ _ _ _ _ refl (c .before .before .before .before .before .loop .inv .2)
-    (c .before .before .before .before .loop-test .taken) (omega arith) (omega arith) (omega arith))
+loop-again c = (
+  omega arith,
+  omega arith,
+  span-more _ _ _ _ _ _ _ refl (c .before .before .before .before .before .loop .inv .2)
+      (c .before .before .before .before .loop-test .taken) (omega arith) (omega arith) (omega arith),
+)
 
 returns-4 : tie.Need-returns-4 Inv-loop μ-loop
 returns-4 c = record { low = c .before .loop .inv .0; high = c .before .loop .inv .1; span = c .before .loop .inv .2; stop = inl (Edge.ends (omega arith)) }

@@ -9,12 +9,18 @@ add-t6 : tie.Need-add-t6
 add-t6 c = search needs
 
 returns : tie.Need-returns
-returns c = (omega arith, λ m. held-zero m (c .before .before .args .a .c) (c .before .before .args .a .over) (c .before .before .args .a .z)
-    (c .before .before .args .b) (c .before .if1 .taken))
+returns c = (
+  omega arith,
+  λ m. held-zero m (c .before .before .args .a .c) (c .before .before .args .a .over) (c .before .before .args .a .z)
+      (c .before .before .args .b) (c .before .if1 .taken),
+)
 
 returns-2 : tie.Need-returns-2
-returns-2 c = (omega arith, λ m. held-big m (c .before .before .args .a .c) (c .before .before .args .a .z) (c .before .before .args .b) (omega arith)
-    (omega arith) (c .before .if1 .left) (c .before .before .args .a .over) (c .if2 .taken))
+returns-2 c = (
+  omega arith,
+  λ m. held-big m (c .before .before .args .a .c) (c .before .before .args .a .z) (c .before .before .args .b) (omega arith)
+      (omega arith) (c .before .if1 .left) (c .before .before .args .a .over) (c .if2 .taken),
+)
 
 sub-d : tie.Need-sub-d
 sub-d c = search needs
@@ -38,30 +44,41 @@ sub-if3 : tie.Need-sub-if3
 sub-if3 c = search needs
 
 returns-3 : tie.Need-returns-3
-returns-3 c = (omega arith, λ m h. held-past m (c .before .before .before .before .before .before .before .before .args .a .c)
-    (c .before .before .before .before .before .before .before .before .args .a .z) (c .before .before .before .before .before .before .before .before .args .b)
-    (c .before .before .before .before .before .before .before .before .pre .0 .low)
-    (c .before .before .before .before .before .before .before .before .pre .0 .high) (c .before .before .before .before .before .before .before .if1 .left)
-    (c .before .before .before .before .before .before .before .before .args .a .over) (c .before .before .before .before .before .before .if2 .left) h _ _
-    (c .before .before .before .before .shift .ensures) (c .before .before .v .given .1) (c .if3 .taken))
+returns-3 c = (
+  omega arith,
+  λ m h. held-past m (c .before .before .before .before .before .before .before .before .args .a .c)
+      (c .before .before .before .before .before .before .before .before .args .a .z)
+      (c .before .before .before .before .before .before .before .before .args .b)
+      (c .before .before .before .before .before .before .before .before .pre .0 .low)
+      (c .before .before .before .before .before .before .before .before .pre .0 .high) (c .before .before .before .before .before .before .before .if1 .left)
+      (c .before .before .before .before .before .before .before .before .args .a .over) (c .before .before .before .before .before .before .if2 .left) h _ _
+      (c .before .before .before .before .shift .ensures) (c .before .before .v .given .1) (c .if3 .taken),
+)
 
 add-t11 : tie.Need-add-t11
 add-t11 c = search needs
 
 returns-4 : tie.Need-returns-4
-returns-4 c = (omega arith, λ m h. held-over m (c .before .before .before .before .before .before .args .a .c)
-    (c .before .before .before .before .before .before .args .a .z) (c .before .before .before .before .before .before .args .b)
-    (c .before .before .before .before .before .before .pre .0 .low) (c .before .before .before .before .before .before .pre .0 .high)
-    (c .before .before .before .before .before .if1 .left) (c .before .before .before .before .before .before .args .a .over)
-    (c .before .before .before .before .if2 .left) h _ (c .before .before .shift .ensures) (c .enum-told .given .1))
+returns-4 c = (
+  omega arith,
+  λ m h. held-over m (c .before .before .before .before .before .before .args .a .c)
+      (c .before .before .before .before .before .before .args .a .z) (c .before .before .before .before .before .before .args .b)
+      (c .before .before .before .before .before .before .pre .0 .low) (c .before .before .before .before .before .before .pre .0 .high)
+      (c .before .before .before .before .before .if1 .left) (c .before .before .before .before .before .before .args .a .over)
+      (c .before .before .before .before .if2 .left) h _ (c .before .before .shift .ensures) (c .enum-told .given .1),
+)
 
 returns-5 : tie.Need-returns-5
-returns-5 c = (omega arith, λ m h. held-fits m (c .before .before .before .before .before .before .before .before .args .a .c)
-    (c .before .before .before .before .before .before .before .before .args .a .z) (c .before .before .before .before .before .before .before .before .args .b)
-    (c .before .before .before .before .before .before .before .before .pre .0 .low)
-    (c .before .before .before .before .before .before .before .before .pre .0 .high) (c .before .before .before .before .before .before .before .if1 .left)
-    (c .before .before .before .before .before .before .before .before .args .a .over) (c .before .before .before .before .before .before .if2 .left) h _ _
-    (c .before .before .before .before .shift .ensures) (c .before .before .v .given .1))
+returns-5 c = (
+  omega arith,
+  λ m h. held-fits m (c .before .before .before .before .before .before .before .before .args .a .c)
+      (c .before .before .before .before .before .before .before .before .args .a .z)
+      (c .before .before .before .before .before .before .before .before .args .b)
+      (c .before .before .before .before .before .before .before .before .pre .0 .low)
+      (c .before .before .before .before .before .before .before .before .pre .0 .high) (c .before .before .before .before .before .before .before .if1 .left)
+      (c .before .before .before .before .before .before .before .before .args .a .over) (c .before .before .before .before .before .before .if2 .left) h _ _
+      (c .before .before .before .before .shift .ensures) (c .before .before .v .given .1),
+)
 
 pub push-spec : {M : Type 1} → statement M
 push-spec =

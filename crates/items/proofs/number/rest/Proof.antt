@@ -43,9 +43,13 @@ held-requires-2 : tie.Need-held-requires-2
 held-requires-2 c κs = search needs
 
 decimal-requires : tie.Need-decimal-requires
-decimal-requires c κs = record { within = (c .before .before .before .before .before .before .pre) .0 .within; short =
-    (c .before .before .before .before .before .before .pre) .0 .short; zeros = c .held2 .ensures .0
-    (c .before .before .before .before .before .before .args .at) ((c .before .before .before .before .before .before .pre) .1); places = omega arith }
+decimal-requires c κs = record {
+  within = (c .before .before .before .before .before .before .pre) .0 .within;
+  short = (c .before .before .before .before .before .before .pre) .0 .short;
+  zeros =
+      c .held2 .ensures .0 (c .before .before .before .before .before .before .args .at) ((c .before .before .before .before .before .before .pre) .1);
+  places = omega arith;
+}
 
 returns-2 : tie.Need-returns-2
 returns-2 c = c .decimal .ensures .reads (c .before .before .before .before .before .before .before .args .v) (c .before .held2 .ensures .1)
@@ -75,9 +79,11 @@ settle-requires-2 c κs = let p = c .before .before .before .plain-digits .ensur
     c .held3 .ensures .0 (c .before .before .before .before .before .before .before .before .before .args .at +
     (c .before .before .before .plain-digits .result .at - (c .before .before .before .before .before .before .before .before .before .args .at + 1)))
     (span-small (c .before .before .before .before .before .before .before .before .before .args .at) (p .span)
-    ((c .before .before .before .before .before .before .before .before .before .pre) .1)) in
-    (omega (arith, z, p .low, p .high, (c .before .before .before .before .before .before .before .before .before .pre) .0 .short), omega arith,
-    omega (arith, p .high, (c .before .before .before .before .before .before .before .before .before .pre) .0 .short))
+    ((c .before .before .before .before .before .before .before .before .before .pre) .1)) in (
+      omega (arith, z, p .low, p .high, (c .before .before .before .before .before .before .before .before .before .pre) .0 .short),
+      omega arith,
+      omega (arith, p .high, (c .before .before .before .before .before .before .before .before .before .pre) .0 .short),
+    )
 
 returns-3 : tie.Need-returns-3
 returns-3 c = let h : c .before .before .before .before .before .before .before .before .before .before .args .at < length
@@ -99,10 +105,13 @@ held-requires-4 : tie.Need-held-requires-4
 held-requires-4 c κs = search needs
 
 decimal-requires-2 : tie.Need-decimal-requires-2
-decimal-requires-2 c κs = record { within = (c .before .before .before .before .before .before .before .before .before .pre) .0 .within; short =
-    (c .before .before .before .before .before .before .before .before .before .pre) .0 .short; zeros =
-    c .held4 .ensures .0 (c .before .before .before .before .before .before .before .before .before .args .at)
-    ((c .before .before .before .before .before .before .before .before .before .pre) .1); places = omega arith }
+decimal-requires-2 c κs = record {
+  within = (c .before .before .before .before .before .before .before .before .before .pre) .0 .within;
+  short = (c .before .before .before .before .before .before .before .before .before .pre) .0 .short;
+  zeros = c .held4 .ensures .0 (c .before .before .before .before .before .before .before .before .before .args .at)
+      ((c .before .before .before .before .before .before .before .before .before .pre) .1);
+  places = omega arith;
+}
 
 returns-4 : tie.Need-returns-4
 returns-4 c = c .decimal2 .ensures .reads (c .before .before .before .before .before .before .before .before .before .before .args .v)

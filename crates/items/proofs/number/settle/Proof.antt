@@ -52,8 +52,8 @@ returns-6 : tie.Need-returns-6
 returns-6 c = settles-dn _ _ _ _ _ _ (c .before .before .before .before .before .before .before .if1 .left)
     (c .before .before .before .before .before .if2 .left) (omega arith) _ _ (c .finite3 .ensures) (omega arith) (omega arith)
     (back w32 _ true (c .before .before .before .before .before .before .before .before .args .dn -
-    (c .before .before .before .before .before .before .before .before .args .a .z + c .before .before .before .before .before .before .before .before .args
-    .up)) (omega arith) (c .before .with-sign2 .ensures))
+    (c .before .before .before .before .before .before .before .before .args .a .z +
+    c .before .before .before .before .before .before .before .before .args .up)) (omega arith) (c .before .with-sign2 .ensures))
 
 pub settle-spec : {M : Type 1} → statement M
 settle-spec =

@@ -24,12 +24,18 @@ loop-less : tie.Need-loop-less Inv-loop μ-loop
 loop-less c = omega arith
 
 loop-again : tie.Need-loop-again Inv-loop μ-loop
-loop-again c = (omega arith, fewer (c .before .before .args .v) (c .before .loop .c) (c .before .loop .z) (c .before .loop .inv .0) (c .loop-test .taken)
-    (c .before .loop .inv .1), omega arith)
+loop-again c = (
+  omega arith,
+  fewer (c .before .before .args .v) (c .before .loop .c) (c .before .loop .z) (c .before .loop .inv .0) (c .loop-test .taken)
+      (c .before .loop .inv .1),
+  omega arith,
+)
 
 returns : tie.Need-returns Inv-loop μ-loop
-returns c = (few-zeros (c .before .before .args .v) (c .before .loop .c) (c .before .loop .z) (omega arith) (c .before .loop .inv .0) (c .before .loop .inv .1),
-    (c .before .loop .inv .1, inr (c .loop-test .left)))
+returns c = (
+  few-zeros (c .before .before .args .v) (c .before .loop .c) (c .before .loop .z) (omega arith) (c .before .loop .inv .0) (c .before .loop .inv .1),
+  (c .before .loop .inv .1, inr (c .loop-test .left)),
+)
 
 pub stripped-spec : {M : Type 1} → statement M
 stripped-spec = tie.close (tie.spec Inv-loop μ-loop loop-holds add-z loop-less loop-again returns)

@@ -18,22 +18,28 @@ enum-known-at : tie.Need-enum-known-at
 enum-known-at c = search needs
 
 hexadecimal-requires : tie.Need-hexadecimal-requires
-hexadecimal-requires c κs = record { within = lead-is _ _ _ _ (c .before .before .before .leading .ensures) (c .before .at .given .1) .0; short =
-    c .before .before .before .before .before .pre .short }
+hexadecimal-requires c κs = record {
+  within = lead-is _ _ _ _ (c .before .before .before .leading .ensures) (c .before .at .given .1) .0;
+  short = c .before .before .before .before .before .pre .short;
+}
 
 enum-known-v : tie.Need-enum-known-v
 enum-known-v c = search needs
 
 after-hour-requires : tie.Need-after-hour-requires
-after-hour-requires c κs = record { within = lead-is _ _ _ _ (c .before .before .before .leading .ensures) (c .before .v .given .1) .0; short =
-    c .before .before .before .before .before .pre .short }
+after-hour-requires c κs = record {
+  within = lead-is _ _ _ _ (c .before .before .before .leading .ensures) (c .before .v .given .1) .0;
+  short = c .before .before .before .before .before .pre .short;
+}
 
 enum-known-v-2 : tie.Need-enum-known-v-2
 enum-known-v-2 c = search needs
 
 after-year-requires : tie.Need-after-year-requires
-after-year-requires c κs = record { within = lead-is _ _ _ _ (c .before .before .before .leading .ensures) (c .before .v2 .given .1) .0; short =
-    c .before .before .before .before .before .pre .short }
+after-year-requires c κs = record {
+  within = lead-is _ _ _ _ (c .before .before .before .leading .ensures) (c .before .v2 .given .1) .0;
+  short = c .before .before .before .before .before .pre .short;
+}
 
 enum-known-p : tie.Need-enum-known-p
 enum-known-p c = search needs

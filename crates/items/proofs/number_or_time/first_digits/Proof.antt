@@ -49,8 +49,14 @@ returns-3 : tie.Need-returns-3 Inv-loop μ-loop
 returns-3 c = among-says _ _ _ _ _ _ (c .before .before .before .before .before .loop .inv) (inr (Edge.past (c .if3 .taken)))
 
 push-requires-2 : tie.Need-push-requires-2 Inv-loop μ-loop
-push-requires-2 c κs = (omega arith, omega (arith, c .before .before .before .before .before .loop .inv .zeros,
-    c .before .before .before .before .before .loop .inv .most))
+push-requires-2 c κs = (
+  omega arith,
+  omega (
+    arith,
+    c .before .before .before .before .before .loop .inv .zeros,
+    c .before .before .before .before .before .loop .inv .most,
+  ),
+)
 
 mul-v : tie.Need-mul-v Inv-loop μ-loop
 mul-v c = omega (arith, among-room (c .before .before .before .before .before .before .loop .inv) (omega arith))

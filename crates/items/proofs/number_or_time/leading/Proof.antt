@@ -29,11 +29,14 @@ enum-told : tie.Need-enum-told
 enum-told c = search needs
 
 cast-t16 : tie.Need-cast-t16
-cast-t16 c = omega (arith, colon-small (c .before .before .before .before .before .before .before .before .before .args .s .now)
-    (c .before .before .before .before .before .before .before .before .before .args .q)
-    (c .before .before .before .before .before .before .before .first-digits .result)
-    (c .before .before .before .before .before .before .before .first-digits .ensures) (omega arith) _ (c .before .before .mark-of .ensures)
-    (c .enum-told .given .1))
+cast-t16 c = omega (
+  arith,
+  colon-small (c .before .before .before .before .before .before .before .before .before .args .s .now)
+      (c .before .before .before .before .before .before .before .before .before .args .q)
+      (c .before .before .before .before .before .before .before .first-digits .result)
+      (c .before .before .before .before .before .before .before .first-digits .ensures) (omega arith) _ (c .before .before .mark-of .ensures)
+      (c .enum-told .given .1),
+)
 
 add-t17 : tie.Need-add-t17
 add-t17 c = search needs

@@ -35,13 +35,18 @@ returns-2 : tie.Need-returns-2
 returns-2 c = search needs
 
 rest-requires : tie.Need-rest-requires
-rest-requires c κs = (record { within = c .before .before .plain-digits .ensures .high; short =
-    (c .before .before .before .before .before .before .pre) .short }, plain-small (c .before .before .before .before .before .before .args .s .now)
-    (c .before .before .before .before .before .before .args .q) (c .before .before .before .if1 .left) (c .before .before .plain-digits .result)
-    (c .before .before .plain-digits .ensures) ((c .before .before .before .before .before .before .pre) .digit)
-    ((c .before .before .before .before .before .before .pre) .within) (subst (λ (b : Bool).
-    TimelySays (c .before .before .before .before .before .before .args .s .now) (c .before .before .plain-digits .result .at) b) (c .if2 .left)
-    (c .before .timely .ensures)))
+rest-requires c κs = (
+  record {
+    within = c .before .before .plain-digits .ensures .high;
+    short = (c .before .before .before .before .before .before .pre) .short;
+  },
+  plain-small (c .before .before .before .before .before .before .args .s .now)
+      (c .before .before .before .before .before .before .args .q) (c .before .before .before .if1 .left) (c .before .before .plain-digits .result)
+      (c .before .before .plain-digits .ensures) ((c .before .before .before .before .before .before .pre) .digit)
+      ((c .before .before .before .before .before .before .pre) .within) (subst (λ (b : Bool).
+      TimelySays (c .before .before .before .before .before .before .args .s .now) (c .before .before .plain-digits .result .at) b) (c .if2 .left)
+      (c .before .timely .ensures)),
+)
 
 returns-3 : tie.Need-returns-3
 returns-3 c = plain-leads (c .before .before .before .before .before .before .before .args .s .now)

@@ -22,8 +22,14 @@ limit-requires : tie.Need-limit-requires Inv-loop μ-loop
 limit-requires c κs = c .before .before .pre .0
 
 loop-holds : tie.Need-loop-holds Inv-loop μ-loop
-loop-holds c = let l = c .limit .ensures in (((let z : (c .before .before .before .args .from) - (c .before .before .before .args .from) ≡ 0 = omega arith in
-    rw z), omega arith), ((omega arith, l .low), refl))
+loop-holds c = let l = c .limit .ensures in (
+  (
+    (let z : (c .before .before .before .args .from) - (c .before .before .before .args .from) ≡ 0 = omega arith in
+        rw z),
+    omega arith,
+  ),
+  ((omega arith, l .low), refl),
+)
 
 shared-slice-read-store : tie.Need-shared-slice-read-store Inv-loop μ-loop
 shared-slice-read-store c = let l = c .before .before .before .limit .ensures in omega (arith, c .before .before .before .before .before .before .pre, l .high)
@@ -41,11 +47,17 @@ loop-less : tie.Need-loop-less Inv-loop μ-loop
 loop-less c = omega arith
 
 loop-again : tie.Need-loop-again Inv-loop μ-loop
-loop-again c = let l = c .before .before .before .limit .ensures in ((seg-more (c .before .before .before .before .before .before .args .s .now)
-    (c .before .before .before .before .before .before .args .store .now) (c .before .before .before .before .before .before .args .from)
-    (c .before .before .loop .i) (c .before .before .before .before .before .before .args .at) (c .before .before .loop .o) (omega arith)
-    (omega (arith, c .before .before .before .before .before .before .pre, l .high)) (omega arith) (c .before .before .loop .store)
-    (c .before .before .loop .inv .0 .0), omega arith), ((omega arith, omega arith), simp length-set (c .before .before .loop .inv .1 .1)))
+loop-again c = let l = c .before .before .before .limit .ensures in (
+  (
+    seg-more (c .before .before .before .before .before .before .args .s .now)
+        (c .before .before .before .before .before .before .args .store .now) (c .before .before .before .before .before .before .args .from)
+        (c .before .before .loop .i) (c .before .before .before .before .before .before .args .at) (c .before .before .loop .o) (omega arith)
+        (omega (arith, c .before .before .before .before .before .before .pre, l .high)) (omega arith) (c .before .before .loop .store)
+        (c .before .before .loop .inv .0 .0),
+    omega arith,
+  ),
+  ((omega arith, omega arith), simp length-set (c .before .before .loop .inv .1 .1)),
+)
 
 same-length : tie.Need-same-length Inv-loop μ-loop
 same-length c = c .before .loop .inv .1 .1

@@ -3,8 +3,8 @@ use Prim.Native.Nat.{_-_}
 use native.Mathlib.Omega.{arith}
 use borrow.Author.Needs.{needs}
 use lib.ListN.{length}
-use Rattle.items.proofs.StringPartEscapeLaws.{Braced, brace-none, brace-start, brace-end, brace-break, brace-more, brace-low, brace-high, brace-half,
-    brace-past}
+use Rattle.items.proofs.StringPartEscapeLaws.{Braced, brace-none, brace-start, brace-end, brace-break, brace-more, brace-low, brace-high, brace-half}
+use Rattle.items.proofs.StringPartEscapeLaws.{brace-past}
 use Rattle.items.proofs.string_part.braces.Statement.{statement}
 use Rattle.items.proofs.string_part.braces.Tie as tie
 use Rattle.items.proofs.string_part.braces.Reads as reads

@@ -4,8 +4,8 @@ use Prim.Native.Nat.{_-_}
 use native.Mathlib.Omega.{arith}
 use borrow.Author.Needs.{needs}
 use lib.ListN.{length}
-use Rattle.items.proofs.StringPartQuotedLaws.{Round, round-start, round-plain, round-end, round-stop, round-lone, round-char, round-wrong, round-bad,
-    round-close}
+use Rattle.items.proofs.StringPartQuotedLaws.{Round, round-start, round-plain, round-end, round-stop, round-lone, round-char, round-wrong, round-bad}
+use Rattle.items.proofs.StringPartQuotedLaws.{round-close}
 use Rattle.items.proofs.string_part.inner.Statement.{statement}
 use Rattle.items.proofs.string_part.inner.Tie as tie
 
@@ -105,12 +105,14 @@ loop-less c = let u = (rw (c .before .before .next .given .1) at (c .before .bef
     omega (arith, u .past, u .within, p .behind)
 
 loop-again : tie.Need-loop-again Inv-loop μ-loop
-loop-again c = (round-lone (round-plain (c .before .before .before .before .before .before .before .before .before .before .before .before .before .loop .inv
-    .0) (c .before .before .before .before .before .before .before .before .before .before .before .before .plain-end .ensures)
-    (c .before .before .before .before .before .before .before .before .before .before .copy .ensures))
-    (rw (c .before .before .next .given .1) at (c .before .before .before .before .character .ensures)) (c .earlier .ensures),
-    c .before .before .before .before .before .before .before .before .before .before .copy .kept .1 .1 .1 .0
-    ∙ c .before .before .before .before .before .before .before .before .before .before .before .before .before .loop .inv .1)
+loop-again c = (
+  round-lone (round-plain (c .before .before .before .before .before .before .before .before .before .before .before .before .before .loop .inv
+      .0) (c .before .before .before .before .before .before .before .before .before .before .before .before .plain-end .ensures)
+      (c .before .before .before .before .before .before .before .before .before .before .copy .ensures))
+      (rw (c .before .before .next .given .1) at (c .before .before .before .before .character .ensures)) (c .earlier .ensures),
+  c .before .before .before .before .before .before .before .before .before .before .copy .kept .1 .1 .1 .0
+      ∙ c .before .before .before .before .before .before .before .before .before .before .before .before .before .loop .inv .1,
+)
 
 enum-known-c : tie.Need-enum-known-c Inv-loop μ-loop
 enum-known-c c = search needs
@@ -118,9 +120,18 @@ enum-known-c c = search needs
 encode-requires : tie.Need-encode-requires Inv-loop μ-loop
 encode-requires c κs = let u = (rw (c .before .before .c .given .1) at (c .before .before .before .before .character .ensures)) in let p =
     c .before .before .before .before .before .before .before .before .before .before .before .before .plain-end .ensures in let t =
-    c .before .before .before .before .before .before .before .before .before .before .before .before .before .loop .inv .0 in
-    (u .small, omega (arith, p .behind, u .within, u .room, t .room, c .before .before .before .before .before .before .before .before .before .before .before
-    .before .before .before .before .before .pre .0))
+    c .before .before .before .before .before .before .before .before .before .before .before .before .before .loop .inv .0 in (
+      u .small,
+      omega (
+        arith,
+        p .behind,
+        u .within,
+        u .room,
+        t .room,
+        c .before .before .before .before .before .before .before .before .before .before .before
+            .before .before .before .before .before .pre .0,
+      ),
+    )
 
 loop-less-2 : tie.Need-loop-less-2 Inv-loop μ-loop
 loop-less-2 c = let u = (rw (c .before .before .before .before .before .c .given .1) at
@@ -129,13 +140,17 @@ loop-less-2 c = let u = (rw (c .before .before .before .before .before .c .given
     omega (arith, u .past, u .within, p .behind)
 
 loop-again-2 : tie.Need-loop-again-2 Inv-loop μ-loop
-loop-again-2 c = (round-char (round-plain (c .before .before .before .before .before .before .before .before .before .before .before .before .before .before
-    .before .before .loop .inv .0) (c .before .before .before .before .before .before .before .before .before .before .before .before .before .before .before
-    .plain-end .ensures) (c .before .before .before .before .before .before .before .before .before .before .before .before .before .copy .ensures))
-    (rw (c .before .before .before .before .before .c .given .1) at (c .before .before .before .before .before .before .before .character .ensures))
-    (c .before .before .encode .ensures .0) (c .before .before .encode .ensures .1), c .before .before .encode .kept .1 .0
-    ∙ c .before .before .before .before .before .before .before .before .before .before .before .before .before .copy .kept .1 .1 .1 .0
-    ∙ c .before .before .before .before .before .before .before .before .before .before .before .before .before .before .before .before .loop .inv .1)
+loop-again-2 c = (
+  round-char (round-plain (c .before .before .before .before .before .before .before .before .before .before .before .before .before .before
+      .before .before .loop .inv .0) (c .before .before .before .before .before .before .before .before .before .before .before .before .before .before .before
+      .plain-end .ensures) (c .before .before .before .before .before .before .before .before .before .before .before .before .before .copy .ensures))
+      (rw (c .before .before .before .before .before .c .given .1) at (c .before .before .before .before .before .before .before .character .ensures))
+      (c .before .before .encode .ensures .0) (c .before .before .encode .ensures .1),
+  c .before .before .encode .kept .1 .0 ∙ c .before .before .before .before .before .before .before .before .before .before .before .before .before .copy
+      .kept .1 .1 .1 .0 ∙ c .before .before .before .before .before .before .before .before .before .before .before .before .before .before .before .before
+      .loop
+      .inv .1,
+)
 
 pub inner-spec : {M : Type 1} → statement M
 inner-spec =

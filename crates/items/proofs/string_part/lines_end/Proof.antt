@@ -24,9 +24,12 @@ shared-slice-read-b : tie.Need-shared-slice-read-b Inv-loop μ-loop
 shared-slice-read-b c = omega arith
 
 sub-t12 : tie.Need-sub-t12 Inv-loop μ-loop
-sub-t12 c = omega (arith, lining-far (c .before .before .before .before .before .before .args .s .now)
-    (c .before .before .before .before .before .before .args .q) (c .before .before .before .before .before .before .args .from)
-    (c .before .before .before .before .loop .i) (c .before .before .before .before .loop .n) (c .before .before .before .before .loop .inv))
+sub-t12 c = omega (
+  arith,
+  lining-far (c .before .before .before .before .before .before .args .s .now)
+      (c .before .before .before .before .before .before .args .q) (c .before .before .before .before .before .before .args .from)
+      (c .before .before .before .before .loop .i) (c .before .before .before .before .loop .n) (c .before .before .before .before .loop .inv),
+)
 
 returns : tie.Need-returns Inv-loop μ-loop
 returns c = lining-close (c .before .before .before .before .before .before .args .s .now) (c .before .before .before .before .before .before .args .q)

@@ -47,12 +47,26 @@ loop-less : tie.Need-loop-less Inv-loop μ-loop
 loop-less c = omega arith
 
 loop-again : tie.Need-loop-again Inv-loop μ-loop
-loop-again c = (omega arith, least-more (c .before .before .before .before .before .before .before .loop .inv .1)
-    (c .before .before .before .before .lesser .ensures .0) (c .before .before .lesser2 .ensures .0) (c .lesser3 .ensures .0)
-    (record { byte = omega (arith, c .before .before .before .before .before .shared-slice-known2 .given
-    (c .before .before .before .before .before .before .before .before .before .args .at + c .before .before .before .before .before .before .before .loop .k));
-    low = c .before .before .before .before .lesser .ensures .1; far = omega (arith, c .before .before .lesser2 .ensures .1,
-    c .before .before .before .apart .ensures); other = omega (arith, c .lesser3 .ensures .1, c .before .apart2 .ensures) }))
+loop-again c = (
+  omega arith,
+  least-more (c .before .before .before .before .before .before .before .loop .inv .1)
+      (c .before .before .before .before .lesser .ensures .0) (c .before .before .lesser2 .ensures .0) (c .lesser3 .ensures .0)
+      (record {
+        byte = omega (
+          arith,
+          c .before .before .before .before .before .shared-slice-known2 .given
+              (c .before .before .before .before .before .before .before .before .before .args .at +
+              c .before .before .before .before .before .before .before .loop .k),
+        );
+        low = c .before .before .before .before .lesser .ensures .1;
+        far = omega (
+          arith,
+          c .before .before .lesser2 .ensures .1,
+          c .before .before .before .apart .ensures,
+        );
+        other = omega (arith, c .lesser3 .ensures .1, c .before .apart2 .ensures);
+      }),
+)
 
 returns : tie.Need-returns Inv-loop μ-loop
 returns c = tt

@@ -46,8 +46,11 @@ loop-again : tie.Need-loop-again Inv-loop μ-loop
 loop-again c = pass-more (c .before .before .before .before .before .before .args .s .now) (c .before .before .before .before .before .before .args .q)
     (c .before .before .before .before .before .before .args .from) (c .before .before .before .before .before .loop .at)
     (c .before .before .before .before .before .loop .inv) (c .before .before .before .before .loop-test .taken) (c .before .before .if1 .left)
-    (c .before .if2 .left) (c .if3 .left) (omega (arith, c .before .before .before .shared-slice-known .given
-    (c .before .before .before .before .before .loop .at)))
+    (c .before .if2 .left) (c .if3 .left) (omega (
+      arith,
+      c .before .before .before .shared-slice-known .given
+          (c .before .before .before .before .before .loop .at),
+    ))
 
 returns-4 : tie.Need-returns-4 Inv-loop μ-loop
 returns-4 c = pass-end (c .before .before .args .s .now) (c .before .before .args .q) (c .before .before .args .from) (c .before .loop .at)

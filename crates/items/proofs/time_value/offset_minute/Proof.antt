@@ -37,8 +37,8 @@ returns-4 : tie.Need-returns-4
 returns-4 c = offset-ends _ _ _ _ _ _ _ _ (c .before .before .before .before .before .before .before .two .ensures) _ _
     (c .before .before .before .before .before .minute .given .1) (omega arith) (omega arith) _
     (back w16 _ (c .before .before .before .before .before .before .before .before .before .args .minus)
-    (c .before .before .before .before .before .before .before .before .before .args .hour * 60 + c .before .before .before .before .before .minute .given .0
-    .0) (omega arith) (c .before .minutes .ensures)) _ (c .offset-date-time .ensures)
+    (c .before .before .before .before .before .before .before .before .before .args .hour * 60 +
+    c .before .before .before .before .before .minute .given .0 .0) (omega arith) (c .before .minutes .ensures)) _ (c .offset-date-time .ensures)
 
 pub offset-minute-spec : {M : Type 1} → statement M
 offset-minute-spec =

@@ -17,8 +17,12 @@ loop-holds : tie.Need-loop-holds Inv-loop μ-loop
 loop-holds c = (omega arith, sym (mul-one _))
 
 mul-n : tie.Need-mul-n Inv-loop μ-loop
-mul-n c = omega (arith, tenfold (c .before .before .args .v) (c .before .loop .i),
-    grows (c .before .before .args .v) (c .before .loop .i + 1) (c .before .before .args .k) (omega arith), c .before .before .pre)
+mul-n c = omega (
+  arith,
+  tenfold (c .before .before .args .v) (c .before .loop .i),
+  grows (c .before .before .args .v) (c .before .loop .i + 1) (c .before .before .args .k) (omega arith),
+  c .before .before .pre,
+)
 
 add-i : tie.Need-add-i Inv-loop μ-loop
 add-i c = omega arith

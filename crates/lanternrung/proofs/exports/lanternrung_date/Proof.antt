@@ -2,7 +2,7 @@
 use mathlib.Core.Path.{refl, subst}
 use Rattle.rules.specs.declared.DateAnswer.the-variants.{Done, NoDate}
 use Rattle.rules.specs.Rfc3339.{Dated}
-use Rattle.lanternrung.specs.Told.{dateStatus}
+use Rattle.lanternrung.specs.Told.{statusOf}
 use borrow.Author.Needs.{needs}
 use Rattle.lanternrung.proofs.exports.lanternrung_date.Statement.{statement}
 use Rattle.lanternrung.proofs.exports.lanternrung_date.Tie as tie
@@ -20,11 +20,11 @@ enum-told-2 : tie.Need-enum-told-2
 enum-told-2 c = search needs
 
 returns : tie.Need-returns
-unfolding dateStatus
+unfolding statusOf
 returns c = record { answer = Done; allowed = subst (Dated _ _ _) (c .enum-told .given .1) (c .before .before .date .ensures); told = refl }
 
 returns-2 : tie.Need-returns-2
-unfolding dateStatus
+unfolding statusOf
 returns-2 c = record { answer = NoDate; allowed = subst (Dated _ _ _) (c .enum-told2 .given .1) (c .before .before .date .ensures); told = refl }
 
 pub lanternrung-date-spec : {M : Type 1} → statement M

@@ -29,11 +29,19 @@ fields-of-requires c κs = search needs
 
 returns : tie.Need-returns
 unfolding lookedFields
-returns c = record { answer = Looked.Refused (c .before .before .why .given .0 .0); allowed = subst (Looks _ _ _) (c .before .before .why .given .1) (c .before .before .before .before .look .ensures); told = c .refusal .ensures }
+returns c = record {
+  answer = Looked.Refused (c .before .before .why .given .0 .0);
+  allowed = subst (Looks _ _ _) (c .before .before .why .given .1) (c .before .before .before .before .look .ensures);
+  told = c .refusal .ensures;
+}
 
 returns-2 : tie.Need-returns-2
 unfolding lookedFields
-returns-2 c = record { answer = Looked.Record (c .before .before .r .given .0 .0); allowed = subst (Looks _ _ _) (c .before .before .r .given .1) (c .before .before .before .before .look .ensures); told = c .fields-of .ensures }
+returns-2 c = record {
+  answer = Looked.Record (c .before .before .r .given .0 .0);
+  allowed = subst (Looks _ _ _) (c .before .before .r .given .1) (c .before .before .before .before .look .ensures);
+  told = c .fields-of .ensures;
+}
 
 pub lanternrung-look-spec : {M : Type 1} → statement M
 lanternrung-look-spec =

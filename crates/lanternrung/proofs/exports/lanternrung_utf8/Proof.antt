@@ -2,7 +2,7 @@
 use mathlib.Core.Path.{refl, subst}
 use Rattle.rules.specs.declared.Utf8Answer.the-variants.{Done, IllFormed}
 use Rattle.rules.specs.Rfc3629.{Judged}
-use Rattle.lanternrung.specs.Told.{utf8Status}
+use Rattle.lanternrung.specs.Told.{statusOf}
 use borrow.Author.Needs.{needs}
 use Rattle.lanternrung.proofs.exports.lanternrung_utf8.Statement.{statement}
 use Rattle.lanternrung.proofs.exports.lanternrung_utf8.Tie as tie
@@ -20,12 +20,17 @@ enum-known-at : tie.Need-enum-known-at
 enum-known-at c = search needs
 
 returns : tie.Need-returns
-unfolding utf8Status
+unfolding statusOf
 returns c = record { answer = Done; allowed = subst (Judged _) (c .enum-told .given .1) (c .before .before .utf8 .ensures); told = refl }
 
 returns-2 : tie.Need-returns-2
-unfolding utf8Status
-returns-2 c = record { answer = IllFormed (c .before .at .given .0 .0); allowed = subst (Judged _) (c .before .at .given .1) (c .before .before .before .utf8 .ensures); told = refl }
+unfolding statusOf
+returns-2 c = record {
+  answer = IllFormed (c .before .at .given .0 .0);
+  allowed =
+      subst (Judged _) (c .before .at .given .1) (c .before .before .before .utf8 .ensures);
+  told = refl;
+}
 
 pub lanternrung-utf8-spec : {M : Type 1} → statement M
 lanternrung-utf8-spec =

@@ -5,7 +5,7 @@ use native.Mathlib.Omega.{arith}
 use mir.Syntax.{w32}
 use mir.ValLaws.{toZ-ofZ}
 use Rattle.lanternrung.specs.Told.{plainFields, numberFields}
-use Rattle.lanternrung.proofs.ToldLaws.{flag-small}
+use Rattle.meaning.proofs.Records.{flag-small}
 use borrow.Author.Needs.{needs}
 use Rattle.lanternrung.proofs.exports.number_fields.Statement.{statement}
 use Rattle.lanternrung.proofs.exports.number_fields.Tie as tie
@@ -44,11 +44,16 @@ returns c = c .plain .ensures ∙ sym (ap numberFields (c .before .enum-told .gi
 
 returns-2 : tie.Need-returns-2
 unfolding numberFields
-returns-2 c = c .plain2 .ensures ∙ ap (λ (x : ℕ). plainFields 4 (1 + x) 0 0 0) (c .before .flag .ensures) ∙ sym (ap numberFields (c .before .before .before .n .given .1))
+returns-2 c = c .plain2 .ensures ∙ ap (λ (x : ℕ). plainFields 4 (1 + x) 0 0 0) (c .before .flag .ensures)
+    ∙ sym (ap numberFields (c .before .before .before .n .given .1))
 
 returns-3 : tie.Need-returns-3
 unfolding numberFields
-returns-3 c = rw (c .flag2 .ensures, toZ-ofZ w32 (c .before .before .n2 .given .0 .1 .1 .0) (record { sfits = c .before .known-told2 .given .1 .1 .0 .1 }), c .before .before .n2 .given .1)
+returns-3 c = rw (
+  c .flag2 .ensures,
+  toZ-ofZ w32 (c .before .before .n2 .given .0 .1 .1 .0) (record { sfits = c .before .known-told2 .given .1 .1 .0 .1 }),
+  c .before .before .n2 .given .1,
+)
 
 pub number-fields-spec : {M : Type 1} → statement M
 number-fields-spec =

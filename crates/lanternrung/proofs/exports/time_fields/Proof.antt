@@ -57,7 +57,8 @@ returns-4 : tie.Need-returns-4
 unfolding timeFields
 returns-4 c =
     let z = c .before .before .t4 .given .0 .1 .1 .0 in
-    c .dated4 .ensures ∙ ap (datedFields 11 (c .before .before .t4 .given .0 .0) (c .before .before .t4 .given .0 .1 .0)) (passed z (c .before .known-told4 .given .1 .1 .0 .1)) ∙ sym (ap timeFields (c .before .before .t4 .given .1))
+    c .dated4 .ensures ∙ ap (datedFields 11 (c .before .before .t4 .given .0 .0) (c .before .before .t4 .given .0 .1 .0))
+    (passed z (c .before .known-told4 .given .1 .1 .0 .1)) ∙ sym (ap timeFields (c .before .before .t4 .given .1))
 
 pub time-fields-spec : {M : Type 1} → statement M
 time-fields-spec =

@@ -19,8 +19,11 @@ cast-n : tie.Need-cast-n
 cast-n c = fits-le (leading-le 8 _) (fits-lit tt)
 
 returns : tie.Need-returns
-returns c = ascii-char _ _ (omega arith) (omega (arith, down⁻ step1 _ (c .before .shared-slice-known2 .given (c .before .before .before .args .at) .fits)
-    (omega arith)))
+returns c = ascii-char _ _ (omega arith) (omega (
+  arith,
+  down⁻ step1 _ (c .before .shared-slice-known2 .given (c .before .before .before .args .at) .fits)
+      (omega arith),
+))
 
 returns-2 : tie.Need-returns-2
 returns-2 c = no-char _ _ (λ z. omega arith) (λ n w. omega arith)

@@ -1,4 +1,5 @@
--- The cases marked P, one list; the slips to rule out (docs/FORMAT.md, 14); and what it is for a case to hold. Assumes nothing.
+-- The cases marked P, one list; the slips to rule out (docs/FORMAT.md, 14); and what it is for a case to hold. Assumes
+-- nothing.
 use mathlib.Core.Path.{_≡_}
 use mathlib.Core.Bool.{true, false}
 use mathlib.Core.List.{List, [], _∷_, _++_}
@@ -38,12 +39,20 @@ samples =
     ∷ (letters "[1,]", taken (array (more none (number (Finite false 1 (pos 0))))) (letters "[1]"))
     ∷ (letters "007", refused 3 3)
     ∷ (letters "1:", refused 3 1)
-    ∷ (letters "18446744073709551615", taken (number (Finite false 18446744073709551615 (pos 0))) (letters "18446744073709551615"))
+    ∷ (
+      letters "18446744073709551615",
+      taken (number (Finite false 18446744073709551615 (pos 0)))
+          (letters "18446744073709551615"),
+    )
     -- the digit 1 and 22 zeros
     ∷ (letters "10000000000000000000000", taken (number (Finite false 1 (pos 22))) (letters "1e22"))
     -- minus zero
     ∷ (letters "-0x0", taken (number (Finite true 0 (pos 0))) (letters "-0"))
-    ∷ (letters "2000-02-29", taken (time (LocalDate (record { year = 2000; month = 2; day = 29 }))) (letters "2000-02-29"))
+    ∷ (
+      letters "2000-02-29",
+      taken (time (LocalDate (record { year = 2000; month = 2; day = 29 })))
+          (letters "2000-02-29"),
+    )
     ∷ (letters "2000-02-30", refused 5 0)
     ∷ (letters "\"\\ud834\\udd1e\"", taken (string clef) (letters "\"" ++ clef ++ letters "\""))
     ∷ (letters "\"\\ud834\"+\"\\udd1e\"", refused 4 1)
@@ -72,8 +81,8 @@ slips =
 
 -- ---- what it is for a case to hold
 
--- The grammar gives the text this meaning and no other, and this is the meaning's canonical text. `measure` answers the meaning's sizes,
--- and so does `read` where there is room.
+-- The grammar gives the text this meaning and no other, and this is the meaning's canonical text. `measure` answers the
+-- meaning's sizes, and so does `read` where there is room.
 pub record IsTaken (text : List ℕ) (m : Meaning) (printed : List ℕ) : Type 0 where
   pub means : Text true text m
   pub only : (n : Meaning) → Text true text n → n ≡ m

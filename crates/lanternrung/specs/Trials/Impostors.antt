@@ -1,0 +1,126 @@
+-- Wrong programs, each a function from what it is given to what it answers and leaves, and each ruled out by its
+-- promise (docs/CLAIMS.md). Assumes nothing.
+use mathlib.Core.Path.{_≡_}
+use mathlib.Core.Bool.{true}
+use mathlib.Core.List.{List, [], _++_}
+use Prim.Native.Nat.{ℕ, _≤_, _<_, _^_}
+use lib.ListN.{length, drop}
+use Rattle.rules.specs.declared.Utf8Answer.{Utf8Answer}
+use Rattle.rules.specs.declared.DateAnswer.{DateAnswer}
+use Rattle.rules.specs.Rfc3629.{Judged}
+use Rattle.rules.specs.Rfc3339.{Dated}
+use Rattle.meaning.specs.declared.Record.{Record}
+use Rattle.meaning.specs.declared.Refusal.{Refusal}
+use Rattle.meaning.specs.Good.{Bytes}
+use Rattle.meaning.specs.Look.{wholeRecords}
+use Rattle.meaning.specs.Meaning.{Meaning, null}
+use Rattle.meaning.specs.Tape.{records, bytes, tapeOf, storeOf}
+use Rattle.grammar.specs.Values.{Text}
+use Rattle.grammar.specs.Refused.{Text-refused}
+use Rattle.tape.specs.declared.Looked.{Looked}
+use Rattle.tape.specs.Looking.{Looks}
+use Rattle.reader.specs.declared.Answer.{Answer}
+use Rattle.reader.specs.Answers.{Measures, Reads}
+use Rattle.writer.specs.declared.Written.{Written}
+use Rattle.writer.specs.Written.{WritesJaxn, WritesJson}
+use Rattle.lanternrung.specs.Claims.{Counted, Takes, Holds, Prints}
+
+-- what a program can be lent: bytes, fewer than 2^64
+pub record Lent (s : List ℕ) : Type 0 where
+  pub each : Bytes s
+  pub few : length s < 2 ^ 64
+
+-- ---- programs, and what it is for one to keep its promise, whatever it is given
+
+abbrev pub Measurer : Type 0
+Measurer = List ℕ → Answer
+
+abbrev pub KeepsMeasure : Measurer → Type 0
+KeepsMeasure f = (text : List ℕ) → Lent text → Measures text (f text)
+
+-- the answer, the tape and the store at exit
+abbrev pub Reader : Type 0
+Reader = List ℕ → List ℕ → List ℕ → Answer × List ℕ × List ℕ
+
+abbrev pub KeepsRead : Reader → Type 0
+KeepsRead f = (text tape store : List ℕ) → Lent text → Lent tape → Lent store
+    → Reads text tape store (f text tape store .0) (f text tape store .1) (f text tape store .2)
+
+-- the answer, and the output at exit
+abbrev pub Writer : Type 0
+Writer = List ℕ → List ℕ → List ℕ → Written × List ℕ
+
+abbrev pub KeepsJaxn : Writer → Type 0
+KeepsJaxn f = (tape store out : List ℕ) → Lent tape → Lent store → Lent out
+    → WritesJaxn tape store out (f tape store out .0) (f tape store out .1)
+
+abbrev pub KeepsJson : Writer → Type 0
+KeepsJson f = (tape store out : List ℕ) → Lent tape → Lent store → Lent out
+    → WritesJson tape store out (f tape store out .0) (f tape store out .1)
+
+abbrev pub Looker : Type 0
+Looker = List ℕ → List ℕ → ℕ → Looked
+
+abbrev pub KeepsLook : Looker → Type 0
+KeepsLook f = (tape store : List ℕ) (index : ℕ) → Lent tape → Lent store → index < 2 ^ 64
+    → Looks tape store index (f tape store index)
+
+abbrev pub KeepsUtf8 : (List ℕ → Utf8Answer) → Type 0
+KeepsUtf8 f = (s : List ℕ) → Lent s → Judged s (f s)
+
+abbrev pub Calendar : Type 0
+Calendar = ℕ → ℕ → ℕ → DateAnswer
+
+abbrev pub KeepsDate : Calendar → Type 0
+KeepsDate f = (y m d : ℕ) → y < 2 ^ 64 → m < 2 ^ 64 → d < 2 ^ 64 → Dated y m d (f y m d)
+
+-- whatever it writes is the text t
+abbrev pub WritesOnly : List ℕ → Writer → Type 0
+WritesOnly t f = (tape store out : List ℕ) (n : ℕ) → f tape store out .0 ≡ Written.Wrote n → f tape store out .1 ≡ t
+    ++ drop (length t) out
+
+pub record Impostors : Type 0 where
+  -- a reader that refuses everything, for whatever reason
+  pub refuses-all : (f : Reader) → ((text tape store : List ℕ) → (why : Refusal)
+      × (f text tape store .0 ≡ Answer.Refused why)) → KeepsRead f → ⊥
+  -- one that answers `null` for all that it accepts
+  pub null-for-all : (f : Reader)
+      → ((text tape store : List ℕ) (m : Meaning) → Takes text tape store m
+      → Holds null tape store (f text tape store .0) (f text tape store .1) (f text tape store .2)) → KeepsRead f
+      → ⊥
+  -- one that touches no buffer; one that leaves the tape, or the store, as it was
+  pub touches-nothing : (f : Reader) → ((text tape store : List ℕ) → (f text tape store .1 ≡ tape)
+      × (f text tape store .2 ≡ store)) → KeepsRead f → ⊥
+  pub leaves-tape : (f : Reader) → ((text tape store : List ℕ) → f text tape store .1 ≡ tape) → KeepsRead f → ⊥
+  pub leaves-store : (f : Reader) → ((text tape store : List ℕ) → f text tape store .2 ≡ store) → KeepsRead f → ⊥
+  -- a writer that always prints one text, or refuses
+  pub one-text-jaxn : (f : Writer) (t : List ℕ) → WritesOnly t f → KeepsJaxn f → ⊥
+  pub one-text-json : (f : Writer) (t : List ℕ) → WritesOnly t f → KeepsJson f → ⊥
+  -- one that remembers the text that its tape was read from, and prints that
+  pub copies : (f : List ℕ → Writer)
+      → ((text : List ℕ) (m : Meaning) (out : List ℕ) → Text true text m → length text ≤ length out
+      → Prints text out (f text (tapeOf m) (storeOf m) out .0) (f text (tapeOf m) (storeOf m) out .1))
+      → ((text : List ℕ) → KeepsJaxn (f text)) → ⊥
+  -- a measure that invents its counts: for one text; the same for all; some for all
+  pub invents : (f : Measurer) {text : List ℕ} {m : Meaning} → Text true text m
+      → (f text ≡ Answer.Counts (records m) (bytes m) → ⊥) → KeepsMeasure f → ⊥
+  pub one-count : (f : Measurer) (r s : ℕ) → ((text : List ℕ) → Counted (f text) → f text ≡ Answer.Counts r s)
+      → KeepsMeasure f → ⊥
+  pub counts-all : (f : Measurer) → ((text : List ℕ) → Counted (f text)) → KeepsMeasure f → ⊥
+  -- a measure, and a reader, that refuses some text with another number or at another place than the grammar
+  pub misplaces : (f : Measurer) {text : List ℕ} {why : Refusal} → Lent text → Text-refused text why
+      → (f text ≡ Answer.Refused why → ⊥) → KeepsMeasure f → ⊥
+  pub misplaces-reading : (f : Reader) {text : List ℕ} {why : Refusal} → Lent text → Text-refused text why
+      → (f text [] [] .0 ≡ Answer.Refused why → ⊥) → KeepsRead f → ⊥
+  -- a look that answers `null` for all, or refuses all
+  pub looks-null : (f : Looker) → ((tape store : List ℕ) (index : ℕ) → index < wholeRecords tape → f tape store index
+      ≡ Looked.Record Record.Null) → KeepsLook f → ⊥
+  pub looks-nowhere : (f : Looker) → ((tape store : List ℕ) (index : ℕ) → (why : Refusal)
+      × (f tape store index ≡ Looked.Refused why)) → KeepsLook f → ⊥
+  -- a test of UTF-8 that passes all, or refuses all
+  pub all-utf8 : (f : List ℕ → Utf8Answer) → ((s : List ℕ) → f s ≡ Utf8Answer.Done) → KeepsUtf8 f → ⊥
+  pub no-utf8 : (f : List ℕ → Utf8Answer) → ((s : List ℕ) → (k : ℕ) × (f s ≡ Utf8Answer.IllFormed k)) → KeepsUtf8 f → ⊥
+  -- a calendar in which every month has 31 days, or that refuses all
+  pub long-months : (f : Calendar) → ((y m d : ℕ) → y ≤ 9999 → 1 ≤ m → m ≤ 12 → 1 ≤ d → d ≤ 31 → f y m d
+      ≡ DateAnswer.Done) → KeepsDate f → ⊥
+  pub no-date : (f : Calendar) → ((y m d : ℕ) → f y m d ≡ DateAnswer.NoDate) → KeepsDate f → ⊥
