@@ -6,6 +6,8 @@
 // Prints lines "file group name texts bytes median fastest" with tabs between, times in seconds; chart.py makes the tables and
 // the chart. Interleaved: in each round every contestant runs once. Allocating and freeing a tree is part of a peer's time;
 // simdjson keeps its parser, and Lanternrung its buffers, from round to round. A peer whose header is missing is left out.
+// Where the environment names two shared libraries, BEFORE and AFTER, they run in the place of the archive that is linked, as
+// "before" and "Lanternrung", and each first in every other round.
 #include <algorithm>
 #include <cstdint>
 #include <cstdio>
@@ -65,7 +67,7 @@ static double now() {
     return t.tv_sec + t.tv_nsec * 1e-9;
 }
 
-static void add(const char *group, const char *name, std::function<size_t()> run) { contestants.push_back({group, name, run, {}}); }
+static void add(const char *group, const std::string &name, std::function<size_t()> run) { contestants.push_back({group, name, run, {}}); }
 
 static Text load(const char *file) {
     FILE *f = fopen(file, "rb");
@@ -95,17 +97,49 @@ template <typename Call> static std::function<size_t()> each(const Texts &texts,
 
 static const uint8_t *bytes(const Text &text) { return (const uint8_t *)text.data(); }
 
+// The library's calls, under the name that they are timed by.
+struct Library {
+    std::string name = "Lanternrung";
+    decltype(&lanternrung_utf8) utf8 = lanternrung_utf8;
+    decltype(&lanternrung_measure) measure = lanternrung_measure;
+    decltype(&lanternrung_read) read = lanternrung_read;
+    decltype(&lanternrung_write_jaxn) write_jaxn = lanternrung_write_jaxn;
+    decltype(&lanternrung_write_json) write_json = lanternrung_write_json;
+};
+
+// Those of a shared library.
+static Library loaded(const char *name, const char *file) {
+    void *so = dlopen(file, RTLD_NOW | RTLD_LOCAL | RTLD_DEEPBIND);
+    if (!so) { fprintf(stderr, "%s\n", dlerror()); exit(1); }
+    Library library;
+    library.name = name;
+    library.utf8 = (decltype(library.utf8))dlsym(so, "lanternrung_utf8");
+    library.measure = (decltype(library.measure))dlsym(so, "lanternrung_measure");
+    library.read = (decltype(library.read))dlsym(so, "lanternrung_read");
+    library.write_jaxn = (decltype(library.write_jaxn))dlsym(so, "lanternrung_write_jaxn");
+    library.write_json = (decltype(library.write_json))dlsym(so, "lanternrung_write_json");
+    return library;
+}
+
+// The archive's; or those of before and after, where the environment names them.
+static std::vector<Library> libraries() {
+    const char *before = getenv("BEFORE"), *after = getenv("AFTER");
+    if (!before || !after) return {Library()};
+    return {loaded("Lanternrung", after), loaded("before", before)};
+}
+
 // Lanternrung with lent buffers: no text needs more store bytes than its length. `json` says which of the two writers is meant.
 struct Ours {
+    Library library;
     std::vector<uint8_t> tape, store, out;
     lr_sizes sizes{};
     lr_written written{};
     decltype(&lanternrung_write_json) write;
 
-    Ours(const Texts &texts, bool json) : write(json ? lanternrung_write_json : lanternrung_write_jaxn) {
+    Ours(const Library &by, const Texts &texts, bool json) : library(by), write(json ? by.write_json : by.write_jaxn) {
         size_t records = 0, longest = 0;
         for (auto &text : texts) {
-            records = std::max(records, (size_t)lanternrung_measure(bytes(text), text.size()).records);
+            records = std::max(records, (size_t)library.measure(bytes(text), text.size()).records);
             longest = std::max(longest, text.size());
         }
         tape.assign(16 * records, 1);
@@ -113,7 +147,7 @@ struct Ours {
         out.assign(2 * longest, 1);
     }
     size_t read(const Text &text) {
-        sizes = lanternrung_read(bytes(text), text.size(), tape.data(), tape.size(), store.data(), store.size());
+        sizes = library.read(bytes(text), text.size(), tape.data(), tape.size(), store.data(), store.size());
         return sizes.refused ? 0 : sizes.records;
     }
     size_t round(const Text &text) {
@@ -124,9 +158,10 @@ struct Ours {
 };
 
 static void add_ours(Ours &ours, const Texts &texts) {
-    add("read", "Lanternrung measure", each(texts, [](const Text &text) { return (size_t)lanternrung_measure(bytes(text), text.size()).records; }));
-    add("read", "Lanternrung read", each(texts, [&ours](const Text &text) { return ours.read(text); }));
-    add("round", "Lanternrung", each(texts, [&ours](const Text &text) { return ours.round(text); }));
+    const std::string &name = ours.library.name;
+    add("read", name + " measure", each(texts, [&ours](const Text &text) { return (size_t)ours.library.measure(bytes(text), text.size()).records; }));
+    add("read", name + " read", each(texts, [&ours](const Text &text) { return ours.read(text); }));
+    add("round", name, each(texts, [&ours](const Text &text) { return ours.round(text); }));
 }
 
 #ifdef HAS_SIMDJSON
@@ -259,9 +294,9 @@ static void add_shared(const Text &in, const std::string &folder, const char *gr
     add(group, name, [&in, call] { return call(in.data(), in.size()); });
 }
 
-static void add_checks(const Text &in, Text &copy, const std::string &folder) {
+static void add_checks(const std::vector<Ours> &ours, const Text &in, Text &copy, const std::string &folder) {
     add("utf8", "memcpy", [&] { memcpy(&copy[0], in.data(), in.size()); return in.size(); });
-    add("utf8", "Lanternrung utf8", [&] { return (size_t)!lanternrung_utf8((const uint8_t *)in.data(), in.size()).refused; });
+    for (auto &one : ours) add("utf8", one.library.name + " utf8", [&] { return (size_t)!one.library.utf8(bytes(in), in.size()).refused; });
     add_shared(in, folder, "utf8", "Rust str::from_utf8", "peer_std.so", "peer_parse");
 #ifdef HAS_SIMDJSON
     add("utf8", "simdjson::validate_utf8", [&] { return (size_t)simdjson::validate_utf8(in.data(), in.size()); });
@@ -297,7 +332,8 @@ static void time_all(const std::string &name, const Texts &texts, int rounds) {
     size_t length = 0;
     for (auto &text : texts) length += text.size();
     for (int r = 0; r < rounds; r++)
-        for (auto &c : contestants) {
+        for (size_t k = 0; k < contestants.size(); k++) {
+            auto &c = contestants[r % 2 ? contestants.size() - 1 - k : k];
             double start = now();
             size_t result = c.run();
             c.times.push_back(now() - start);
@@ -332,16 +368,18 @@ static void run(const std::string &file, const std::string &folder, int rounds) 
     bool many = ends(name, ".seq"), json = ends(name, ".json"), jaxn = name.find("jaxn") != name.npos;
     Texts texts = many ? cut(load(file.c_str())) : Texts{load(file.c_str())};
     Text copy(texts[0].size(), 1);
-    Ours ours(texts, !jaxn);
+    std::vector<Ours> ours;
+    for (auto &library : libraries()) ours.emplace_back(library, texts, !jaxn);
     contestants.clear();
-    if (!many && !jaxn && name != "indented.json") add_checks(texts[0], copy, folder);
-    if (!ends(name, ".txt")) add_ours(ours, texts);
+    if (!many && !jaxn && name != "indented.json") add_checks(ours, texts[0], copy, folder);
+    if (!ends(name, ".txt"))
+        for (auto &one : ours) add_ours(one, texts);
     if (json) add_peers(texts, folder);
     if (many && !jaxn) add_small_peers(texts);
     time_all(name, texts, rounds);
     if (many) return;
     if (FILE *o = fopen((folder + "/" + name + ".written").c_str(), "wb")) {
-        fwrite(ours.out.data(), 1, ours.written.length, o);
+        fwrite(ours[0].out.data(), 1, ours[0].written.length, o);
         fclose(o);
     }
 }
