@@ -338,28 +338,26 @@ enum Outcome {
     Other,
 }
 
-// Whether the record's bytes are those at this index.
-fn given_back(t: &[u8], index: usize, r: Record) -> bool {
+// A record that was taken at this index, put again.
+fn put_again(t: &[u8], index: usize, r: Record) -> Outcome {
     if index > 10 {
-        return false;
+        return Outcome::Other;
     }
     let p = index * 16;
     let e = p + 16;
     let mut again: [u8; 16] = [0; 16];
     tape::put_record(&mut again, 0, r);
-    e <= t.len() && check::same(&again, &t[p..e])
+    if e <= t.len() && check::same(&again, &t[p..e]) {
+        return Outcome::Same;
+    }
+    Outcome::Other
 }
 
 // The record at this index, looked at and put again.
 fn taken(t: &[u8], s: &[u8], index: usize) -> Outcome {
     match tape::look(t, s, index) {
         Looked::Refused(_) => Outcome::Refused,
-        Looked::Record(r) => {
-            if given_back(t, index, r) {
-                return Outcome::Same;
-            }
-            Outcome::Other
-        }
+        Looked::Record(r) => put_again(t, index, r),
     }
 }
 
