@@ -244,9 +244,9 @@ module _ (tape store o : List ℕ) where
                 closers-size = s .closers-size;
               }
 
-          module _ (last bracket : ℕ) (f : t ≡ Effect.Open last bracket) where
+          module _ (bracket last : ℕ) (f : t ≡ Effect.Open bracket last) where
             pub walk-shallow : depth < 64
-            walk-shallow = omega (arith, takes .entered last bracket (turned ∙ f) .0, frames-height depth ends closers, depth-limit)
+            walk-shallow = omega (arith, takes .entered bracket last (turned ∙ f) .0, frames-height depth ends closers, depth-limit)
 
             pub walk-open : Walking tape store o out′ (set ends depth end) (set closers depth closer) (depth + 1) last bracket false q (i + 1)
             walk-open =
@@ -257,7 +257,7 @@ module _ (tape store o : List ℕ) where
                   prints =
                       subst (λ (x : Stack). Prints (recordsIn (s .well)) store (i + 1) false last bracket x (takes .rest))
                       (sym (frames-push depth ends closers end closer (omega (arith, s .ends-size)) (omega (arith, s .closers-size))))
-                      (takes .entered last bracket (turned ∙ f) .1);
+                      (takes .entered bracket last (turned ∙ f) .1);
                   writing = writing-put (printed r store) after-comma b;
                   deep = omega arith;
                   ends-size = length-set ends depth end ∙ s .ends-size;

@@ -77,7 +77,7 @@ module _ (rs : List Record) (store : List ℕ) where
         → Prints (i + 1) comma′ end closer around u → Prints i comma end closer around t
     enter : {i : ℕ} {comma : Bool} {end closer : ℕ} {around : Stack} {t : List ℕ} (end′ closer′ : ℕ) (u : List ℕ) → i < end → i < length rs
         → height around < depthLimit
-        → effectOf (getD rs i Record.Null) ≡ Effect.Open end′ closer′ → t ≡ commaText comma ++ printed (getD rs i Record.Null) store ++ u
+        → effectOf (getD rs i Record.Null) ≡ Effect.Open closer′ end′ → t ≡ commaText comma ++ printed (getD rs i Record.Null) store ++ u
         → Prints (i + 1) false end′ closer′ (within end closer around) u → Prints i comma end closer around t
 
   -- the record at i
@@ -98,7 +98,7 @@ module _ (rs : List Record) (store : List ℕ) where
       pass comma′ u h (s .inside) (ap effectOf (s .is) ∙ e) (ap (λ (x : Record). commaText comma ++ printed x store ++ u) (sym (s .is))) k
 
   enters : (r : Record) (comma : Bool) (i end closer end′ closer′ : ℕ) (around : Stack) (u : List ℕ) → Stands i r → i < end → height around < depthLimit
-      → effectOf r ≡ Effect.Open end′ closer′
+      → effectOf r ≡ Effect.Open closer′ end′
       → Prints (i + 1) false end′ closer′ (within end closer around) u → Prints i comma end closer around (commaText comma ++ printed r store ++ u)
   enters r comma i end closer end′ closer′ around u s h d e k =
       enter end′ closer′ u h (s .inside) d (ap effectOf (s .is) ∙ e) (ap (λ (x : Record). commaText comma ++ printed x store ++ u) (sym (s .is))) k
@@ -301,7 +301,7 @@ module _ (rs : List Record) (store : List ℕ) where
     pub rest : List ℕ
     pub text : t ≡ commaText comma ++ printed (getD rs i Record.Null) store ++ rest
     pub passed : (due : Bool) → effectOf (getD rs i Record.Null) ≡ Effect.Pass due → Prints (i + 1) due end closer around rest
-    pub entered : (end′ closer′ : ℕ) → effectOf (getD rs i Record.Null) ≡ Effect.Open end′ closer′
+    pub entered : (closer′ end′ : ℕ) → effectOf (getD rs i Record.Null) ≡ Effect.Open closer′ end′
         → (height around < depthLimit) × Prints (i + 1) false end′ closer′ (within end closer around) rest
 
   -- a record comes
@@ -316,7 +316,7 @@ module _ (rs : List Record) (store : List ℕ) where
         rest = u;
         text = x;
         passed = λ due q. let z : c ≡ due = cc in subst (λ (v : Bool). Prints (i + 1) v end closer around u) z k;
-        entered = λ f g q. let z : _≡_ {A = ℕ} 0 1 = cc in absurd (omega arith);
+        entered = λ g f q. let z : _≡_ {A = ℕ} 0 1 = cc in absurd (omega arith);
       }
   prints-take {i} {end = end} {closer = closer} {around = around} (enter f c u l j d e x k) h =
       record {
@@ -325,7 +325,7 @@ module _ (rs : List Record) (store : List ℕ) where
         rest = u;
         text = x;
         passed = λ due q. let z : _≡_ {A = ℕ} 0 1 = cc in absurd (omega arith);
-        entered = λ f′ c′ q.
+        entered = λ c′ f′ q.
             let z : f ≡ f′ = cc in
             let y : c ≡ c′ = cc in
             (d, subst (λ (v : ℕ). Prints (i + 1) false f′ v (within end closer around) u) y (subst (λ (v : ℕ). Prints (i + 1) false v c (within end closer around) u) z k));

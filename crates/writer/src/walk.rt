@@ -58,8 +58,8 @@ pub fn write_records(out: &mut [u8], tape: &[u8], store: &[u8]) -> usize
                     i += 1;
                 }
                 Effect::Open {
-                    end: last,
                     closer: bracket,
+                    end: last,
                 } => {
                     ends[depth] = end;
                     closers[depth] = closer;

@@ -101,20 +101,20 @@ loop-less-2 c =
 loop-again-2 : tie.Need-loop-again-2 Inv-loop μ-loop
 loop-again-2 c = walk-pass (c .before .before .before .before .before .before .before .before .before .before .before .before .before .before .before .before .before .before .args .tape .now) (c .before .before .before .before .before .before .before .before .before .before .before .before .before .before .before .before .before .before .args .store .now) (c .before .before .before .before .before .before .before .before .before .before .before .before .before .before .before .before .before .before .args .out .now) (c .before .before .before .before .before .before .before .before .before .before .before .before .before .before .loop .inv) (c .before .before .before .before .before .before .before .before .before .before .before .before .before .if1 .left) (c .before .before .before .before .before .before .before .before .before .before .before .comma-at .ensures) _ (c .before .before .before .before .before .before .before .before .record-at .ensures) (c .before .before .before .before .before .before .printed-at .ensures) _ (c .before .before .before .effect-of .ensures) _ (c .before .due .given .1)
 
-enum-known-last : tie.Need-enum-known-last Inv-loop μ-loop
-enum-known-last c = search needs
+enum-known-bracket : tie.Need-enum-known-bracket Inv-loop μ-loop
+enum-known-bracket c = search needs
 
 mul-ends : tie.Need-mul-ends Inv-loop μ-loop
-mul-ends c = omega (arith, walk-shallow (c .before .before .before .before .before .before .before .before .before .before .before .before .before .before .before .before .before .before .args .tape .now) (c .before .before .before .before .before .before .before .before .before .before .before .before .before .before .before .before .before .before .args .store .now) (c .before .before .before .before .before .before .before .before .before .before .before .before .before .before .before .before .before .before .args .out .now) (c .before .before .before .before .before .before .before .before .before .before .before .before .before .before .loop .inv) (c .before .before .before .before .before .before .before .before .before .before .before .before .before .if1 .left) (c .before .before .before .before .before .before .before .before .before .before .before .comma-at .ensures) _ (c .before .before .before .before .before .before .before .before .record-at .ensures) (c .before .before .before .before .before .before .printed-at .ensures) _ (c .before .before .before .effect-of .ensures) _ _ (c .before .last .given .1))
+mul-ends c = omega (arith, walk-shallow (c .before .before .before .before .before .before .before .before .before .before .before .before .before .before .before .before .before .before .args .tape .now) (c .before .before .before .before .before .before .before .before .before .before .before .before .before .before .before .before .before .before .args .store .now) (c .before .before .before .before .before .before .before .before .before .before .before .before .before .before .before .before .before .before .args .out .now) (c .before .before .before .before .before .before .before .before .before .before .before .before .before .before .loop .inv) (c .before .before .before .before .before .before .before .before .before .before .before .before .before .if1 .left) (c .before .before .before .before .before .before .before .before .before .before .before .comma-at .ensures) _ (c .before .before .before .before .before .before .before .before .record-at .ensures) (c .before .before .before .before .before .before .printed-at .ensures) _ (c .before .before .before .effect-of .ensures) _ _ (c .before .bracket .given .1))
 
 array-write-ends : tie.Need-array-write-ends Inv-loop μ-loop
-array-write-ends c = omega (arith, walk-shallow (c .before .before .before .before .before .before .before .before .before .before .before .before .before .before .before .before .before .before .args .tape .now) (c .before .before .before .before .before .before .before .before .before .before .before .before .before .before .before .before .before .before .args .store .now) (c .before .before .before .before .before .before .before .before .before .before .before .before .before .before .before .before .before .before .args .out .now) (c .before .before .before .before .before .before .before .before .before .before .before .before .before .before .loop .inv) (c .before .before .before .before .before .before .before .before .before .before .before .before .before .if1 .left) (c .before .before .before .before .before .before .before .before .before .before .before .comma-at .ensures) _ (c .before .before .before .before .before .before .before .before .record-at .ensures) (c .before .before .before .before .before .before .printed-at .ensures) _ (c .before .before .before .effect-of .ensures) _ _ (c .before .last .given .1))
+array-write-ends c = omega (arith, walk-shallow (c .before .before .before .before .before .before .before .before .before .before .before .before .before .before .before .before .before .before .args .tape .now) (c .before .before .before .before .before .before .before .before .before .before .before .before .before .before .before .before .before .before .args .store .now) (c .before .before .before .before .before .before .before .before .before .before .before .before .before .before .before .before .before .before .args .out .now) (c .before .before .before .before .before .before .before .before .before .before .before .before .before .before .loop .inv) (c .before .before .before .before .before .before .before .before .before .before .before .before .before .if1 .left) (c .before .before .before .before .before .before .before .before .before .before .before .comma-at .ensures) _ (c .before .before .before .before .before .before .before .before .record-at .ensures) (c .before .before .before .before .before .before .printed-at .ensures) _ (c .before .before .before .effect-of .ensures) _ _ (c .before .bracket .given .1))
 
 array-write-closers : tie.Need-array-write-closers Inv-loop μ-loop
-array-write-closers c = omega (arith, walk-shallow (c .before .before .before .before .before .before .before .before .before .before .before .before .before .before .before .before .before .before .args .tape .now) (c .before .before .before .before .before .before .before .before .before .before .before .before .before .before .before .before .before .before .args .store .now) (c .before .before .before .before .before .before .before .before .before .before .before .before .before .before .before .before .before .before .args .out .now) (c .before .before .before .before .before .before .before .before .before .before .before .before .before .before .loop .inv) (c .before .before .before .before .before .before .before .before .before .before .before .before .before .if1 .left) (c .before .before .before .before .before .before .before .before .before .before .before .comma-at .ensures) _ (c .before .before .before .before .before .before .before .before .record-at .ensures) (c .before .before .before .before .before .before .printed-at .ensures) _ (c .before .before .before .effect-of .ensures) _ _ (c .before .last .given .1))
+array-write-closers c = omega (arith, walk-shallow (c .before .before .before .before .before .before .before .before .before .before .before .before .before .before .before .before .before .before .args .tape .now) (c .before .before .before .before .before .before .before .before .before .before .before .before .before .before .before .before .before .before .args .store .now) (c .before .before .before .before .before .before .before .before .before .before .before .before .before .before .before .before .before .before .args .out .now) (c .before .before .before .before .before .before .before .before .before .before .before .before .before .before .loop .inv) (c .before .before .before .before .before .before .before .before .before .before .before .before .before .if1 .left) (c .before .before .before .before .before .before .before .before .before .before .before .comma-at .ensures) _ (c .before .before .before .before .before .before .before .before .record-at .ensures) (c .before .before .before .before .before .before .printed-at .ensures) _ (c .before .before .before .effect-of .ensures) _ _ (c .before .bracket .given .1))
 
 add-depth : tie.Need-add-depth Inv-loop μ-loop
-add-depth c = omega (arith, walk-shallow (c .before .before .before .before .before .before .before .before .before .before .before .before .before .before .before .before .before .before .args .tape .now) (c .before .before .before .before .before .before .before .before .before .before .before .before .before .before .before .before .before .before .args .store .now) (c .before .before .before .before .before .before .before .before .before .before .before .before .before .before .before .before .before .before .args .out .now) (c .before .before .before .before .before .before .before .before .before .before .before .before .before .before .loop .inv) (c .before .before .before .before .before .before .before .before .before .before .before .before .before .if1 .left) (c .before .before .before .before .before .before .before .before .before .before .before .comma-at .ensures) _ (c .before .before .before .before .before .before .before .before .record-at .ensures) (c .before .before .before .before .before .before .printed-at .ensures) _ (c .before .before .before .effect-of .ensures) _ _ (c .before .last .given .1))
+add-depth c = omega (arith, walk-shallow (c .before .before .before .before .before .before .before .before .before .before .before .before .before .before .before .before .before .before .args .tape .now) (c .before .before .before .before .before .before .before .before .before .before .before .before .before .before .before .before .before .before .args .store .now) (c .before .before .before .before .before .before .before .before .before .before .before .before .before .before .before .before .before .before .args .out .now) (c .before .before .before .before .before .before .before .before .before .before .before .before .before .before .loop .inv) (c .before .before .before .before .before .before .before .before .before .before .before .before .before .if1 .left) (c .before .before .before .before .before .before .before .before .before .before .before .comma-at .ensures) _ (c .before .before .before .before .before .before .before .before .record-at .ensures) (c .before .before .before .before .before .before .printed-at .ensures) _ (c .before .before .before .effect-of .ensures) _ _ (c .before .bracket .given .1))
 
 add-i-2 : tie.Need-add-i-2 Inv-loop μ-loop
 add-i-2 c =
@@ -131,7 +131,7 @@ loop-less-3 c =
     omega (arith, (walk-inside (args .tape .now) (args .store .now) (args .out .now) (loop .inv) (if1 .left)))
 
 loop-again-3 : tie.Need-loop-again-3 Inv-loop μ-loop
-loop-again-3 c = walk-open (c .before .before .before .before .before .before .before .before .before .before .before .before .before .before .before .before .before .before .args .tape .now) (c .before .before .before .before .before .before .before .before .before .before .before .before .before .before .before .before .before .before .args .store .now) (c .before .before .before .before .before .before .before .before .before .before .before .before .before .before .before .before .before .before .args .out .now) (c .before .before .before .before .before .before .before .before .before .before .before .before .before .before .loop .inv) (c .before .before .before .before .before .before .before .before .before .before .before .before .before .if1 .left) (c .before .before .before .before .before .before .before .before .before .before .before .comma-at .ensures) _ (c .before .before .before .before .before .before .before .before .record-at .ensures) (c .before .before .before .before .before .before .printed-at .ensures) _ (c .before .before .before .effect-of .ensures) _ _ (c .before .last .given .1)
+loop-again-3 c = walk-open (c .before .before .before .before .before .before .before .before .before .before .before .before .before .before .before .before .before .before .args .tape .now) (c .before .before .before .before .before .before .before .before .before .before .before .before .before .before .before .before .before .before .args .store .now) (c .before .before .before .before .before .before .before .before .before .before .before .before .before .before .before .before .before .before .args .out .now) (c .before .before .before .before .before .before .before .before .before .before .before .before .before .before .loop .inv) (c .before .before .before .before .before .before .before .before .before .before .before .before .before .if1 .left) (c .before .before .before .before .before .before .before .before .before .before .before .comma-at .ensures) _ (c .before .before .before .before .before .before .before .before .record-at .ensures) (c .before .before .before .before .before .before .printed-at .ensures) _ (c .before .before .before .effect-of .ensures) _ _ (c .before .bracket .given .1)
 
 pub write-records-spec : {M : Type 1} → statement M
 write-records-spec =
@@ -157,7 +157,7 @@ write-records-spec =
     add-i
     loop-less-2
     loop-again-2
-    enum-known-last
+    enum-known-bracket
     mul-ends
     array-write-ends
     array-write-closers
