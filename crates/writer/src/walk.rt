@@ -26,7 +26,7 @@ pub fn text_len(tape: &[u8], store: &[u8]) -> usize
 }
 
 // The ends of the open containers and the brackets that close them stand in two arrays; those of the innermost in `until`
-// and `bracket`. A record is read after its comma and counted before it is printed: fewer registers, fewer instructions.
+// and `bracket`. A record is read after its comma and counted before it is printed: so a round is shortest.
 pub fn write_records(out: &mut [u8], tape: &[u8], store: &[u8]) -> usize
     requires { ⌜ TextFits (now tape) (now store) (length (now out)) ⌝ }
     ensures { λ r. ⌜ TextPut (now (tape .entry)) (now (store .entry)) (now (out .entry)) (now (out .exit)) r ⌝ }
