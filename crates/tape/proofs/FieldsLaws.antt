@@ -24,6 +24,11 @@ pub decides-as : {P R : Type 0} {b : Bool} → (P → R) → (R → P) → Decid
 decides-as f g (holds p) = holds (f p)
 decides-as f g (fails n) = fails (λ r. n (g r))
 
+-- a test that fails, of what another thing wants
+pub fails-too : {P R : Type 0} {b : Bool} → (R → P) → Decides P b → b ≡ false → Decides R b
+fails-too g (holds p) e = let z : _≡_ {A = ℕ} 0 1 = cc in absurd (omega arith)
+fails-too g (fails n) e = fails (λ r. n (g r))
+
 pub less-test : (a b : ℕ) → Decides (a < b) (ltb a b)
 less-test a b = by-test (ltb a b) (λ e. ltb-true a b e) (λ e p. omega (arith, ltb-false a b e))
 

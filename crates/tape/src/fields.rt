@@ -87,20 +87,10 @@ pub fn good_time(t: Time) -> bool
     match t {
         Time::LocalDate(d) => good_date(d),
         Time::LocalTime(clock) => good_clock(clock),
-        Time::LocalDateTime(d, clock) => {
-            if good_clock(clock) {
-                return good_date(d);
-            }
-            false
-        }
-        Time::OffsetDateTime(d, clock, offset) => {
-            if good_clock(clock) {
-                if good_offset(offset) {
-                    return good_date(d);
-                }
-            }
-            false
-        }
+        Time::LocalDateTime(d, clock) => good_clock(clock) && good_date(d),
+        Time::OffsetDateTime(d, clock, offset) => good_clock(clock)
+            && good_offset(offset)
+            && good_date(d),
     }
 }
 

@@ -140,10 +140,8 @@ fn bytes(t: &[u8], p: usize, room: u64) -> bool {
     }
     let length = four(t, p + 4);
     let start = eight(t, p + 8);
-    if two(t, p + 2) == 0 {
-        if start <= room {
-            return length <= room - start;
-        }
+    if two(t, p + 2) == 0 && start <= room {
+        return length <= room - start;
     }
     false
 }
@@ -169,7 +167,7 @@ fn offset(t: &[u8], p: usize) -> bool {
     bits <= 1439 || bits >= 64097
 }
 
-// Whether it is a local date or a local time, by the second letter of its mark.
+// Whether it is a local date (ld) or a local time (lt), by the second letter of its mark.
 fn timed(t: &[u8], p: usize, b: u64) -> bool {
     if p > 1000 {
         return false;
@@ -183,59 +181,63 @@ fn timed(t: &[u8], p: usize, b: u64) -> bool {
     false
 }
 
-// Whether the record at this index stands, by the table; the store is ASCII.
+// Whether it is null (nu), a finite number (nb) or another number (nx), by the second letter of its mark.
+fn null_or_number(t: &[u8], p: usize, b: u64) -> bool {
+    if p > 1000 {
+        return false;
+    }
+    if b == 117 {
+        return two(t, p + 2) == 0 && four(t, p + 4) == 0 && eight(t, p + 8) == 0;
+    }
+    if b == 98 {
+        return finite(t, p);
+    }
+    b == 120 && small(t, p, 2)
+}
+
+// Whether it is a Boolean (bo) or a binary (by), by the second letter of its mark.
+fn bool_or_binary(t: &[u8], p: usize, b: u64, room: u64) -> bool {
+    if b == 111 {
+        return small(t, p, 1);
+    }
+    b == 121 && bytes(t, p, room)
+}
+
+// Whether it is a local date-time (dt).
+fn date_time(t: &[u8], p: usize) -> bool {
+    if p > 1000 {
+        return false;
+    }
+    date(t, p) && two(t, p + 6) == 0 && clock(t, p)
+}
+
+// Whether it is an offset date-time (od) or an object (ob), by the second letter of its mark.
+fn offset_or_object(t: &[u8], p: usize, b: u64, index: u64) -> bool {
+    if b == 100 {
+        return date(t, p) && offset(t, p) && clock(t, p);
+    }
+    b == 98 && container(t, p, index, 11)
+}
+
+// Whether the record at this index stands, by the table; the store is ASCII. An arm for each first letter of a mark: ar;
+// bo, by; dt; ky; ld, lt; nu, nb, nx; od, ob; st.
 fn decoder(t: &[u8], index: usize, room: u64) -> bool {
     if index > 10 {
         return false;
     }
     let p = index * 16;
-    let a = byte(t, p);
     let b = byte(t, p + 1);
-    // nu, nb, nx
-    if a == 110 {
-        if b == 117 {
-            return two(t, p + 2) == 0 && four(t, p + 4) == 0 && eight(t, p + 8) == 0;
-        }
-        if b == 98 {
-            return finite(t, p);
-        }
-        return b == 120 && small(t, p, 2);
+    match byte(t, p) {
+        97 => b == 114 && container(t, p, index as u64, 11),
+        98 => bool_or_binary(t, p, b, room),
+        100 => b == 116 && date_time(t, p),
+        107 => b == 121 && bytes(t, p, room),
+        108 => timed(t, p, b),
+        110 => null_or_number(t, p, b),
+        111 => offset_or_object(t, p, b, index as u64),
+        115 => b == 116 && bytes(t, p, room),
+        _ => false,
     }
-    // bo, by
-    if a == 98 {
-        if b == 111 {
-            return small(t, p, 1);
-        }
-        return b == 121 && bytes(t, p, room);
-    }
-    // st
-    if a == 115 {
-        return b == 116 && bytes(t, p, room);
-    }
-    // ky
-    if a == 107 {
-        return b == 121 && bytes(t, p, room);
-    }
-    // ld, lt
-    if a == 108 {
-        return timed(t, p, b);
-    }
-    // dt
-    if a == 100 {
-        return b == 116 && date(t, p) && two(t, p + 6) == 0 && clock(t, p);
-    }
-    // od, ob
-    if a == 111 {
-        if b == 100 {
-            return date(t, p) && offset(t, p) && clock(t, p);
-        }
-        return b == 98 && container(t, p, index as u64, 11);
-    }
-    // ar
-    if a == 97 {
-        return b == 114 && container(t, p, index as u64, 11);
-    }
-    false
 }
 
 // ---- the sample
@@ -329,25 +331,33 @@ fn fill_last(t: &mut [u8]) {
 
 // ---- the comparison
 
-// 0 refused, 1 taken and its bytes come back, 2 taken and they do not.
-fn taken(t: &[u8], s: &[u8], index: usize) -> u8 {
+// What `look` makes of a record: it is refused; taken, and its bytes come back; taken, and they do not.
+enum Outcome {
+    Refused,
+    Same,
+    Other,
+}
+
+// A record that was taken at this index, put again.
+fn put_again(t: &[u8], index: usize, r: Record) -> Outcome {
     if index > 10 {
-        return 2;
+        return Outcome::Other;
     }
     let p = index * 16;
     let e = p + 16;
+    let mut again: [u8; 16] = [0; 16];
+    tape::put_record(&mut again, 0, r);
+    if e <= t.len() && check::same(&again, &t[p..e]) {
+        return Outcome::Same;
+    }
+    Outcome::Other
+}
+
+// The record at this index, looked at and put again.
+fn taken(t: &[u8], s: &[u8], index: usize) -> Outcome {
     match tape::look(t, s, index) {
-        Looked::Refused(_) => 0,
-        Looked::Record(r) => {
-            let mut again: [u8; 16] = [0; 16];
-            tape::put_record(&mut again, 0, r);
-            if e <= t.len() {
-                if check::same(&again, &t[p..e]) {
-                    return 1;
-                }
-            }
-            2
-        }
+        Looked::Refused(_) => Outcome::Refused,
+        Looked::Record(r) => put_again(t, index, r),
     }
 }
 
@@ -373,23 +383,26 @@ fn count(b: bool) -> u64
     if b { 1 } else { 0 }
 }
 
-// One damaged tape: a fault where `look` and the decoder differ, or the bytes do not come back.
+// 1 where `look` does not go by the decoder, or the bytes do not come back.
+fn fault(stands: bool, got: Outcome) -> u64
+    ensures { λ r. ⌜ r ≤ 1 ⌝ }
+{
+    match got {
+        Outcome::Refused => count(stands),
+        Outcome::Same => count(!stands),
+        Outcome::Other => 1,
+    }
+}
+
+// One damaged tape.
 fn tried(t: &[u8], s: &[u8], index: usize) -> Tally
     ensures { λ r. ⌜ (r .faults ≤ 1) × (r .well ≤ 1) × (r .good ≤ 1) ⌝ }
 {
-    let well = count(is_well(t, s));
-    let got = taken(t, s, index);
-    if decoder(t, index, 9) {
-        return Tally {
-            faults: count(got != 1),
-            well: well,
-            good: 1,
-        };
-    }
+    let stands = decoder(t, index, 9);
     Tally {
-        faults: count(got != 0),
-        well: well,
-        good: 0,
+        faults: fault(stands, taken(t, s, index)),
+        well: count(is_well(t, s)),
+        good: count(stands),
     }
 }
 

@@ -25,7 +25,8 @@ use Rattle.writer.specs.Between.Laid.{PutAt}
 use Rattle.writer.specs.Between.Walk.{printed, commaText, effectOf, share, TextFits, TextLength, TextPut, at, nowhere, FirstFormless}
 use Rattle.writer.proofs.LaidLaws.{put-as, put-whole, Writing, begin, writing-as, writing-put, writing-room, writing-length, finish}
 use Rattle.writer.proofs.WalkLengthLaws.{shares, shares-at, shares-end, value-shares}
-use Rattle.writer.proofs.WalkTextLaws.{Prints, Stack, bottom, frames, frames-height, frames-push, frames-pop, frames-none, prints-all, prints-done, prints-close, prints-take, Takes, Closes}
+use Rattle.writer.proofs.WalkTextLaws.{Stack, bottom, frames, frames-height, frames-push, frames-pop, frames-none}
+use Rattle.writer.proofs.WalkTextLaws.{Prints, Takes, Closes, prints-all, prints-done, prints-close, prints-take}
 
 own-bytes : (r : Record) (i whole : ℕ) (store : List ℕ) → OwnFields r i whole store → bytesEnd r ≤ length store
 own-bytes Record.Null i whole store o = omega arith
@@ -162,7 +163,9 @@ module _ (tape store o : List ℕ) where
         closers-size = c;
       }
 
-  module _ {out ends closers : List ℕ} {depth end closer : ℕ} {comma : Bool} {place i : ℕ} (s : Walking tape store o out ends closers depth end closer comma place i) where
+module _ {tape store o out ends closers : List ℕ} {depth end closer : ℕ} {comma : Bool} {place i : ℕ}
+    (s : Walking tape store o out ends closers depth end closer comma place i)
+  where
     pub walk-length : length out ≡ length o
     walk-length = writing-length (s .writing)
 
@@ -176,7 +179,8 @@ module _ (tape store o : List ℕ) where
 
     -- a container ends
     module _ (h : i ≡ end) (d : depth ≡ 0 → ⊥) where
-      ends-here : Closes (recordsIn (s .well)) store i closer (getD ends (depth - 1) 0) (getD closers (depth - 1) 0) (frames (depth - 1) ends closers) (s .rest)
+      ends-here : Closes (recordsIn (s .well)) store i closer (getD ends (depth - 1) 0) (getD closers (depth - 1) 0) (frames (depth - 1) ends closers)
+          (s .rest)
       ends-here = prints-close (recordsIn (s .well)) store _ _ _ (s .prints) h (frames-pop depth ends closers (omega arith))
 
       closing : Writing (canonical (s .well .meaning)) ((closer ∷ []) ++ ends-here .rest) 0 o out place
@@ -215,10 +219,10 @@ module _ (tape store o : List ℕ) where
       pub walk-comma : place + length (commaText comma) ≤ length out
       walk-comma = writing-room (commaText comma) (printed here store ++ takes .rest) comes
 
-      pub walk-bytes : (r : Record) → RecordIs tape i r → bytesEnd r ≤ length store
-      walk-bytes r d = read-bytes tape store (s .well) i r walk-inside d
+      pub walk-bytes : {r : Record} → RecordIs tape i r → bytesEnd r ≤ length store
+      walk-bytes {r} d = read-bytes tape store (s .well) i r walk-inside d
 
-      module _ {mid : List ℕ} {p : ℕ} (a : PutAt (commaText comma) place out mid p) (r : Record) (d : RecordIs tape i r) where
+      module _ {mid : List ℕ} {p : ℕ} (a : PutAt (commaText comma) place out mid p) {r : Record} (d : RecordIs tape i r) where
         read : here ≡ r
         read = sym (read-is tape store (s .well) i r walk-inside d)
 
@@ -228,12 +232,12 @@ module _ (tape store o : List ℕ) where
         pub walk-piece : p + length (printed r store) ≤ length mid
         walk-piece = writing-room (printed r store) (takes .rest) after-comma
 
-        module _ {out′ : List ℕ} {q : ℕ} (b : PutAt (printed r store) p mid out′ q) (t : Effect) (e : t ≡ effectOf r) where
+        module _ {out′ : List ℕ} {q : ℕ} (b : PutAt (printed r store) p mid out′ q) {t : Effect} (e : t ≡ effectOf r) where
           turned : effectOf here ≡ t
           turned = ap effectOf read ∙ sym e
 
-          pub walk-pass : (due : Bool) → t ≡ Effect.Pass due → Walking tape store o out′ ends closers depth end closer due q (i + 1)
-          walk-pass due f =
+          pub walk-pass : {due : Bool} → t ≡ Effect.Pass due → Walking tape store o out′ ends closers depth end closer due q (i + 1)
+          walk-pass {due} f =
               record {
                 well = s .well;
                 rest = takes .rest;
@@ -244,9 +248,9 @@ module _ (tape store o : List ℕ) where
                 closers-size = s .closers-size;
               }
 
-          module _ (last bracket : ℕ) (f : t ≡ Effect.Open last bracket) where
+          module _ {bracket last : ℕ} (f : t ≡ Effect.Open bracket last) where
             pub walk-shallow : depth < 64
-            walk-shallow = omega (arith, takes .entered last bracket (turned ∙ f) .0, frames-height depth ends closers, depth-limit)
+            walk-shallow = omega (arith, takes .entered bracket last (turned ∙ f) .0, frames-height depth ends closers, depth-limit)
 
             pub walk-open : Walking tape store o out′ (set ends depth end) (set closers depth closer) (depth + 1) last bracket false q (i + 1)
             walk-open =
@@ -257,7 +261,7 @@ module _ (tape store o : List ℕ) where
                   prints =
                       subst (λ (x : Stack). Prints (recordsIn (s .well)) store (i + 1) false last bracket x (takes .rest))
                       (sym (frames-push depth ends closers end closer (omega (arith, s .ends-size)) (omega (arith, s .closers-size))))
-                      (takes .entered last bracket (turned ∙ f) .1);
+                      (takes .entered bracket last (turned ∙ f) .1);
                   writing = writing-put (printed r store) after-comma b;
                   deep = omega arith;
                   ends-size = length-set ends depth end ∙ s .ends-size;

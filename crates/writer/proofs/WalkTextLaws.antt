@@ -54,7 +54,8 @@ frames-push d ends closers e c h k =
     ∙ ap₂ (λ (x y : ℕ). within x y (frames d (set ends d e) (set closers d c))) (getD-set-same ends d e 0 h) (getD-set-same closers d c 0 k)
     ∙ ap (within e c) (frames-below d d ends closers e c (omega arith))
 
-pub frames-pop : (d : ℕ) (ends closers : List ℕ) → 0 < d → frames d ends closers ≡ within (getD ends (d - 1) 0) (getD closers (d - 1) 0) (frames (d - 1) ends closers)
+pub frames-pop : (d : ℕ) (ends closers : List ℕ) → 0 < d
+    → frames d ends closers ≡ within (getD ends (d - 1) 0) (getD closers (d - 1) 0) (frames (d - 1) ends closers)
 unfolding frames
 frames-pop zero ends closers h = absurd (omega arith)
 frames-pop (suc d) ends closers h =
@@ -77,7 +78,7 @@ module _ (rs : List Record) (store : List ℕ) where
         → Prints (i + 1) comma′ end closer around u → Prints i comma end closer around t
     enter : {i : ℕ} {comma : Bool} {end closer : ℕ} {around : Stack} {t : List ℕ} (end′ closer′ : ℕ) (u : List ℕ) → i < end → i < length rs
         → height around < depthLimit
-        → effectOf (getD rs i Record.Null) ≡ Effect.Open end′ closer′ → t ≡ commaText comma ++ printed (getD rs i Record.Null) store ++ u
+        → effectOf (getD rs i Record.Null) ≡ Effect.Open closer′ end′ → t ≡ commaText comma ++ printed (getD rs i Record.Null) store ++ u
         → Prints (i + 1) false end′ closer′ (within end closer around) u → Prints i comma end closer around t
 
   -- the record at i
@@ -98,12 +99,13 @@ module _ (rs : List Record) (store : List ℕ) where
       pass comma′ u h (s .inside) (ap effectOf (s .is) ∙ e) (ap (λ (x : Record). commaText comma ++ printed x store ++ u) (sym (s .is))) k
 
   enters : (r : Record) (comma : Bool) (i end closer end′ closer′ : ℕ) (around : Stack) (u : List ℕ) → Stands i r → i < end → height around < depthLimit
-      → effectOf r ≡ Effect.Open end′ closer′
+      → effectOf r ≡ Effect.Open closer′ end′
       → Prints (i + 1) false end′ closer′ (within end closer around) u → Prints i comma end closer around (commaText comma ++ printed r store ++ u)
   enters r comma i end closer end′ closer′ around u s h d e k =
       enter end′ closer′ u h (s .inside) d (ap effectOf (s .is) ∙ e) (ap (λ (x : Record). commaText comma ++ printed x store ++ u) (sym (s .is))) k
 
-  prints-as : {i j : ℕ} {comma : Bool} {end closer : ℕ} {around : Stack} {t u : List ℕ} → i ≡ j → t ≡ u → Prints i comma end closer around t → Prints j comma end closer around u
+  prints-as : {i j : ℕ} {comma : Bool} {end closer : ℕ} {around : Stack} {t u : List ℕ} → i ≡ j → t ≡ u
+      → Prints i comma end closer around t → Prints j comma end closer around u
   prints-as {i} {j} {comma} {end} {closer} {around} {t} {u} e f p =
       subst (λ (x : ℕ). Prints x comma end closer around u) e (subst (λ (x : List ℕ). Prints i comma end closer around x) f p)
 
@@ -164,7 +166,8 @@ module _ (rs : List Record) (store : List ℕ) where
         start = l .start;
       }
 
-  right-lies : (a b : List Record) (x y : List ℕ) {i at : ℕ} (j at′ : ℕ) → Lies (a ++ b) i (x ++ y) at → i + length a ≡ j → at + length x ≡ at′ → Lies b j y at′
+  right-lies : (a b : List Record) (x y : List ℕ) {i at : ℕ} (j at′ : ℕ)
+      → Lies (a ++ b) i (x ++ y) at → i + length a ≡ j → at + length x ≡ at′ → Lies b j y at′
   right-lies a b x y {i} {at} j at′ l e f =
       record {
         pre = l .pre ++ a;
@@ -190,15 +193,18 @@ module _ (rs : List Record) (store : List ℕ) where
         → i + records m ≤ end → height around + depth m ≤ depthLimit
         → Prints (i + records m) true end closer around t → Prints i comma end closer around (commaText comma ++ canonical m ++ t)
     value-prints null i at l comma end closer around t h d k = passes Record.Null comma true i end closer around t (first Record.Null l) (omega arith) refl k
-    value-prints (bool b) i at l comma end closer around t h d k = passes (Record.Bool b) comma true i end closer around t (first (Record.Bool b) l) (omega arith) refl k
+    value-prints (bool b) i at l comma end closer around t h d k =
+        passes (Record.Bool b) comma true i end closer around t (first (Record.Bool b) l) (omega arith) refl k
     value-prints (number n) i at l comma end closer around t h d k =
         passes (Record.Number n) comma true i end closer around t (first (Record.Number n) l) (omega arith) refl k
     value-prints (string s) i at l comma end closer around t h d k =
         let r = Record.Str (length s) at in
-        prints-as refl (ap (λ (x : List ℕ). commaText comma ++ quoted x ++ t) (part-text l)) (passes r comma true i end closer around t (first r l) (omega arith) refl k)
+        prints-as refl (ap (λ (x : List ℕ). commaText comma ++ quoted x ++ t) (part-text l))
+        (passes r comma true i end closer around t (first r l) (omega arith) refl k)
     value-prints (binary s) i at l comma end closer around t h d k =
         let r = Record.Bin (length s) at in
-        prints-as refl (ap (λ (x : List ℕ). commaText comma ++ binaryText x ++ t) (part-text l)) (passes r comma true i end closer around t (first r l) (omega arith) refl k)
+        prints-as refl (ap (λ (x : List ℕ). commaText comma ++ binaryText x ++ t) (part-text l))
+        (passes r comma true i end closer around t (first r l) (omega arith) refl k)
     value-prints (time x) i at l comma end closer around t h d k =
         passes (Record.Time x) comma true i end closer around t (first (Record.Time x) l) (omega arith) refl k
     value-prints (array ms) i at l comma end closer around t h d k =
@@ -214,7 +220,8 @@ module _ (rs : List Record) (store : List ℕ) where
         let last = endOf i (membersRecords ms) in
         let r = Record.Object last in
         let back : Prints last true end closer around t = prints-as (omega arith) refl k in
-        let closed : Prints last (commaAfterMembers ms) last (ch "}") (within end closer around) (ch "}" ∷ t) = close end closer around t refl refl refl back in
+        let closed : Prints last (commaAfterMembers ms) last (ch "}") (within end closer around) (ch "}" ∷ t) =
+        close end closer around t refl refl refl back in
         let inner =
         members-print ms (i + 1) at (rest-lies r l) last (ch "}") (within end closer around) (ch "}" ∷ t) (omega arith) (omega arith) closed in
         prints-as refl (bracketed (commaText comma) (letters "{") (membersText ms) (ch "}") t)
@@ -261,13 +268,15 @@ module _ (rs : List Record) (store : List ℕ) where
         let named = passes key (commaAfterMembers ms) false i′ end closer around then (first key one) (omega (arith, some-record m)) refl value in
         let text = commaText (commaAfterMembers ms) ++ printed key store ++ then in
         prints-as refl
-        (ap₂ (λ (c x : List ℕ). membersText ms ++ (c ++ (quoted x ++ letters ":") ++ (canonical m ++ t))) (members-comma-is ms) (part-text one) ∙ simp append-assoc)
+        (ap₂ (λ (c x : List ℕ). membersText ms ++ (c ++ (quoted x ++ letters ":") ++ (canonical m ++ t))) (members-comma-is ms) (part-text one)
+        ∙ simp append-assoc)
         (members-print ms i at front end closer around text (omega (arith, some-record m)) (omega (arith, most-left (membersDepth ms) (depth m))) named)
 
   -- ---- and what comes at a state, from the text that comes
 
   -- the walk ends
-  pub prints-done : {i : ℕ} {comma : Bool} {end closer : ℕ} {around : Stack} {t : List ℕ} → Prints i comma end closer around t → i ≡ end → around ≡ bottom → t ≡ []
+  pub prints-done : {i : ℕ} {comma : Bool} {end closer : ℕ} {around : Stack} {t : List ℕ}
+      → Prints i comma end closer around t → i ≡ end → around ≡ bottom → t ≡ []
   prints-done (done e s x) h b = x
   prints-done (close f c s u e a x k) h b = let z : _≡_ {A = ℕ} 0 1 = cc in absurd (omega arith)
   prints-done (pass c u l j e x k) h b = absurd (omega arith)
@@ -278,8 +287,8 @@ module _ (rs : List Record) (store : List ℕ) where
     pub text : t ≡ closer ∷ rest
     pub next : Prints i true end′ closer′ around′ rest
 
-  pub prints-close : {i : ℕ} {comma : Bool} {end closer : ℕ} {around : Stack} {t : List ℕ} (end′ closer′ : ℕ) (around′ : Stack) → Prints i comma end closer around t
-      → i ≡ end → around ≡ within end′ closer′ around′ → Closes i closer end′ closer′ around′ t
+  pub prints-close : {i : ℕ} {comma : Bool} {end closer : ℕ} {around : Stack} {t : List ℕ} (end′ closer′ : ℕ) (around′ : Stack)
+      → Prints i comma end closer around t → i ≡ end → around ≡ within end′ closer′ around′ → Closes i closer end′ closer′ around′ t
   prints-close end′ closer′ around′ (done e s x) h b = let z : _≡_ {A = ℕ} 0 1 = cc in absurd (omega arith)
   prints-close {i} end′ closer′ around′ (close f c s u e a x k) h b =
       let z : f ≡ end′ = cc in
@@ -301,7 +310,7 @@ module _ (rs : List Record) (store : List ℕ) where
     pub rest : List ℕ
     pub text : t ≡ commaText comma ++ printed (getD rs i Record.Null) store ++ rest
     pub passed : (due : Bool) → effectOf (getD rs i Record.Null) ≡ Effect.Pass due → Prints (i + 1) due end closer around rest
-    pub entered : (end′ closer′ : ℕ) → effectOf (getD rs i Record.Null) ≡ Effect.Open end′ closer′
+    pub entered : (closer′ end′ : ℕ) → effectOf (getD rs i Record.Null) ≡ Effect.Open closer′ end′
         → (height around < depthLimit) × Prints (i + 1) false end′ closer′ (within end closer around) rest
 
   -- a record comes
@@ -316,7 +325,7 @@ module _ (rs : List Record) (store : List ℕ) where
         rest = u;
         text = x;
         passed = λ due q. let z : c ≡ due = cc in subst (λ (v : Bool). Prints (i + 1) v end closer around u) z k;
-        entered = λ f g q. let z : _≡_ {A = ℕ} 0 1 = cc in absurd (omega arith);
+        entered = λ g f q. let z : _≡_ {A = ℕ} 0 1 = cc in absurd (omega arith);
       }
   prints-take {i} {end = end} {closer = closer} {around = around} (enter f c u l j d e x k) h =
       record {
@@ -325,14 +334,16 @@ module _ (rs : List Record) (store : List ℕ) where
         rest = u;
         text = x;
         passed = λ due q. let z : _≡_ {A = ℕ} 0 1 = cc in absurd (omega arith);
-        entered = λ f′ c′ q.
+        entered = λ c′ f′ q.
             let z : f ≡ f′ = cc in
             let y : c ≡ c′ = cc in
-            (d, subst (λ (v : ℕ). Prints (i + 1) false f′ v (within end closer around) u) y (subst (λ (v : ℕ). Prints (i + 1) false v c (within end closer around) u) z k));
+            let w = subst (λ (v : ℕ). Prints (i + 1) false v c (within end closer around) u) z k in
+            (d, subst (λ (v : ℕ). Prints (i + 1) false f′ v (within end closer around) u) y w);
       }
 
 -- the whole text of a meaning that is not too deep
-pub prints-all : (m : Meaning) (store : List ℕ) → store ≡ storeOf m → depth m ≤ depthLimit → Prints (recordsOf m 0 0) store 0 false (records m) 0 bottom (canonical m)
+pub prints-all : (m : Meaning) (store : List ℕ) → store ≡ storeOf m → depth m ≤ depthLimit
+    → Prints (recordsOf m 0 0) store 0 false (records m) 0 bottom (canonical m)
 unfolding height
 prints-all m store e h =
     let rs = recordsOf m 0 0 in

@@ -27,11 +27,11 @@ struct Trimmed {
     digits: u64,
 }
 
-// What a record does to the walk: it is passed, and a comma comes next or not; or a container opens, with its end and
-// the bracket that closes it.
+// What a record does to the walk: it is passed, and a comma comes next or not; or a container opens, with the bracket
+// that closes it and its end.
 enum Effect {
     Pass(bool),
-    Open { end: usize, closer: u8 },
+    Open { closer: u8, end: usize },
 }
 
 // The first record with no JSON form.

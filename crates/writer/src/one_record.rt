@@ -18,7 +18,7 @@ use crate::time_value;
 use meaning::Number;
 use meaning::Record;
 
-// A comma is due after all but a key; a container gives its end and the bracket that closes it.
+// A comma is due after all but a key; a container gives the bracket that closes it and its end.
 pub fn effect_of(r: Record) -> Effect
     ensures { λ t. ⌜ t ≡ effectOf r ⌝ }
 {
@@ -40,12 +40,12 @@ pub fn effect_of(r: Record) -> Effect
         } => Effect::Pass(true),
         Record::Time(_) => Effect::Pass(true),
         Record::Array { end } => Effect::Open {
-            end: end,
             closer: b']',
+            end: end,
         },
         Record::Object { end } => Effect::Open {
-            end: end,
             closer: b'}',
+            end: end,
         },
     }
 }

@@ -25,7 +25,8 @@ pub fn text_len(tape: &[u8], store: &[u8]) -> usize
     total - 1
 }
 
-// The ends of the open containers and the brackets that close them stand in two arrays; the innermost by itself.
+// The ends of the open containers and the brackets that close them stand in two arrays; those of the innermost in `until`
+// and `bracket`. A record is read after its comma and counted before it is printed: so a round is shortest.
 pub fn write_records(out: &mut [u8], tape: &[u8], store: &[u8]) -> usize
     requires { ⌜ TextFits (now tape) (now store) (length (now out)) ⌝ }
     ensures { λ r. ⌜ TextPut (now (tape .entry)) (now (store .entry)) (now (out .entry)) (now (out .exit)) r ⌝ }
@@ -33,43 +34,36 @@ pub fn write_records(out: &mut [u8], tape: &[u8], store: &[u8]) -> usize
     let mut ends: [usize; DEPTH_LIMIT] = [0; DEPTH_LIMIT];
     let mut closers: [u8; DEPTH_LIMIT] = [0; DEPTH_LIMIT];
     let mut depth: usize = 0;
-    let mut end = tape.len() / RECORD_SIZE;
-    let mut closer: u8 = 0;
+    let mut until = tape.len() / RECORD_SIZE;
+    let mut bracket: u8 = 0;
     let mut comma = false;
     let mut at: usize = 0;
     let mut i: usize = 0;
     loop {
-        if i == end {
-            if depth == 0 {
-                return at;
-            }
-            at = byte_or_digit::byte_at(out, at, closer);
-            depth -= 1;
-            end = ends[depth];
-            closer = closers[depth];
-            comma = true;
-        } else {
+        if i != until {
             let piece = one_record::comma_at(out, at, comma);
             let r = tape::record_at(tape, i);
+            i += 1;
             at = one_record::printed_at(out, piece, r, store);
             match one_record::effect_of(r) {
-                Effect::Pass(due) => {
-                    comma = due;
-                    i += 1;
-                }
-                Effect::Open {
-                    end: last,
-                    closer: bracket,
-                } => {
-                    ends[depth] = end;
-                    closers[depth] = closer;
+                Effect::Pass(due) => comma = due,
+                Effect::Open { closer, end } => {
+                    ends[depth] = until;
+                    closers[depth] = bracket;
                     depth += 1;
-                    end = last;
-                    closer = bracket;
+                    until = end;
+                    bracket = closer;
                     comma = false;
-                    i += 1;
                 }
             }
+        } else if depth == 0 {
+            return at;
+        } else {
+            at = byte_or_digit::byte_at(out, at, bracket);
+            depth -= 1;
+            until = ends[depth];
+            bracket = closers[depth];
+            comma = true;
         }
     }
 }

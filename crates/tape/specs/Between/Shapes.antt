@@ -50,9 +50,11 @@ notFinite mid = cond (eqb mid 0) NotANumber (cond (eqb mid 2) (Infinite true) (I
 abbrev pub dateOf : ℕ → ℕ → Date
 dateOf low mid = record { year = low; month = mid % 256; day = mid / 256 % 256 }
 
--- the one record that may have these four numbers: a container or null; or else a time; or else one with bytes in the store; any
+-- the one record that may have these four numbers: a container or null; or else a time; or else one with bytes in the
+-- store; any
 abbrev pub containerOf : ℕ → ℕ → Record
-containerOf a high = cond (eqb a (mark "a" "r")) (Record.Array high) (cond (eqb a (mark "o" "b")) (Record.Object high) Record.Null)
+containerOf a high =
+    cond (eqb a (mark "a" "r")) (Record.Array high) (cond (eqb a (mark "o" "b")) (Record.Object high) Record.Null)
 
 abbrev pub timeOf : ℕ → ℕ → ℕ → ℕ → Record
 timeOf a low mid high =

@@ -58,5 +58,6 @@ pub data Tested (P : Type 0) (t : Turn) : Turn → Type 0 where
 
 -- the turn of the record at this index, if one stands there
 pub data Steps (tape store : List ℕ) (index at depth state : ℕ) : Turn → Type 0 where
-  stands : {t : Turn} (r : Record) → RecordAt tape store index r → t ≡ turnOf r at depth state → Steps tape store index at depth state t
+  stands : {t : Turn} (r : Record) → RecordAt tape store index r → t ≡ turnOf r at depth state
+      → Steps tape store index at depth state t
   none : ((r : Record) → RecordAt tape store index r → ⊥) → Steps tape store index at depth state Turn.No

@@ -7,7 +7,8 @@ use Rattle.tape_damage.proofs.sweep.Statement.{statement}
 use Rattle.tape_damage.proofs.sweep.Tie as tie
 
 abbrev Inv-loop : tie.InvT-loop
-Inv-loop t₀ s k faults₀ well₀ good₀ was index v₀ t faults well good v = (v ≤ 256) × (faults ≤ v) × (well ≤ v) × (good ≤ v) × (k < length t₀) × (length t ≡ length t₀)
+Inv-loop t₀ s k faults₀ well₀ good₀ was index v₀ t faults well good v =
+    (v ≤ 256) × (faults ≤ v) × (well ≤ v) × (good ≤ v) × (k < length t₀) × (length t ≡ length t₀)
 
 abbrev μ-loop : tie.MeasureT-loop
 μ-loop t₀ s k faults₀ well₀ good₀ was index v₀ t faults well good v = 256 - v

@@ -39,8 +39,8 @@ abbrev pub commaText : Bool → List ℕ
 commaText true = letters ","
 commaText false = []
 
--- what it does to the walk: it is passed, and a comma comes next or not; or a container opens, with its end and the
--- bracket that closes it
+-- what it does to the walk: it is passed, and a comma comes next or not; or a container opens, with the bracket that
+-- closes it and its end
 unfoldable pub effectOf : Record → Effect
 effectOf Record.Null = Effect.Pass true
 effectOf (Record.Bool b) = Effect.Pass true
@@ -49,11 +49,11 @@ effectOf (Record.Str size start) = Effect.Pass true
 effectOf (Record.Key size start) = Effect.Pass false
 effectOf (Record.Bin size start) = Effect.Pass true
 effectOf (Record.Time t) = Effect.Pass true
-effectOf (Record.Array end) = Effect.Open end (ch "]")
-effectOf (Record.Object end) = Effect.Open end (ch "}")
+effectOf (Record.Array end) = Effect.Open (ch "]") end
+effectOf (Record.Object end) = Effect.Open (ch "}") end
 
--- Count a comma after every value: the last one inside a container stands for its closing bracket, so that only an empty
--- container counts one byte more. A text has one byte less than its records count.
+-- Count a comma after every value: the last one inside a container stands for its closing bracket, so that only an
+-- empty container counts one byte more. A text has one byte less than its records count.
 unfoldable pub closes : ℕ → ℕ → ℕ
 closes end index = cond (eqb end (index + 1)) 2 1
 
