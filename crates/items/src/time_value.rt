@@ -176,7 +176,13 @@ fn local_date_time(q: usize, d: Date, c: Clock, at: usize) -> Scanned
 {
     if is_date(d) {
         if is_clock(c) {
-            return time(Time::LocalDateTime(d, time_of_day(c)), at);
+            return time(
+                Time::LocalDateTime {
+                    date: d,
+                    clock: time_of_day(c),
+                },
+                at,
+            );
         }
         return Scanned::Refused(Refusal::BadTime(q));
     }
@@ -190,7 +196,14 @@ fn offset_date_time(q: usize, d: Date, c: Clock, offset: i16, at: usize) -> Scan
 {
     if is_date(d) {
         if is_clock(c) {
-            return time(Time::OffsetDateTime(d, time_of_day(c), offset), at);
+            return time(
+                Time::OffsetDateTime {
+                    date: d,
+                    clock: time_of_day(c),
+                    offset,
+                },
+                at,
+            );
         }
         return Scanned::Refused(Refusal::BadTime(q));
     }

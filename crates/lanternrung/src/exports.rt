@@ -219,8 +219,12 @@ fn time_fields(t: Time) -> Fields
             clock,
             0,
         ),
-        Time::LocalDateTime(d, clock) => dated(10, d, clock, 0),
-        Time::OffsetDateTime(d, clock, offset) => dated(11, d, clock, offset as i32),
+        Time::LocalDateTime { date: d, clock } => dated(10, d, clock, 0),
+        Time::OffsetDateTime {
+            date: d,
+            clock,
+            offset,
+        } => dated(11, d, clock, offset as i32),
     }
 }
 

@@ -54,8 +54,8 @@ pub struct Date {
 pub enum Time {
     LocalDate(Date),
     LocalTime(u64),
-    LocalDateTime(Date, u64),
-    OffsetDateTime(Date, u64, i16),
+    LocalDateTime { date: Date, clock: u64 },
+    OffsetDateTime { date: Date, clock: u64, offset: i16 },
 }
 
 // The refusals (docs/FORMAT.md, 10.1), each with what its place is made of.

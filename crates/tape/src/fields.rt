@@ -87,10 +87,12 @@ pub fn good_time(t: Time) -> bool
     match t {
         Time::LocalDate(d) => good_date(d),
         Time::LocalTime(clock) => good_clock(clock),
-        Time::LocalDateTime(d, clock) => good_clock(clock) && good_date(d),
-        Time::OffsetDateTime(d, clock, offset) => good_clock(clock)
-            && good_offset(offset)
-            && good_date(d),
+        Time::LocalDateTime { date: d, clock } => good_clock(clock) && good_date(d),
+        Time::OffsetDateTime {
+            date: d,
+            clock,
+            offset,
+        } => good_clock(clock) && good_offset(offset) && good_date(d),
     }
 }
 

@@ -99,13 +99,17 @@ fn time_words(t: Time) -> Words
             mid: 0,
             high: clock,
         },
-        Time::LocalDateTime(d, clock) => Words {
+        Time::LocalDateTime { date: d, clock } => Words {
             mark: DT,
             low: d.year as u64,
             mid: month_day(d, 0),
             high: clock,
         },
-        Time::OffsetDateTime(d, clock, offset) => {
+        Time::OffsetDateTime {
+            date: d,
+            clock,
+            offset,
+        } => {
             Words {
                 mark: OD,
                 low: d.year as u64,
@@ -234,14 +238,17 @@ fn time_of(w: Words) -> Record
         return Record::Time(Time::LocalTime(high));
     }
     if mark == DT {
-        return Record::Time(Time::LocalDateTime(date_of(low, mid), high));
+        return Record::Time(Time::LocalDateTime {
+            date: date_of(low, mid),
+            clock: high,
+        });
     }
     if mark == OD {
-        return Record::Time(Time::OffsetDateTime(
-            date_of(low, mid),
-            high,
-            little_endian::signed16((mid / 65536) as u16),
-        ));
+        return Record::Time(Time::OffsetDateTime {
+            date: date_of(low, mid),
+            clock: high,
+            offset: little_endian::signed16((mid / 65536) as u16),
+        });
     }
     container_of(w)
 }

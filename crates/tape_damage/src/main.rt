@@ -286,15 +286,15 @@ fn fill_middle(t: &mut [u8]) {
     tape::put_record(
         t,
         6,
-        Record::Time(Time::OffsetDateTime(
-            Date {
+        Record::Time(Time::OffsetDateTime {
+            date: Date {
                 year: 2021,
                 month: 3,
                 day: 4,
             },
-            18367500000000,
-            -60,
-        )),
+            clock: 18367500000000,
+            offset: -60,
+        }),
     );
     tape::put_record(
         t,

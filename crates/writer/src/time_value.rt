@@ -143,12 +143,16 @@ pub fn write_time(out: &mut [u8], t: Time) -> usize
     match t {
         Time::LocalDate(d) => date_at(out, 0, d),
         Time::LocalTime(clock) => clock_at(out, 0, clock),
-        Time::LocalDateTime(d, clock) => {
+        Time::LocalDateTime { date: d, clock } => {
             let letter = date_at(out, 0, d);
             let first = byte_or_digit::byte_at(out, letter, b'T');
             clock_at(out, first, clock)
         }
-        Time::OffsetDateTime(d, clock, offset) => {
+        Time::OffsetDateTime {
+            date: d,
+            clock,
+            offset,
+        } => {
             let letter = date_at(out, 0, d);
             let first = byte_or_digit::byte_at(out, letter, b'T');
             let after = clock_at(out, first, clock);
@@ -164,8 +168,12 @@ pub fn time_len(t: Time) -> usize
     match t {
         Time::LocalDate(_) => 10,
         Time::LocalTime(clock) => clock_len(clock),
-        Time::LocalDateTime(_, clock) => 11 + clock_len(clock),
-        Time::OffsetDateTime(_, clock, offset) => 11 + clock_len(clock) + offset_len(offset),
+        Time::LocalDateTime { date: _, clock } => 11 + clock_len(clock),
+        Time::OffsetDateTime {
+            date: _,
+            clock,
+            offset,
+        } => 11 + clock_len(clock) + offset_len(offset),
     }
 }
 
