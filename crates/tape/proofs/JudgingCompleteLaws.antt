@@ -13,7 +13,9 @@ use Rattle.meaning.specs.Good.{depth, elementsDepth, membersDepth}
 use Rattle.meaning.specs.Tape.{records, elementsRecords, membersRecords, storeOf, elementsStore, membersStore, endOf, recordsOf, elementsOf, membersOf}
 use Rattle.meaning.proofs.Bytes.{part-is}
 use Rattle.meaning.proofs.Sizes.{most-left, most-right, some-record}
-use Rattle.tape.proofs.JudgingMachineLaws.{Frame, root, inArray, inObject, Conf, nothing, elements, members, keyed, broken, says, nay, Kind, ofValues, ofMembers, Act, leaf, name, opens, slot, put, key, begin, enter, give, settle, give-put, sizeOf, startOf, does, part, actOf, push, finish, run, run-settle}
+use Rattle.tape.proofs.JudgingMachineLaws.{Frame, root, inArray, inObject, Conf, nothing, elements, members, keyed, broken, says, nay, Kind, ofValues}
+use Rattle.tape.proofs.JudgingMachineLaws.{ofMembers, Act, leaf, name, opens, slot, put, key, begin, enter, give, settle, give-put, sizeOf, startOf}
+use Rattle.tape.proofs.JudgingMachineLaws.{does, part, actOf, push, finish, run, run-settle}
 
 module _ (store : List ℕ) where
   -- one record that starts here
@@ -125,7 +127,8 @@ module _ (store : List ℕ) where
         ap (λ (l : List Record). run store l i at (members e bare fs))
         (append-assoc (membersOf ms i at ++ (Record.Key (length k) at′ ∷ [])) (recordsOf m (i′ + 1) (at′ + length k)) rest
         ∙ append-assoc (membersOf ms i at) (Record.Key (length k) at′ ∷ []) after)
-        ∙ pairs ms i at e fs pre (k ++ (storeOf m ++ post)) (Record.Key (length k) at′ ∷ after) (omega arith) (omega (arith, most-left (membersDepth ms) (depth m)))
+        ∙ pairs ms i at e fs pre (k ++ (storeOf m ++ post)) (Record.Key (length k) at′ ∷ after) (omega arith)
+        (omega (arith, most-left (membersDepth ms) (depth m)))
         (q ∙ simp append-assoc) a
         ∙ key-step k e ms fs i′ at′ after n (part-is store (pre ++ membersStore ms) k (storeOf m ++ post) q′ at′ a′)
         ∙ value m (i′ + 1) (at′ + length k) (keyed e ms k fs) (inObject e ms k) fs ((pre ++ membersStore ms) ++ k) post rest

@@ -15,7 +15,9 @@ use Rattle.meaning.specs.Good.{depth, elementsDepth, membersDepth}
 use Rattle.meaning.specs.Tape.{records, elementsRecords, membersRecords, storeOf, elementsStore, membersStore, recordsOf, elementsOf, membersOf}
 use Rattle.meaning.proofs.Sizes.{most-least}
 use Rattle.tape.specs.Between.Turns.{bytesEnd}
-use Rattle.tape.proofs.JudgingMachineLaws.{Frame, root, inArray, inObject, Conf, nothing, whole, elements, members, keyed, broken, says, nay, Kind, ofValues, ofMembers, slot, put, key, begin, enter, give, settle, sizeOf, startOf, does, part, actOf, push, finish, run}
+use Rattle.tape.proofs.JudgingMachineLaws.{Frame, root, inArray, inObject, Conf, nothing, whole, elements, members, keyed, broken, says, nay, Kind}
+use Rattle.tape.proofs.JudgingMachineLaws.{ofValues, ofMembers, slot, put, key, begin, enter, give, settle, sizeOf, startOf, does, part, actOf, push}
+use Rattle.tape.proofs.JudgingMachineLaws.{finish, run}
 
 -- how many records open containers have taken, the bytes that they hold, and the records themselves
 unfoldable pub taken : List Frame → ℕ
@@ -66,7 +68,8 @@ module _ (store : List ℕ) where
       Tell (flat (inArray e ms ∷ fs)) (taken (inArray e ms ∷ fs)) (held (inArray e ms ∷ fs)) i at past
       × ((elementsDepth ms + length fs ≤ depthLimit) × Shallow fs)
   Fair (members e ms fs) i at past =
-      Tell (flat fs ++ (Record.Object e ∷ membersOf ms (taken fs + 1) (length (held fs)))) (taken fs + 1 + membersRecords ms) (held fs ++ membersStore ms) i at past
+      Tell (flat fs ++ (Record.Object e ∷ membersOf ms (taken fs + 1) (length (held fs)))) (taken fs + 1 + membersRecords ms) (held fs ++ membersStore ms) i at
+      past
       × ((membersDepth ms + length fs ≤ depthLimit) × Shallow fs)
   Fair (keyed e ms k fs) i at past =
       Tell (flat (inObject e ms k ∷ fs)) (taken (inObject e ms k ∷ fs)) (held (inObject e ms k ∷ fs)) i at past
@@ -94,8 +97,10 @@ module _ (store : List ℕ) where
   set-down m root fs i at past t d u = (record { told = t .told; counted = omega arith; kept = t .kept; upto = t .upto }, omega arith)
   set-down m (inArray e ms) fs i at past t d u = (
     record {
-      told = sym (append-assoc (flat fs) (Record.Array e ∷ elementsOf ms (taken fs + 1) (length (held fs))) (recordsOf m (taken fs + 1 + elementsRecords ms) (length (held fs) + length (elementsStore ms))))
-          ∙ ap (λ (n : ℕ). flat fs ++ (Record.Array e ∷ elementsOf ms (taken fs + 1) (length (held fs))) ++ recordsOf m (taken fs + 1 + elementsRecords ms) n) (sym (length-append (held fs) (elementsStore ms)))
+      told = sym (append-assoc (flat fs) (Record.Array e ∷ elementsOf ms (taken fs + 1) (length (held fs)))
+          (recordsOf m (taken fs + 1 + elementsRecords ms) (length (held fs) + length (elementsStore ms))))
+          ∙ ap (λ (n : ℕ). flat fs ++ (Record.Array e ∷ elementsOf ms (taken fs + 1) (length (held fs))) ++ recordsOf m (taken fs + 1 + elementsRecords ms) n)
+          (sym (length-append (held fs) (elementsStore ms)))
           ∙ t .told;
       counted = omega arith;
       kept = t .kept ∙ (simp append-assoc);
@@ -105,8 +110,11 @@ module _ (store : List ℕ) where
   )
   set-down m (inObject e ms k) fs i at past t d u = (
     record {
-      told = regroup (flat fs) (membersOf ms (taken fs + 1) (length (held fs))) (Record.Key (length k) (length (held fs) + length (membersStore ms)) ∷ []) (recordsOf m (taken fs + 1 + membersRecords ms + 1) (length (held fs) + length (membersStore ms) + length k)) (Record.Object e)
-          ∙ ap (λ (n : ℕ). flat fs ++ (Record.Object e ∷ membersOf ms (taken fs + 1) (length (held fs))) ++ (Record.Key (length k) (length (held fs) + length (membersStore ms)) ∷ []) ++ recordsOf m (taken fs + 1 + membersRecords ms + 1) n) (sym (length-append (held fs ++ membersStore ms) k ∙ ap (λ (x : ℕ). x + length k) (length-append (held fs) (membersStore ms))))
+      told = regroup (flat fs) (membersOf ms (taken fs + 1) (length (held fs))) (Record.Key (length k) (length (held fs) + length (membersStore ms)) ∷ [])
+          (recordsOf m (taken fs + 1 + membersRecords ms + 1) (length (held fs) + length (membersStore ms) + length k)) (Record.Object e)
+          ∙ ap (λ (n : ℕ). flat fs ++ (Record.Object e ∷ membersOf ms (taken fs + 1) (length (held fs)))
+          ++ (Record.Key (length k) (length (held fs) + length (membersStore ms)) ∷ []) ++ recordsOf m (taken fs + 1 + membersRecords ms + 1) n)
+          (sym (length-append (held fs ++ membersStore ms) k ∙ ap (λ (x : ℕ). x + length k) (length-append (held fs) (membersStore ms))))
           ∙ t .told;
       counted = omega arith;
       kept = t .kept ∙ (simp append-assoc);
@@ -128,7 +136,8 @@ module _ (store : List ℕ) where
   }
 
   tell-object : (e : ℕ) (ms : Members) (fs : List Frame) (i at : ℕ) (past : List Record) → e ≡ i
-      → Tell (flat fs ++ (Record.Object e ∷ membersOf ms (taken fs + 1) (length (held fs)))) (taken fs + 1 + membersRecords ms) (held fs ++ membersStore ms) i at past
+      → Tell (flat fs ++ (Record.Object e ∷ membersOf ms (taken fs + 1) (length (held fs)))) (taken fs + 1 + membersRecords ms) (held fs ++ membersStore ms) i
+      at past
       → Tell (flat fs ++ recordsOf (object ms) (taken fs) (length (held fs))) (taken fs + records (object ms)) (held fs ++ storeOf (object ms)) i at past
   unfolding flat taken held recordsOf records storeOf
   tell-object e ms fs i at past q t = record {
@@ -144,12 +153,14 @@ module _ (store : List ℕ) where
       Tell (flat (f ∷ fs) ++ recordsOf m (taken (f ∷ fs)) (length (held (f ∷ fs)))) (taken (f ∷ fs) + records m) (held (f ∷ fs) ++ storeOf m) i at past
       × ((depth m + length fs ≤ depthLimit) × Shallow (f ∷ fs))
 
-  ready-array : (fs : List Frame) (e : ℕ) (ms : Meanings) (i at : ℕ) (past : List Record) → e ≡ i → Fair (elements e ms fs) i at past → Ready (array ms) fs i at past
+  ready-array : (fs : List Frame) (e : ℕ) (ms : Meanings) (i at : ℕ) (past : List Record) → e ≡ i → Fair (elements e ms fs) i at past
+      → Ready (array ms) fs i at past
   unfolding depth
   ready-array [] e ms i at past q g = omega arith
   ready-array (f ∷ fs) e ms i at past q g = (tell-array e ms (f ∷ fs) i at past q (g .0), (omega (arith, g .1 .0), g .1 .1))
 
-  ready-object : (fs : List Frame) (e : ℕ) (ms : Members) (i at : ℕ) (past : List Record) → e ≡ i → Fair (members e ms fs) i at past → Ready (object ms) fs i at past
+  ready-object : (fs : List Frame) (e : ℕ) (ms : Members) (i at : ℕ) (past : List Record) → e ≡ i → Fair (members e ms fs) i at past
+      → Ready (object ms) fs i at past
   unfolding depth
   ready-object [] e ms i at past q g = omega arith
   ready-object (f ∷ fs) e ms i at past q g = (tell-object e ms (f ∷ fs) i at past q (g .0), (omega (arith, g .1 .0), g .1 .1))
@@ -190,7 +201,8 @@ module _ (store : List ℕ) where
       let t = s .0 in
       set-down m f fs (i + 1) at′ (past ++ (r ∷ []))
       (record {
-        told = ap₂ (λ (x : List Record) (y : ℕ). x ++ recordsOf m (taken (f ∷ fs)) y) (t .told) (t .upto) ∙ ap (λ (x : List Record). past ++ x) (q (taken (f ∷ fs)));
+        told = ap₂ (λ (x : List Record) (y : ℕ). x ++ recordsOf m (taken (f ∷ fs)) y) (t .told) (t .upto)
+            ∙ ap (λ (x : List Record). past ++ x) (q (taken (f ∷ fs)));
         counted = omega arith;
         kept = t .kept ∙ ap (λ (x : List ℕ). held (f ∷ fs) ++ x) k ∙ sym (append-assoc (held (f ∷ fs)) (storeOf m) (drop at′ store));
         upto = length-append (held (f ∷ fs)) (storeOf m) ∙ omega arith;
@@ -331,12 +343,14 @@ module _ (store : List ℕ) where
   AllInside [] = Unit {0}
   AllInside (r ∷ rs) = (bytesEnd r ≤ length store) × AllInside rs
 
-  sound-from : (rs : List Record) (c : Conf) (i at : ℕ) (past : List Record) (m : Meaning) → AllInside rs → Fair c i at past → run store rs i at c ≡ says m → Is m (past ++ rs)
+  sound-from : (rs : List Record) (c : Conf) (i at : ℕ) (past : List Record) (m : Meaning) → AllInside rs → Fair c i at past → run store rs i at c ≡ says m
+      → Is m (past ++ rs)
   unfolding run
   sound-from [] c i at past m h g e = rw (append-nil past) (ended (settle i c) i at past m (settled c i at past g) e)
   sound-from (r ∷ rs) c i at past m h g e =
       subst (λ (x : List Record). Is m x) (append-assoc past (r ∷ []) rs)
-      (sound-from rs (push store at (settle i c) r) (i + 1) (at + sizeOf r) (past ++ (r ∷ [])) m (h .1) (pushed (settle i c) r i at past (h .0) (settled c i at past g)) e)
+      (sound-from rs (push store at (settle i c) r) (i + 1) (at + sizeOf r) (past ++ (r ∷ [])) m (h .1)
+      (pushed (settle i c) r i at past (h .0) (settled c i at past g)) e)
 
   pub sound : (rs : List Record) (m : Meaning) → AllInside rs → run store rs 0 0 nothing ≡ says m → Is m rs
   sound rs m h e = sound-from rs nothing 0 0 [] m h (record { told = refl; counted = refl; kept = refl; upto = refl }) e

@@ -20,7 +20,9 @@ use Rattle.tape.specs.declared.Turn.{Turn}
 use Rattle.tape.specs.declared.Judged.{Judged}
 use Rattle.tape.specs.Between.Judging.{Judges, well, ill}
 use Rattle.tape.specs.Between.Turns.{afterValue, afterKey, passOf, passBytesOf, openOf, turnOf, Steps, stands, none}
-use Rattle.tape.proofs.JudgingMachineLaws.{Frame, root, inArray, inObject, Conf, nothing, whole, elements, members, keyed, broken, says, nay, Kind, ofValues, ofMembers, slot, put, key, begin, enter, give, settle, give-put, sizeOf, startOf, there, does, part, actOf, push, finish, run, run-settle, run-broken}
+use Rattle.tape.proofs.JudgingMachineLaws.{Frame, root, inArray, inObject, Conf, nothing, whole, elements, members, keyed, broken, says, nay, Kind}
+use Rattle.tape.proofs.JudgingMachineLaws.{ofValues, ofMembers, slot, put, key, begin, enter, give, settle, give-put, sizeOf, startOf, there, does, part}
+use Rattle.tape.proofs.JudgingMachineLaws.{actOf, push, finish, run, run-settle, run-broken}
 use Rattle.tape.proofs.JudgingWholeLaws.{readAt, read-is, recordsFrom, verdict, nay-ill, says-well-formed}
 
 -- no index: nothing is open
@@ -144,7 +146,8 @@ module _ (at : ℕ) where
   begun ofValues e next c f l b p h = record { f = f; state = refl; end = refl; frames = refl; kind = refl; last = l; bottom = b; place = p; room = h }
   begun ofMembers e next c f l b p h = record { f = f; state = refl; end = refl; frames = refl; kind = refl; last = l; bottom = b; place = p; room = h }
 
-  by-container : (c : Conf) (k : Kind) (e next : ℕ) → next ≡ at → Leads c at next (openOf (afterValue (stateOf c)) e (inner k) (length (framesOf c))) (enter k e (slot c))
+  by-container : (c : Conf) (k : Kind) (e next : ℕ) → next ≡ at → Leads c at next (openOf (afterValue (stateOf c)) e (inner k) (length (framesOf c)))
+      (enter k e (slot c))
   unfolding openOf afterValue slot enter stateOf endOf framesOf kindF endF
   by-container nothing k e next p =
       both nothing at next (ltb 0 depthLimit) _ _ _ _ (λ h. begun k e next nothing root refl refl p (ltb-true 0 depthLimit h)) (λ h. refl)
@@ -186,9 +189,12 @@ module _ (at : ℕ) where
   weighed store c Record.Null = plain c null
   weighed store c (Record.Bool b) = plain c (bool b)
   weighed store c (Record.Number n) = plain c (number n)
-  weighed store c (Record.Str size start) = by-bytes c (afterValue (stateOf c)) size start (put (string (part store at size)) (slot c)) (by-value c (string (part store at size)) (at + size))
-  weighed store c (Record.Key size start) = by-bytes c (afterKey (stateOf c)) size start (key (part store at size) c) (by-key c (part store at size) (at + size))
-  weighed store c (Record.Bin size start) = by-bytes c (afterValue (stateOf c)) size start (put (binary (part store at size)) (slot c)) (by-value c (binary (part store at size)) (at + size))
+  weighed store c (Record.Str size start) = by-bytes c (afterValue (stateOf c)) size start (put (string (part store at size)) (slot c))
+      (by-value c (string (part store at size)) (at + size))
+  weighed store c (Record.Key size start) = by-bytes c (afterKey (stateOf c)) size start (key (part store at size) c)
+      (by-key c (part store at size) (at + size))
+  weighed store c (Record.Bin size start) = by-bytes c (afterValue (stateOf c)) size start (put (binary (part store at size)) (slot c))
+      (by-value c (binary (part store at size)) (at + size))
   weighed store c (Record.Time t) = plain c (time t)
   weighed store c (Record.Array e) =
       by-none c (openOf (afterValue (stateOf c)) e 2 (length (framesOf c))) (enter ofValues e (slot c)) (by-container c ofValues e (at + 0) (omega arith))
@@ -214,15 +220,31 @@ pub record Popped (c : Conf) (i : ℕ) (ends kinds : List ℕ) (d : ℕ) : Type 
   pub frames : d ≡ length (framesOf c′)
   pub matched : Match (framesOf c′) ends kinds
 
-put-down : (c : Conf) (i : ℕ) (ends kinds : List ℕ) (m : Meaning) (f : Frame) (fs : List Frame) → settle i c ≡ settle i (put m (f ∷ fs)) → Match (f ∷ fs) ends kinds
+put-down : (c : Conf) (i : ℕ) (ends kinds : List ℕ) (m : Meaning) (f : Frame) (fs : List Frame) → settle i c ≡ settle i (put m (f ∷ fs))
+    → Match (f ∷ fs) ends kinds
     → Popped c i ends kinds (length fs)
 unfolding put kindF endF stateOf endOf framesOf
 put-down c i ends kinds m root [] s t = record { c′ = whole m; same = s; state = t .1 .0; end = t .0; frames = refl; matched = tt }
 put-down c i ends kinds m root (g ∷ fs) s t = absurd (omega (arith, t .1 .1 .0))
-put-down c i ends kinds m (inArray e ms) fs s t = record { c′ = elements e (more ms m) fs; same = s; state = t .1 .0; end = t .0; frames = refl; matched = t .1 .1 .1 }
-put-down c i ends kinds m (inObject e ms k) fs s t = record { c′ = members e (member ms k m) fs; same = s; state = t .1 .0; end = t .0; frames = refl; matched = t .1 .1 .1 }
+put-down c i ends kinds m (inArray e ms) fs s t = record {
+  c′ = elements e (more ms m) fs;
+  same = s;
+  state = t .1 .0;
+  end = t .0;
+  frames = refl;
+  matched = t .1 .1 .1;
+}
+put-down c i ends kinds m (inObject e ms k) fs s t = record {
+  c′ = members e (member ms k m) fs;
+  same = s;
+  state = t .1 .0;
+  end = t .0;
+  frames = refl;
+  matched = t .1 .1 .1;
+}
 
-pop-conf : (c : Conf) (i : ℕ) (ends kinds : List ℕ) → endOf c ≡ i → i < never → (stateOf c ≡ 4 → ⊥) → (length (framesOf c) ≡ 0 → ⊥) → Match (framesOf c) ends kinds
+pop-conf : (c : Conf) (i : ℕ) (ends kinds : List ℕ) → endOf c ≡ i → i < never → (stateOf c ≡ 4 → ⊥) → (length (framesOf c) ≡ 0 → ⊥)
+    → Match (framesOf c) ends kinds
     → Popped c i ends kinds (length (framesOf c) - 1)
 unfolding settle endOf stateOf framesOf
 pop-conf nothing i ends kinds e l s d t = absurd (omega arith)
@@ -311,7 +333,8 @@ module _ {tape store : List ℕ} {n : ℕ} where
     state-pop e s z =
         let j : d - 1 ≡ length (framesOf (v .c)) - 1 = ap (λ (x : ℕ). x - 1) (v .isDepth) in
         let p = subst (Popped (v .c) i ends kinds) (sym j)
-        (pop-conf (v .c) i ends kinds (sym (v .isEnd) ∙ e) (omega (arith, v .within, v .few)) (λ q. s (v .isState ∙ q)) (λ q. z (v .isDepth ∙ q)) (v .matched)) in
+        (pop-conf (v .c) i ends kinds (sym (v .isEnd) ∙ e) (omega (arith, v .within, v .few)) (λ q. s (v .isState ∙ q)) (λ q. z (v .isDepth ∙ q)) (v .matched))
+        in
         record {
           c = p .c′;
           runs = v .runs ∙ run-settle store (recordsFrom (n - i) tape i) i at (v .c) (p .c′) (p .same);

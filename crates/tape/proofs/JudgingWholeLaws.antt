@@ -10,7 +10,8 @@ use Rattle.meaning.specs.declared.Record.{Record}
 use Rattle.meaning.specs.Limits.{recordLimit, storeLimit}
 use Rattle.meaning.specs.Meaning.{Meaning, Meanings, Members, null, bool, number, string, binary, time, array, object, none, more, bare, member}
 use Rattle.meaning.specs.Good.{Bytes, GoodParts, GoodElements, GoodMembers}
-use Rattle.meaning.specs.Tape.{records, elementsRecords, membersRecords, storeOf, elementsStore, membersStore, recordsOf, elementsOf, membersOf, recordsBytes, tapeOf, WellFormed}
+use Rattle.meaning.specs.Tape.{records, elementsRecords, membersRecords, storeOf, elementsStore, membersStore, recordsOf, elementsOf, membersOf, recordsBytes}
+use Rattle.meaning.specs.Tape.{tapeOf, WellFormed}
 use Rattle.meaning.specs.Between.Words.{Fit}
 use Rattle.meaning.specs.Look.{OwnFields, wholeRecords, RecordAt}
 use Rattle.meaning.proofs.Bytes.{bytes-left, bytes-right, bytes-of, part-is}
@@ -105,7 +106,8 @@ module _ (store : List ℕ) (count : ℕ) where
     mutual
       unfolding recordsOf records storeOf
 
-      value-good : (m : Meaning) (i at : ℕ) (pre post : List ℕ) → store ≡ pre ++ (storeOf m ++ post) → at ≡ length pre → AllOwn (recordsOf m i at) i → GoodParts m
+      value-good : (m : Meaning) (i at : ℕ) (pre post : List ℕ) → store ≡ pre ++ (storeOf m ++ post) → at ≡ length pre → AllOwn (recordsOf m i at) i
+          → GoodParts m
       value-good null i at pre post e a f = tt
       value-good (bool b) i at pre post e a f = tt
       value-good (number n) i at pre post e a f = f .0
@@ -115,7 +117,8 @@ module _ (store : List ℕ) (count : ℕ) where
       value-good (array ms) i at pre post e a f = values-good ms (i + 1) at pre post e a (f .1)
       value-good (object ms) i at pre post e a f = pairs-good ms (i + 1) at pre post e a (f .1)
 
-      values-good : (ms : Meanings) (i at : ℕ) (pre post : List ℕ) → store ≡ pre ++ (elementsStore ms ++ post) → at ≡ length pre → AllOwn (elementsOf ms i at) i → GoodElements ms
+      values-good : (ms : Meanings) (i at : ℕ) (pre post : List ℕ) → store ≡ pre ++ (elementsStore ms ++ post) → at ≡ length pre → AllOwn (elementsOf ms i at) i
+          → GoodElements ms
       values-good none i at pre post e a f = tt
       values-good (more ms m) i at pre post e a f =
           let i′ = i + elementsRecords ms in
@@ -125,7 +128,8 @@ module _ (store : List ℕ) (count : ℕ) where
                 (own-right (elementsOf ms i at) (recordsOf m i′ at′) i i′ (omega (arith, elements-length ms i at)) f),
           )
 
-      pairs-good : (ms : Members) (i at : ℕ) (pre post : List ℕ) → store ≡ pre ++ (membersStore ms ++ post) → at ≡ length pre → AllOwn (membersOf ms i at) i → GoodMembers ms
+      pairs-good : (ms : Members) (i at : ℕ) (pre post : List ℕ) → store ≡ pre ++ (membersStore ms ++ post) → at ≡ length pre → AllOwn (membersOf ms i at) i
+          → GoodMembers ms
       pairs-good bare i at pre post e a f = tt
       pairs-good (member ms k m) i at pre post e a f =
           let i′ = i + membersRecords ms in
@@ -188,7 +192,8 @@ module _ (tape store : List ℕ) (n : ℕ) (h : length tape ≡ n * 16) where
           let l = from-length n tape 0 in
           let count = wholeRecords tape in
           let own : AllOwn store count rs 0 =
-          own-all store count rs 0 (λ k i. let z : k ≡ 0 + k = omega arith in subst (λ (x : ℕ). OwnFields (getD rs k Record.Null) x count store) z (at-index k i .own)) in
+          own-all store count rs 0 (λ k i. let z : k ≡ 0 + k = omega arith in subst (λ (x : ℕ). OwnFields (getD rs k Record.Null) x count store) z
+          (at-index k i .own)) in
           let i = sound store rs m (all-inside store count rs 0 own) e in
           let many : records m ≡ n = sym (records-length m 0 0) ∙ ap length (sym (i .is)) ∙ l in
           let long : length store ≡ length (storeOf m) = ap length (i .held-all) in
@@ -207,7 +212,8 @@ module _ (tape store : List ℕ) (n : ℕ) (h : length tape ≡ n * 16) where
                 (λ k q.
                 let s = record-numbers tape store k _ (at-index k q) in
                 let z : k * 16 ≡ 0 + k * 16 = omega arith in
-                subst (λ (p : ℕ). Stands tape p (getD rs k Record.Null)) z (record { mark-at = s .mark-is; low-at = s .low-is; mid-at = s .mid-is; high-at = s .high-is }))
+                subst (λ (p : ℕ). Stands tape p (getD rs k Record.Null)) z (record
+                { mark-at = s .mark-is; low-at = s .low-is; mid-at = s .mid-is; high-at = s .high-is }))
                 ∙ ap recordsBytes (i .is);
             stored = i .held-all;
           }

@@ -57,7 +57,8 @@ module _ (tape store : List ℕ) (index : ℕ) where
   record-numbers r a =
       let p = index * 16 in
       let h = a .within in
-      let e : drop p tape ≡ recordBytes r ++ drop 16 (drop p tape) = sym (take-append-drop 16 (drop p tape)) ∙ ap (λ (l : List ℕ). l ++ drop 16 (drop p tape)) (a .lies) in
+      let e : drop p tape ≡ recordBytes r ++ drop 16 (drop p tape) = sym (take-append-drop 16 (drop p tape))
+      ∙ ap (λ (l : List ℕ). l ++ drop 16 (drop p tape)) (a .lies) in
       let s = stands tape (drop 16 (drop p tape)) p r (a .fits) (omega arith) e in
       record { mark-is = s .mark-at; low-is = s .low-at; mid-is = s .mid-at; high-is = s .high-at }
 

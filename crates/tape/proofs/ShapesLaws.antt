@@ -61,7 +61,8 @@ words-bytes (Record.Object end) f = refl
 pub written : (r : Record) (w : Words) → DateFits r → Worded r w → Written r w
 written r w f e = record {
   worded = e;
-  bytes-are = words-bytes r f ∙ sym (ap₂ (λ (a b : ℕ). fourWords a b (w .mid) (w .high)) (e .mark-is) (e .low-is) ∙ ap₂ (fourWords (markOf r) (lowOf r)) (e .mid-is) (e .high-is));
+  bytes-are = words-bytes r f ∙ sym (ap₂ (λ (a b : ℕ). fourWords a b (w .mid) (w .high)) (e .mark-is) (e .low-is)
+      ∙ ap₂ (fourWords (markOf r) (lowOf r)) (e .mid-is) (e .high-is));
 }
 
 pub written-as : (r : Record) (w : Words) → DateFits r → Holds w (markOf r) (lowOf r) (midOf r) (highOf r) → Written r w

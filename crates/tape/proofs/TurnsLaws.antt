@@ -16,7 +16,8 @@ use Rattle.tape.specs.declared.Words.{Words}
 use Rattle.tape.specs.declared.Turn.{Turn}
 use Rattle.tape.specs.Between.Shapes.{Worded, Loaded, onlyRecord, wordsAt}
 use Rattle.tape.specs.Between.Turns.{afterValue, afterKey, passOf, passBytesOf, openOf, turnOf, Tested, passes, fails, Steps, stands, none}
-use Rattle.tape.proofs.ShapesLaws.{flag-small, only-key, only-text, only-finite, only-array, only-object, key-words, text-words, finite-words, array-words, object-words, record-of-fits}
+use Rattle.tape.proofs.ShapesLaws.{flag-small, only-key, only-text, only-finite, only-array, only-object, key-words, text-words, finite-words}
+use Rattle.tape.proofs.ShapesLaws.{array-words, object-words, record-of-fits}
 use Rattle.tape.proofs.LookingLaws.{loaded-as, record-numbers, record-only, record-there}
 
 module _ (tape store : List ℕ) (index at depth state : ℕ) (bytes : (j : ℕ) → getD tape j 0 < 256) (within : index < wholeRecords tape) (w : Words)
@@ -48,7 +49,8 @@ module _ (tape store : List ℕ) (index at depth state : ℕ) (bytes : (j : ℕ)
     Container = (w .low ≡ 0) × (w .mid ≡ 0) × Ends (w .high) index (wholeRecords tape)
 
     module _ {u : Turn} (next : ℕ) where
-      pub key-steps : w .mark ≡ mark "k" "y" → next ≡ afterKey state → Tested Text (passBytesOf next (w .mid) (w .high) at) u → Steps tape store index at depth state u
+      pub key-steps : w .mark ≡ mark "k" "y" → next ≡ afterKey state → Tested Text (passBytesOf next (w .mid) (w .high) at) u
+          → Steps tape store index at depth state u
       unfolding markOf lowOf midOf highOf turnOf
       key-steps m n d =
           tested (Record.Key (w .mid) (w .high)) (only-key _ _ _ _ m) (λ p. (key-words w m (p .0), p .1))

@@ -77,10 +77,12 @@ module _ (w n at : ℕ) (o : List ℕ) where
       subst (λ (m : List ℕ). Filling w n at o m (i - 4) (rest / 10000))
       (λ k. set (set (set (set out (a k) (p k)) (b k) (q k)) (c k) (u k)) (d k) (v k))
       (subst (λ (y : ℕ). Filling w n at o
-      (set (set (set (set out (i - 1) (digit (rest % 10))) (i - 1 - 1) (digit (rest / 10 % 10))) (i - 1 - 1 - 1) (digit (rest / 10 / 10 % 10))) (i - 1 - 1 - 1 - 1) (digit (t % 10)))
+      (set (set (set (set out (i - 1) (digit (rest % 10))) (i - 1 - 1) (digit (rest / 10 % 10))) (i - 1 - 1 - 1) (digit (rest / 10 / 10 % 10)))
+      (i - 1 - 1 - 1 - 1) (digit (t % 10)))
       y (rest / 10000)) d
       (subst (λ (y : ℕ). Filling w n at o
-      (set (set (set (set out (i - 1) (digit (rest % 10))) (i - 1 - 1) (digit (rest / 10 % 10))) (i - 1 - 1 - 1) (digit (rest / 10 / 10 % 10))) (i - 1 - 1 - 1 - 1) (digit (t % 10)))
+      (set (set (set (set out (i - 1) (digit (rest % 10))) (i - 1 - 1) (digit (rest / 10 % 10))) (i - 1 - 1 - 1) (digit (rest / 10 / 10 % 10)))
+      (i - 1 - 1 - 1 - 1) (digit (t % 10)))
       (i - 1 - 1 - 1 - 1) y) x g))
 
   -- the digits that are left, before those that stand
@@ -117,7 +119,8 @@ module _ (w n at : ℕ) (o : List ℕ) where
   pub fill-length : {out : List ℕ} {i rest : ℕ} → Filling w n at o out i rest → at + w ≤ length o → length out ≡ length o
   fill-length {out} {i} {rest} f h =
       let l = ap length (f .whole) ∙ length-append (fixed (f .k) rest) (f .done) in
-      put-length {t = f .done} {o = o} {out = out} {at = i} {r = i + length (f .done)} (omega (arith, f .here, f .some, fixed-length w n, fixed-length (f .k) rest)) (record { next = refl; text = f .text })
+      put-length {t = f .done} {o = o} {out = out} {at = i} {r = i + length (f .done)}
+      (omega (arith, f .here, f .some, fixed-length w n, fixed-length (f .k) rest)) (record { next = refl; text = f .text })
 
 -- in a part of its own
 pub whole-begin : (w n : ℕ) (o : List ℕ) → Filling w n 0 o o w n

@@ -59,7 +59,8 @@ same-form {tape} {store} v w = ap noJson (one-meaning tape store v w)
 
 module _ {tape store o : List ℕ} where
   -- two texts of one tape and store
-  one-of : (v w : WellFormed tape store) {a b : Written} {x y : List ℕ} → Writes (canonical (v .meaning)) o a x → Writes (canonical (w .meaning)) o b y → Same a b x y
+  one-of : (v w : WellFormed tape store) {a b : Written} {x y : List ℕ} → Writes (canonical (v .meaning)) o a x → Writes (canonical (w .meaning)) o b y
+      → Same a b x y
   one-of v w {b = b} {y = y} p q = one-text p (subst (λ (m : Meaning). Writes (canonical m) o b y) (sym (one-meaning tape store v w)) q)
 
   pub one-outcome-jaxn : {a b : Written} {x y : List ℕ} → WritesJaxn tape store o a x → WritesJaxn tape store o b y → Same a b x y
@@ -126,7 +127,8 @@ module _ {tape store o : List ℕ} where
   written-jaxn w (WritesJaxn.ill n s) = absurd (n w)
   written-jaxn {out} {a} w (WritesJaxn.text v p) = subst (λ (m : Meaning). Writes (canonical m) o a out) (one-meaning tape store v w) p
 
-  pub written-json : {out : List ℕ} {a : Written} (w : WellFormed tape store) → noJson (w .meaning) ≡ none → WritesJson tape store o a out → Writes (json (w .meaning)) o a out
+  pub written-json : {out : List ℕ} {a : Written} (w : WellFormed tape store) → noJson (w .meaning) ≡ none → WritesJson tape store o a out
+      → Writes (json (w .meaning)) o a out
   written-json w e (WritesJson.ill n s) = absurd (n w)
   written-json w e (WritesJson.formless v f h) =
       let s = same-form v w in

@@ -12,7 +12,8 @@ use Rattle.meaning.specs.Limits.{fractionDigits, second, storeLimit}
 use Rattle.meaning.specs.declared.Number.the-variants.{Finite, NotANumber, Infinite}
 use Rattle.meaning.specs.declared.Date.{Date}
 use Rattle.meaning.specs.declared.Time.the-variants.{LocalDate, LocalTime, LocalDateTime, OffsetDateTime}
-use Rattle.meaning.specs.Canonical.{decimal, fixed, trimmed, hexPair, escaped, escapes, quoted, hexPairs, binaryText, minusText, minutesText, powerText, numberText, offsetText, fractionText, dateText, clockText, timeText}
+use Rattle.meaning.specs.Canonical.{decimal, fixed, trimmed, hexPair, escaped, escapes, quoted, hexPairs, binaryText, minusText, minutesText, powerText}
+use Rattle.meaning.specs.Canonical.{numberText, offsetText, fractionText, dateText, clockText, timeText}
 use Rattle.meaning.proofs.Digits.{fixed-length, trimmed-less}
 use Rattle.meaning.proofs.Text.{date-length}
 use Rattle.meaning.proofs.Quotes.{escaped-plain, escaped-low, escapes-more, escapes-length, quoted-length}

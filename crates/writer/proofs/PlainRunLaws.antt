@@ -55,7 +55,8 @@ module _ (s : List ℕ) where
         each = λ k f g. elim (decLt k b) [ yes h ↦ p .each k f h | no h ↦ q .each k (omega arith) g ];
       }
 
-  pub run-more : (from i : ℕ) → PlainRun s from i → i < length s → ch " " ≤ getD s i 0 → (getD s i 0 ≡ ch "\"" → ⊥) → (getD s i 0 ≡ ch "\\" → ⊥) → PlainRun s from (i + 1)
+  pub run-more : (from i : ℕ) → PlainRun s from i → i < length s → ch " " ≤ getD s i 0 → (getD s i 0 ≡ ch "\"" → ⊥) → (getD s i 0 ≡ ch "\\" → ⊥)
+      → PlainRun s from (i + 1)
   run-more from i p h low quote slash =
       run-join from i (i + 1) p (
       record {

@@ -26,13 +26,26 @@ own-fields-requires : tie.Need-own-fields-requires
 own-fields-requires c κs = search needs
 
 returns-2 : tie.Need-returns-2
-returns-2 c = look-found (c .before .before .before .before .before .before .before .before .before .args .tape .now) (c .before .before .before .before .before .before .before .before .before .args .store .now) (c .before .before .before .before .before .before .before .before .before .args .index) (λ j. c .before .before .before .before .before .before .before .before .shared-slice-known .given j .fits) (omega (arith, c .before .before .before .before .before .before .if1 .left)) (c .before .before .before .before .before .shape-at .ensures) _ (c .before .before .before .r .given .1) (c .before .own-fields .ensures) (c .if2 .taken)
+returns-2 c = look-found (c .before .before .before .before .before .before .before .before .before .args .tape .now)
+    (c .before .before .before .before .before .before .before .before .before .args .store .now)
+    (c .before .before .before .before .before .before .before .before .before .args .index)
+    (λ j. c .before .before .before .before .before .before .before .before .shared-slice-known .given j .fits)
+    (omega (arith, c .before .before .before .before .before .before .if1 .left)) (c .before .before .before .before .before .shape-at .ensures) _
+    (c .before .before .before .r .given .1) (c .before .own-fields .ensures) (c .if2 .taken)
 
 returns-3 : tie.Need-returns-3
-returns-3 c = look-junk (c .before .before .before .before .before .before .args .tape .now) (c .before .before .before .before .before .before .args .store .now) (c .before .before .before .before .before .before .args .index) (λ j. c .before .before .before .before .before .shared-slice-known .given j .fits) (omega (arith, c .before .before .before .if1 .left)) (c .before .before .shape-at .ensures) (c .enum-told .given .1)
+returns-3 c = look-junk (c .before .before .before .before .before .before .args .tape .now)
+    (c .before .before .before .before .before .before .args .store .now) (c .before .before .before .before .before .before .args .index)
+    (λ j. c .before .before .before .before .before .shared-slice-known .given j .fits) (omega (arith, c .before .before .before .if1 .left))
+    (c .before .before .shape-at .ensures) (c .enum-told .given .1)
 
 returns-4 : tie.Need-returns-4
-returns-4 c = look-fault (c .before .before .before .before .before .before .before .before .before .args .tape .now) (c .before .before .before .before .before .before .before .before .before .args .store .now) (c .before .before .before .before .before .before .before .before .before .args .index) (λ j. c .before .before .before .before .before .before .before .before .shared-slice-known .given j .fits) (omega (arith, c .before .before .before .before .before .before .if1 .left)) (c .before .before .before .before .before .shape-at .ensures) _ (c .before .before .before .r .given .1) (c .before .own-fields .ensures) (c .if2 .left)
+returns-4 c = look-fault (c .before .before .before .before .before .before .before .before .before .args .tape .now)
+    (c .before .before .before .before .before .before .before .before .before .args .store .now)
+    (c .before .before .before .before .before .before .before .before .before .args .index)
+    (λ j. c .before .before .before .before .before .before .before .before .shared-slice-known .given j .fits)
+    (omega (arith, c .before .before .before .before .before .before .if1 .left)) (c .before .before .before .before .before .shape-at .ensures) _
+    (c .before .before .before .r .given .1) (c .before .own-fields .ensures) (c .if2 .left)
 
 pub look-spec : {M : Type 1} → statement M
 look-spec =

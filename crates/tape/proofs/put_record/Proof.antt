@@ -31,10 +31,13 @@ same-length : tie.Need-same-length
 same-length c = search needs
 
 returns : tie.Need-returns
-returns c = put-by-words (c .before .before .before .before .before .before .before .args .tape .now) _ (c .before .before .before .before .before .before .before .args .index) _ _ _ (c .before .before .before .words-of .ensures) (omega (arith, c .before .before .before .before .before .if1 .taken)) refl (c .before .before .put-words .ensures)
+returns c = put-by-words (c .before .before .before .before .before .before .before .args .tape .now) _
+    (c .before .before .before .before .before .before .before .args .index) _ _ _ (c .before .before .before .words-of .ensures)
+    (omega (arith, c .before .before .before .before .before .if1 .taken)) refl (c .before .before .put-words .ensures)
 
 returns-2 : tie.Need-returns-2
-returns-2 c = sym (record-no-room (c .before .before .args .tape .now) (c .before .before .args .index) (c .before .before .args .r) (omega (arith, c .if1 .left)))
+returns-2 c = sym (record-no-room (c .before .before .args .tape .now) (c .before .before .args .index) (c .before .before .args .r)
+    (omega (arith, c .if1 .left)))
 
 pub put-record-spec : {M : Type 1} → statement M
 put-record-spec =

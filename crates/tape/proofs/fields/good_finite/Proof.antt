@@ -16,7 +16,8 @@ returns-3 : tie.Need-returns-3
 returns-3 c = fails (λ g. too-low-bits w32 _ (c .before .before .before .fits .power) 9998 (c .if3 .taken) (finite-power g))
 
 returns-4 : tie.Need-returns-4
-returns-4 c = nonzero-good _ _ (c .before .before .before .fits .coefficient .fits) (c .before .if2 .left) (in-range-bits w32 _ (c .before .before .before .fits .power) 9998 (c .if3 .left))
+returns-4 c = nonzero-good _ _ (c .before .before .before .fits .coefficient .fits) (c .before .if2 .left)
+    (in-range-bits w32 _ (c .before .before .before .fits .power) 9998 (c .if3 .left))
 
 pub good-finite-spec : {M : Type 1} → statement M
 good-finite-spec = tie.close (tie.spec returns returns-2 returns-3 returns-4)

@@ -32,10 +32,16 @@ enum-told-2 : tie.Need-enum-told-2
 enum-told-2 c = search needs
 
 returns : tie.Need-returns
-returns c = is-utf8 _ _ _ _ _ (part-of (c .before .before .before .before .before .before .before .args .length) (c .before .before .before .before .before .before .before .args .start) (c .before .before .before .before .before .before .before .args .store .now)) (c .before .before .utf8 .ensures) (held (c .before .before .before .before .before .inside .ensures) (c .before .before .before .before .if1 .taken)) (c .enum-told .given .1)
+returns c = is-utf8 _ _ _ _ _ (part-of (c .before .before .before .before .before .before .before .args .length)
+    (c .before .before .before .before .before .before .before .args .start) (c .before .before .before .before .before .before .before .args .store .now))
+    (c .before .before .utf8 .ensures) (held (c .before .before .before .before .before .inside .ensures) (c .before .before .before .before .if1 .taken))
+    (c .enum-told .given .1)
 
 returns-2 : tie.Need-returns-2
-returns-2 c = is-not-utf8 _ _ _ _ _ (part-of (c .before .before .before .before .before .before .before .args .length) (c .before .before .before .before .before .before .before .args .start) (c .before .before .before .before .before .before .before .args .store .now)) (c .before .before .utf8 .ensures) (held (c .before .before .before .before .before .inside .ensures) (c .before .before .before .before .if1 .taken)) _ (c .enum-told2 .given .1)
+returns-2 c = is-not-utf8 _ _ _ _ _ (part-of (c .before .before .before .before .before .before .before .args .length)
+    (c .before .before .before .before .before .before .before .args .start) (c .before .before .before .before .before .before .before .args .store .now))
+    (c .before .before .utf8 .ensures) (held (c .before .before .before .before .before .inside .ensures) (c .before .before .before .before .if1 .taken)) _
+    (c .enum-told2 .given .1)
 
 returns-3 : tie.Need-returns-3
 returns-3 c = fails (λ p. failed (c .before .inside .ensures) (c .if1 .left) (p .0))

@@ -18,7 +18,8 @@ time-of-requires : tie.Need-time-of-requires
 time-of-requires c κs = search needs
 
 returns-4 : tie.Need-returns-4
-returns-4 c = past _ _ _ (c .before .before .before .if1 .left) (past _ _ _ (c .before .before .if2 .left) (past _ _ _ (c .before .if3 .left) (c .time-of .ensures)))
+returns-4 c = past _ _ _ (c .before .before .before .if1 .left) (past _ _ _ (c .before .before .if2 .left)
+    (past _ _ _ (c .before .if3 .left) (c .time-of .ensures)))
 
 pub bytes-of-spec : {M : Type 1} → statement M
 bytes-of-spec = tie.close (tie.spec returns returns-2 returns-3 time-of-requires returns-4)

@@ -1,6 +1,7 @@
 -- `four_words::common`: by its tests. Assumes nothing.
 use native.Mathlib.Omega.{arith}
-use Rattle.tape.proofs.ShapesLaws.{only-key, only-text, only-finite, only-array, only-object, key-words, text-words, finite-words, array-words, object-words, not-common, is-common}
+use Rattle.tape.proofs.ShapesLaws.{only-key, only-text, only-finite, only-array, only-object, key-words, text-words, finite-words, array-words}
+use Rattle.tape.proofs.ShapesLaws.{object-words, not-common, is-common}
 use Rattle.tape.proofs.four_words.common.Statement.{statement}
 use Rattle.tape.proofs.four_words.common.Tie as tie
 
@@ -8,7 +9,8 @@ returns : tie.Need-returns
 returns c = not-common _
 
 returns-2 : tie.Need-returns-2
-returns-2 c = is-common _ (only-finite _ _ _ _ (c .before .before .if1 .taken)) (finite-words _ (c .before .before .if1 .taken) (omega (arith, c .if2 .left)) (c .before .before .before .pre .mid-small))
+returns-2 c = is-common _ (only-finite _ _ _ _ (c .before .before .if1 .taken)) (finite-words _ (c .before .before .if1 .taken) (omega (arith, c .if2 .left))
+    (c .before .before .before .pre .mid-small))
 
 returns-3 : tie.Need-returns-3
 returns-3 c = not-common _
@@ -23,10 +25,12 @@ returns-6 : tie.Need-returns-6
 returns-6 c = not-common _
 
 returns-7 : tie.Need-returns-7
-returns-7 c = is-common _ (only-array _ _ _ _ (c .if7 .taken)) (array-words _ (c .if7 .taken) (c .before .before .before .before .before .if3 .left) (c .before .if6 .left))
+returns-7 c = is-common _ (only-array _ _ _ _ (c .if7 .taken)) (array-words _ (c .if7 .taken) (c .before .before .before .before .before .if3 .left)
+    (c .before .if6 .left))
 
 returns-8 : tie.Need-returns-8
-returns-8 c = is-common _ (only-object _ _ _ _ (c .if8 .taken)) (object-words _ (c .if8 .taken) (c .before .before .before .before .before .before .if3 .left) (c .before .before .if6 .left))
+returns-8 c = is-common _ (only-object _ _ _ _ (c .if8 .taken)) (object-words _ (c .if8 .taken) (c .before .before .before .before .before .before .if3 .left)
+    (c .before .before .if6 .left))
 
 returns-9 : tie.Need-returns-9
 returns-9 c = not-common _

@@ -20,7 +20,8 @@ signed32-requires : tie.Need-signed32-requires
 signed32-requires c κs = search needs
 
 returns-3 : tie.Need-returns-3
-returns-3 c = simp (read-back w32 _ _ (record { fits = c .before .before .before .before .pre .mid-small }) (c .signed32 .ensures)) (sym (only-finite _ _ _ _ (c .before .if3 .taken)))
+returns-3 c = simp (read-back w32 _ _ (record { fits = c .before .before .before .before .pre .mid-small }) (c .signed32 .ensures))
+    (sym (only-finite _ _ _ _ (c .before .if3 .taken)))
 
 returns-4 : tie.Need-returns-4
 returns-4 c = sym (only-array _ _ _ _ (c .if4 .taken))

@@ -36,7 +36,13 @@ add-t11 c = omega (arith, c .flag2 .ensures, flag-small (c .before .before .n2 .
 
 returns : tie.Need-returns
 unfolding markOf lowOf midOf highOf
-returns c = let f : SFits w32 (c .before .before .before .n .given .0 .1 .1 .0) = record { sfits = c .before .before .known-told .given .1 .1 .0 .1 } in rw (c .before .before .before .n .given .1) (written _ _ tt (record { mark-is = refl; low-is = c .before .flag .ensures; mid-is = c .bits32 .ensures ∙ ap (ofZ w32) (toZ-ofZ w32 _ f); high-is = refl }))
+returns c = let f : SFits w32 (c .before .before .before .n .given .0 .1 .1 .0) = record { sfits = c .before .before .known-told .given .1 .1 .0 .1 } in
+    rw (c .before .before .before .n .given .1) (written _ _ tt (record {
+      mark-is = refl;
+      low-is = c .before .flag .ensures;
+      mid-is = c .bits32 .ensures ∙ ap (ofZ w32) (toZ-ofZ w32 _ f);
+      high-is = refl;
+    }))
 
 returns-2 : tie.Need-returns-2
 unfolding markOf lowOf midOf highOf
@@ -44,7 +50,12 @@ returns-2 c = rw (c .enum-told .given .1) (written _ _ tt (record { mark-is = re
 
 returns-3 : tie.Need-returns-3
 unfolding markOf lowOf midOf highOf
-returns-3 c = rw (c .before .before .n2 .given .1) (written _ _ tt (record { mark-is = refl; low-is = refl; mid-is = infinite-mid (c .before .before .n2 .given .0 .0) _ (c .flag2 .ensures); high-is = refl }))
+returns-3 c = rw (c .before .before .n2 .given .1) (written _ _ tt (record {
+  mark-is = refl;
+  low-is = refl;
+  mid-is = infinite-mid (c .before .before .n2 .given .0 .0) _ (c .flag2 .ensures);
+  high-is = refl;
+}))
 
 pub number-words-spec : {M : Type 1} → statement M
 number-words-spec =

@@ -10,7 +10,8 @@ words-at-requires : tie.Need-words-at-requires
 words-at-requires c κs = search needs
 
 common-record-requires : tie.Need-common-record-requires
-common-record-requires c κs = loaded-as (c .before .before .args .tape .now) (c .before .before .args .at) (c .words-at .ensures) (λ j. c .before .shared-slice-known .given j .fits)
+common-record-requires c κs = loaded-as (c .before .before .args .tape .now) (c .before .before .args .at) (c .words-at .ensures)
+    (λ j. c .before .shared-slice-known .given j .fits)
 
 returns : tie.Need-returns
 returns c = c .common-record .ensures ∙ ap onlyRecord (c .before .words-at .ensures)

@@ -20,7 +20,11 @@ same-length : tie.Need-same-length
 same-length c = search needs
 
 returns : tie.Need-returns
-returns c = words-all (c .before .before .before .before .before .before .before .before .before .before .before .before .before .before .before .before .before .args .bytes .now) _ _ _ _ _ _ _ _ (c .before .before .before .before .before .before .before .before .before .before .before .before .before .before .before .before .before .pre) (c .before .before .before .before .before .before .before .before .before .before .before .before .before .before .store2 .ensures) (c .before .before .before .before .before .before .before .before .before .before .store22 .ensures) (c .before .before .before .before .before .before .store4 .ensures) (c .before .before .store8 .ensures)
+returns c = words-all (c .before .before .before .before .before .before .before .before .before .before .before .before .before .before .before .before .before
+    .args .bytes .now) _ _ _ _ _ _ _ _ (c .before .before .before .before .before .before .before .before .before .before .before .before .before .before
+    .before .before .before .pre) (c .before .before .before .before .before .before .before .before .before .before .before .before .before .before .store2
+    .ensures) (c .before .before .before .before .before .before .before .before .before .before .store22 .ensures)
+    (c .before .before .before .before .before .before .store4 .ensures) (c .before .before .store8 .ensures)
 
 pub put-words-spec : {M : Type 1} → statement M
 put-words-spec =

@@ -8,7 +8,8 @@ words-at-requires : tie.Need-words-at-requires
 words-at-requires c κs = search needs
 
 shape-of-requires : tie.Need-shape-of-requires
-shape-of-requires c κs = loaded-as (c .before .before .args .tape .now) (c .before .before .args .at) (c .words-at .ensures) (λ j. c .before .shared-slice-known .given j .fits)
+shape-of-requires c κs = loaded-as (c .before .before .args .tape .now) (c .before .before .args .at) (c .words-at .ensures)
+    (λ j. c .before .shared-slice-known .given j .fits)
 
 returns : tie.Need-returns
 returns c = shaped-as (c .before .words-at .ensures) (c .shape-of .ensures)

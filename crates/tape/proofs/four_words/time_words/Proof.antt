@@ -44,7 +44,8 @@ month-day-requires-3 c κs = search needs
 
 returns : tie.Need-returns
 unfolding markOf lowOf midOf highOf
-returns c = rw (c .before .before .before .t .given .1) (written _ _ (c .month-day .ensures .1) (record { mark-is = refl; low-is = refl; mid-is = c .month-day .ensures .0; high-is = refl }))
+returns c = rw (c .before .before .before .t .given .1) (written _ _ (c .month-day .ensures .1)
+    (record { mark-is = refl; low-is = refl; mid-is = c .month-day .ensures .0; high-is = refl }))
 
 returns-2 : tie.Need-returns-2
 unfolding markOf lowOf midOf highOf
@@ -52,11 +53,20 @@ returns-2 c = rw (c .before .t2 .given .1) (written _ _ (c .known-told2 .given .
 
 returns-3 : tie.Need-returns-3
 unfolding markOf lowOf midOf highOf
-returns-3 c = rw (c .before .before .before .t3 .given .1) (written _ _ (c .month-day2 .ensures .1, c .before .before .known-told3 .given .1 .0 .1) (record { mark-is = refl; low-is = refl; mid-is = c .month-day2 .ensures .0; high-is = refl }))
+returns-3 c = rw (c .before .before .before .t3 .given .1) (written _ _ (c .month-day2 .ensures .1, c .before .before .known-told3 .given .1 .0 .1)
+    (record { mark-is = refl; low-is = refl; mid-is = c .month-day2 .ensures .0; high-is = refl }))
 
 returns-4 : tie.Need-returns-4
 unfolding markOf lowOf midOf highOf
-returns-4 c = let f : SFits w16 (c .before .before .before .before .t4 .given .0 .1 .1 .0) = record { sfits = c .before .before .before .known-told4 .given .1 .1 .0 .1 } in let e = c .before .bits16 .ensures ∙ ap (ofZ w16) (toZ-ofZ w16 _ f) in rw (c .before .before .before .before .t4 .given .1) (written _ _ (c .month-day3 .ensures .1, c .before .before .before .known-told4 .given .1 .0 .1, f) (record { mark-is = refl; low-is = refl; mid-is = c .month-day3 .ensures .0 ∙ ap (monthDay (c .before .before .before .before .t4 .given .0 .0)) e; high-is = refl }))
+returns-4 c = let f : SFits w16 (c .before .before .before .before .t4 .given .0 .1 .1 .0) =
+    record { sfits = c .before .before .before .known-told4 .given .1 .1 .0 .1 } in let e = c .before .bits16 .ensures ∙ ap (ofZ w16) (toZ-ofZ w16 _ f) in
+    rw (c .before .before .before .before .t4 .given .1) (written _ _ (c .month-day3 .ensures .1, c .before .before .before .known-told4 .given .1 .0 .1, f)
+    (record {
+      mark-is = refl;
+      low-is = refl;
+      mid-is = c .month-day3 .ensures .0 ∙ ap (monthDay (c .before .before .before .before .t4 .given .0 .0)) e;
+      high-is = refl;
+    }))
 
 pub time-words-spec : {M : Type 1} → statement M
 time-words-spec =

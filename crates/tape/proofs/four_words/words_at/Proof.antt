@@ -25,7 +25,12 @@ load8-requires : tie.Need-load8-requires
 load8-requires c κs = search needs
 
 returns : tie.Need-returns
-returns c = λ k. record { mark = c .before .before .before .load2 .ensures .0 k; low = c .before .before .load22 .ensures .0 k; mid = c .before .load4 .ensures .0 k; high = c .load8 .ensures k }
+returns c = λ k. record {
+  mark = c .before .before .before .load2 .ensures .0 k;
+  low = c .before .before .load22 .ensures .0 k;
+  mid = c .before .load4 .ensures .0 k;
+  high = c .load8 .ensures k;
+}
 
 pub words-at-spec : {M : Type 1} → statement M
 words-at-spec =

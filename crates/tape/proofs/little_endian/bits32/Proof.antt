@@ -25,7 +25,8 @@ cast-result : tie.Need-cast-result
 cast-result c = subst (λ (z : ℤ). T (nonNeg z) × Fits w32 (natAbs z)) (sym (less-is w32 _ (c .before .fits .x))) (neg-cast w32 _ (c .before .fits .x) (neg c))
 
 cast-result-2 : tie.Need-cast-result-2
-cast-result-2 c = subst (λ (z : ℤ). T (nonNeg z) × Fits w32 (natAbs z)) (sym (toZ-ofZ w32 _ (c .before .fits .x))) (pos-cast w32 _ (c .before .fits .x) (not-neg c))
+cast-result-2 c = subst (λ (z : ℤ). T (nonNeg z) × Fits w32 (natAbs z)) (sym (toZ-ofZ w32 _ (c .before .fits .x)))
+    (pos-cast w32 _ (c .before .fits .x) (not-neg c))
 
 returns : tie.Need-returns
 returns c = ap (λ (z : ℤ). 4294967295 - natAbs z) (less-is w32 _ (c .before .fits .x)) ∙ neg-bits w32 _ (c .before .fits .x) (neg c)

@@ -22,14 +22,33 @@ wide-requires-2 : tie.Need-wide-requires-2
 wide-requires-2 c κs = search needs
 
 mul-result : tie.Need-mul-result
-mul-result c = omega (arith, c .wide2 .ensures, c .before .before .before .before .shared-slice-known .given (c .before .before .before .before .before .args .at + 1))
+mul-result c = omega (
+  arith,
+  c .wide2 .ensures,
+  c .before .before .before .before .shared-slice-known .given
+      (c .before .before .before .before .before .args .at + 1),
+)
 
 add-result : tie.Need-add-result
-add-result c = omega (arith, c .before .before .wide .ensures, c .wide2 .ensures, c .before .before .before .before .shared-slice-known .given (c .before .before .before .before .before .args .at), c .before .before .before .before .shared-slice-known .given (c .before .before .before .before .before .args .at + 1))
+add-result c = omega (
+  arith,
+  c .before .before .wide .ensures,
+  c .wide2 .ensures,
+  c .before .before .before .before .shared-slice-known .given (c .before .before .before .before .before .args .at),
+  c .before .before .before .before .shared-slice-known .given (c .before .before .before .before .before .args .at + 1),
+)
 
 returns : tie.Need-returns
 unfolding get
-returns c = omega (arith, c .before .before .wide .ensures, c .wide2 .ensures, c .before .before .before .before .shared-slice-known .given (c .before .before .before .before .before .args .at), c .before .before .before .before .shared-slice-known .given (c .before .before .before .before .before .args .at + 1))
+returns c = omega (
+  arith,
+  c .before .before .wide .ensures,
+  c .wide2 .ensures,
+  c .before .before .before .before .shared-slice-known .given
+      (c .before .before .before .before .before .args .at),
+  c .before .before .before .before .shared-slice-known .given
+      (c .before .before .before .before .before .args .at + 1),
+)
 
 pub load2-spec : {M : Type 1} → statement M
 load2-spec =

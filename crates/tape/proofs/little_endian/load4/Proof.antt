@@ -21,7 +21,11 @@ add-result : tie.Need-add-result
 add-result c = omega (arith, c .before .load2 .ensures .1, c .load22 .ensures .1)
 
 returns : tie.Need-returns
-returns c = (got 2 2 (c .before .before .before .args .bytes .now) (c .before .before .before .args .at) _ _ (c .before .load2 .ensures .0) (c .load22 .ensures .0), omega (arith, c .before .load2 .ensures .1, c .load22 .ensures .1))
+returns c = (
+  got 2 2 (c .before .before .before .args .bytes .now) (c .before .before .before .args .at) _ _ (c .before .load2 .ensures .0)
+      (c .load22 .ensures .0),
+  omega (arith, c .before .load2 .ensures .1, c .load22 .ensures .1),
+)
 
 pub load4-spec : {M : Type 1} → statement M
 load4-spec =

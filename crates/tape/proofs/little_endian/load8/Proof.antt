@@ -21,7 +21,8 @@ add-result : tie.Need-add-result
 add-result c = omega (arith, c .before .load4 .ensures .1, c .load42 .ensures .1)
 
 returns : tie.Need-returns
-returns c = got 4 4 (c .before .before .before .args .bytes .now) (c .before .before .before .args .at) _ _ (c .before .load4 .ensures .0) (c .load42 .ensures .0)
+returns c = got 4 4 (c .before .before .before .args .bytes .now) (c .before .before .before .args .at) _ _ (c .before .load4 .ensures .0)
+    (c .load42 .ensures .0)
 
 pub load8-spec : {M : Type 1} → statement M
 load8-spec =

@@ -17,7 +17,10 @@ same-length : tie.Need-same-length
 same-length c = search needs
 
 returns : tie.Need-returns
-returns c = stored 2 2 (c .before .before .before .before .before .before .before .before .before .args .bytes .now) _ _ (c .before .before .before .before .before .before .before .before .before .args .at) (c .before .before .before .before .before .before .before .before .before .args .v) (c .before .before .before .before .before .before .store2 .ensures) (c .before .before .store22 .ensures)
+returns c = stored 2 2 (c .before .before .before .before .before .before .before .before .before .args .bytes .now) _ _
+    (c .before .before .before .before .before .before .before .before .before .args .at)
+    (c .before .before .before .before .before .before .before .before .before .args .v) (c .before .before .before .before .before .before .store2 .ensures)
+    (c .before .before .store22 .ensures)
 
 pub store4-spec : {M : Type 1} → statement M
 store4-spec = tie.close (tie.spec store2-requires add-store2 store2-requires-2 same-length returns)

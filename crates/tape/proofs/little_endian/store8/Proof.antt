@@ -17,7 +17,10 @@ same-length : tie.Need-same-length
 same-length c = search needs
 
 returns : tie.Need-returns
-returns c = stored 4 4 (c .before .before .before .before .before .before .before .before .before .args .bytes .now) _ _ (c .before .before .before .before .before .before .before .before .before .args .at) (c .before .before .before .before .before .before .before .before .before .args .v) (c .before .before .before .before .before .before .store4 .ensures) (c .before .before .store42 .ensures)
+returns c = stored 4 4 (c .before .before .before .before .before .before .before .before .before .args .bytes .now) _ _
+    (c .before .before .before .before .before .before .before .before .before .args .at)
+    (c .before .before .before .before .before .before .before .before .before .args .v) (c .before .before .before .before .before .before .store4 .ensures)
+    (c .before .before .store42 .ensures)
 
 pub store8-spec : {M : Type 1} → statement M
 store8-spec = tie.close (tie.spec store4-requires add-store4 store4-requires-2 same-length returns)

@@ -17,7 +17,11 @@ enum-known-r : tie.Need-enum-known-r
 enum-known-r c = search needs
 
 turn-requires : tie.Need-turn-requires
-turn-requires c κs = omega (arith, record-inside (looked-record (c .before .before .before .look .ensures) (c .before .r .given .1)), c .before .before .before .before .before .before .pre)
+turn-requires c κs = omega (
+  arith,
+  record-inside (looked-record (c .before .before .before .look .ensures) (c .before .r .given .1)),
+  c .before .before .before .before .before .before .pre,
+)
 
 returns : tie.Need-returns
 returns c = none (refused (c .before .before .look .ensures) (c .enum-told .given .1))

@@ -18,7 +18,11 @@ open-requires : tie.Need-open-requires
 open-requires c κs = search needs
 
 returns-3 : tie.Need-returns-3
-returns-3 c = passes (c .before .before .before .before .before .if1 .left, c .before .before .before .if2 .left, held (c .before .before .ends .ensures) (c .before .if3 .taken)) (c .«open» .ensures)
+returns-3 c = passes (
+  c .before .before .before .before .before .if1 .left,
+  c .before .before .before .if2 .left,
+  held (c .before .before .ends .ensures) (c .before .if3 .taken),
+) (c .«open» .ensures)
 
 returns-4 : tie.Need-returns-4
 returns-4 c = fails (λ p. failed (c .before .ends .ensures) (c .if3 .left) (p .2))

@@ -24,10 +24,16 @@ pass-requires : tie.Need-pass-requires
 pass-requires c κs = search needs
 
 returns-2 : tie.Need-returns-2
-returns-2 c = passes (omega (arith, c .before .before .before .before .before .if1 .left), rw (read-back w32 _ _ (record { fits = c .before .before .before .before .before .before .before .pre .mid-small }) (c .before .before .before .signed32 .ensures)) at (held (c .before .before .good-finite .ensures) (c .before .if2 .taken))) (c .pass .ensures)
+returns-2 c = passes (
+  omega (arith, c .before .before .before .before .before .if1 .left),
+  rw (read-back w32 _ _ (record { fits = c .before .before .before .before .before .before .before .pre .mid-small })
+      (c .before .before .before .signed32 .ensures)) at (held (c .before .before .good-finite .ensures) (c .before .if2 .taken)),
+) (c .pass .ensures)
 
 returns-3 : tie.Need-returns-3
-returns-3 c = fails (λ p. failed (c .before .good-finite .ensures) (c .if2 .left) (rw (read-back w32 _ _ (record { fits = c .before .before .before .before .before .before .pre .mid-small }) (c .before .before .signed32 .ensures)) (p .1)))
+returns-3 c = fails (λ p. failed (c .before .good-finite .ensures) (c .if2 .left)
+    (rw (read-back w32 _ _ (record { fits = c .before .before .before .before .before .before .pre .mid-small }) (c .before .before .signed32 .ensures))
+    (p .1)))
 
 pub number-spec : {M : Type 1} → statement M
 number-spec =

@@ -19,7 +19,13 @@ write-digits-requires : tie.Need-write-digits-requires
 write-digits-requires c κs = search needs
 
 add-result : tie.Need-add-result
-add-result c = omega (arith, c .before .before .before .before .before .pre, c .before .before .before .before .before .good, fixed-length (c .before .before .before .before .before .args .w) (c .before .before .before .before .before .args .n), c .before .before .write-digits .ensures .size)
+add-result c = omega (
+  arith,
+  c .before .before .before .before .before .pre,
+  c .before .before .before .before .before .good,
+  fixed-length (c .before .before .before .before .before .args .w) (c .before .before .before .before .before .args .n),
+  c .before .before .write-digits .ensures .size,
+)
 
 same-length : tie.Need-same-length
 same-length c = search needs

@@ -30,7 +30,13 @@ loop-less : tie.Need-loop-less Inv-loop μ-loop
 loop-less c = search needs
 
 loop-again : tie.Need-loop-again Inv-loop μ-loop
-loop-again c = let room : c .before .before .loop .i < length (c .before .before .loop .out) = omega (arith, writing-length (c .before .before .loop .inv .1), c .before .before .before .pre, c .before .loop-test .taken) in (omega arith, writing-put (getD (c .before .before .before .args .s .now) (c .before .before .loop .i) 0 ∷ []) (writing-as (drop-more (c .before .before .before .args .s .now) (c .before .before .loop .i) (c .before .loop-test .taken)) (c .before .before .loop .inv .1)) (put-byte _ _ _ room))
+loop-again c = let room : c .before .before .loop .i < length (c .before .before .loop .out) =
+    omega (arith, writing-length (c .before .before .loop .inv .1), c .before .before .before .pre, c .before .loop-test .taken) in (
+      omega arith,
+      writing-put (getD (c .before .before .before .args .s .now) (c .before .before .loop .i) 0 ∷ [])
+          (writing-as (drop-more (c .before .before .before .args .s .now) (c .before .before .loop .i) (c .before .loop-test .taken))
+          (c .before .before .loop .inv .1)) (put-byte _ _ _ room),
+    )
 
 same-length : tie.Need-same-length Inv-loop μ-loop
 same-length c = writing-length (c .before .loop .inv .1)

@@ -25,7 +25,14 @@ add-out-2 : tie.Need-add-out-2 Inv-loop μ-loop
 add-out-2 c = search needs
 
 slice-write-out : tie.Need-slice-write-out Inv-loop μ-loop
-slice-write-out c = omega (arith, fill-length _ _ _ _ (c .before .loop .inv) (omega (arith, c .before .before .before .pre)), c .before .before .before .pre, c .before .loop .inv .here, c .before .loop .inv .some, c .loop-test .taken)
+slice-write-out c = omega (
+  arith,
+  fill-length _ _ _ _ (c .before .loop .inv) (omega (arith, c .before .before .before .pre)),
+  c .before .before .before .pre,
+  c .before .loop .inv .here,
+  c .before .loop .inv .some,
+  c .loop-test .taken,
+)
 
 cast-out-2 : tie.Need-cast-out-2 Inv-loop μ-loop
 cast-out-2 c = search needs
@@ -37,7 +44,14 @@ add-out-4 : tie.Need-add-out-4 Inv-loop μ-loop
 add-out-4 c = search needs
 
 slice-write-out-2 : tie.Need-slice-write-out-2 Inv-loop μ-loop
-slice-write-out-2 c = simp length-set (omega (arith, fill-length _ _ _ _ (c .before .loop .inv) (omega (arith, c .before .before .before .pre)), c .before .before .before .pre, c .before .loop .inv .here, c .before .loop .inv .some, c .loop-test .taken))
+slice-write-out-2 c = simp length-set (omega (
+  arith,
+  fill-length _ _ _ _ (c .before .loop .inv) (omega (arith, c .before .before .before .pre)),
+  c .before .before .before .pre,
+  c .before .loop .inv .here,
+  c .before .loop .inv .some,
+  c .loop-test .taken,
+))
 
 cast-out-3 : tie.Need-cast-out-3 Inv-loop μ-loop
 cast-out-3 c = search needs
@@ -49,7 +63,14 @@ add-out-6 : tie.Need-add-out-6 Inv-loop μ-loop
 add-out-6 c = search needs
 
 slice-write-out-3 : tie.Need-slice-write-out-3 Inv-loop μ-loop
-slice-write-out-3 c = simp length-set (omega (arith, fill-length _ _ _ _ (c .before .loop .inv) (omega (arith, c .before .before .before .pre)), c .before .before .before .pre, c .before .loop .inv .here, c .before .loop .inv .some, c .loop-test .taken))
+slice-write-out-3 c = simp length-set (omega (
+  arith,
+  fill-length _ _ _ _ (c .before .loop .inv) (omega (arith, c .before .before .before .pre)),
+  c .before .before .before .pre,
+  c .before .loop .inv .here,
+  c .before .loop .inv .some,
+  c .loop-test .taken,
+))
 
 cast-out-4 : tie.Need-cast-out-4 Inv-loop μ-loop
 cast-out-4 c = search needs
@@ -58,7 +79,14 @@ add-out-7 : tie.Need-add-out-7 Inv-loop μ-loop
 add-out-7 c = search needs
 
 slice-write-out-4 : tie.Need-slice-write-out-4 Inv-loop μ-loop
-slice-write-out-4 c = simp length-set (omega (arith, fill-length _ _ _ _ (c .before .loop .inv) (omega (arith, c .before .before .before .pre)), c .before .before .before .pre, c .before .loop .inv .here, c .before .loop .inv .some, c .loop-test .taken))
+slice-write-out-4 c = simp length-set (omega (
+  arith,
+  fill-length _ _ _ _ (c .before .loop .inv) (omega (arith, c .before .before .before .pre)),
+  c .before .before .before .pre,
+  c .before .loop .inv .here,
+  c .before .loop .inv .some,
+  c .loop-test .taken,
+))
 
 loop-less : tie.Need-loop-less Inv-loop μ-loop
 loop-less c = search needs
@@ -67,13 +95,25 @@ loop-again : tie.Need-loop-again Inv-loop μ-loop
 loop-again c = fill-four _ _ _ _ (c .before .loop .inv) (omega (arith, c .loop-test .taken)) (omega (arith, c .before .before .before .pre))
 
 ones-at-requires : tie.Need-ones-at-requires Inv-loop μ-loop
-ones-at-requires c κs = omega (arith, fill-length _ _ _ _ (c .before .before .loop .inv) (omega (arith, c .before .before .before .before .pre)), c .before .before .before .before .pre, c .before .before .loop .inv .here, c .before .before .loop .inv .some)
+ones-at-requires c κs = omega (
+  arith,
+  fill-length _ _ _ _ (c .before .before .loop .inv) (omega (arith, c .before .before .before .before .pre)),
+  c .before .before .before .before .pre,
+  c .before .before .loop .inv .here,
+  c .before .before .loop .inv .some,
+)
 
 same-length : tie.Need-same-length Inv-loop μ-loop
-same-length c = omega (arith, c .before .before .ones-at .kept .0, fill-length _ _ _ _ (c .before .before .before .before .before .loop .inv) (omega (arith, c .before .before .before .before .before .before .before .pre)))
+same-length c = omega (
+  arith,
+  c .before .before .ones-at .kept .0,
+  fill-length _ _ _ _ (c .before .before .before .before .before .loop .inv)
+      (omega (arith, c .before .before .before .before .before .before .before .pre)),
+)
 
 returns : tie.Need-returns Inv-loop μ-loop
-returns c = whole-end _ _ _ (c .before .before .before .before .before .loop .inv) (c .before .before .ones-at .ensures) (c .before .before .before .before .before .before .before .pre)
+returns c = whole-end _ _ _ (c .before .before .before .before .before .loop .inv) (c .before .before .ones-at .ensures)
+    (c .before .before .before .before .before .before .before .pre)
 
 pub write-digits-spec : {M : Type 1} → statement M
 write-digits-spec =

@@ -49,15 +49,33 @@ returns c =
     let known-told = c .before .before .before .known-told in
     let minus-len = c .before .before .minus-len in
     let decimal-len = c .before .decimal-len in
-    let f : SFits w32 ((n .given .0) .1 .1 .0) = record { sfits = known-told .given .1 .1 .0 .1 } in (omega (arith, minus-len .ensures, decimal-len .ensures, c .power-len .ensures, ap (λ (z : ℤ). length (powerText z)) (toZ-ofZ w32 _ f), ap length (ap numberText (n .given .1) ∙ finite-text ((n .given .0) .0) ((n .given .0) .1 .0) ((n .given .0) .1 .1 .0)), length-three (minusText ((n .given .0) .0)) (decimal ((n .given .0) .1 .0)) (powerText ((n .given .0) .1 .1 .0))), omega (arith, minus-len .ensures, decimal-len .ensures, c .power-len .ensures))
+    let f : SFits w32 ((n .given .0) .1 .1 .0) = record { sfits = known-told .given .1 .1 .0 .1 } in (
+      omega (
+        arith,
+        minus-len .ensures,
+        decimal-len .ensures,
+        c .power-len .ensures,
+        ap (λ (z : ℤ). length (powerText z)) (toZ-ofZ w32 _ f),
+        ap length (ap numberText (n .given .1) ∙ finite-text ((n .given .0) .0) ((n .given .0) .1 .0) ((n .given .0) .1 .1 .0)),
+        length-three (minusText ((n .given .0) .0)) (decimal ((n .given .0) .1 .0)) (powerText ((n .given .0) .1 .1 .0)),
+      ),
+      omega (arith, minus-len .ensures, decimal-len .ensures, c .power-len .ensures),
+    )
 
 returns-2 : tie.Need-returns-2
 returns-2 c = (sym (ap length (ap numberText (c .enum-told .given .1) ∙ nan-text)), omega arith)
 
 returns-3 : tie.Need-returns-3
 returns-3 c =
-    let n2 = c .before .before .n2 in
-    (omega (arith, c .minus-len2 .ensures, ap length (ap numberText (n2 .given .1) ∙ infinite-text (n2 .given .0 .0)), length-append (minusText (n2 .given .0 .0)) (letters "Infinity")), omega (arith, c .minus-len2 .ensures))
+    let n2 = c .before .before .n2 in (
+      omega (
+        arith,
+        c .minus-len2 .ensures,
+        ap length (ap numberText (n2 .given .1) ∙ infinite-text (n2 .given .0 .0)),
+        length-append (minusText (n2 .given .0 .0)) (letters "Infinity"),
+      ),
+      omega (arith, c .minus-len2 .ensures),
+    )
 
 pub number-len-spec : {M : Type 1} → statement M
 number-len-spec =

@@ -25,7 +25,12 @@ byte-at-requires c κs =
     let pre = c .before .before .before .before .pre in
     let sign-and-size = c .before .before .sign-and-size in
     let fits = c .before .before .before .before .fits in
-    omega (arith, pre, ap length (power-split _ (sign-and-size .result) (held-sign _ _ (fits .power) (sign-and-size .ensures)) (c .before .if1 .left)), length-three (letters "e") (minusText (sign-and-size .result .minus)) (decimal (sign-and-size .result .size)))
+    omega (
+      arith,
+      pre,
+      ap length (power-split _ (sign-and-size .result) (held-sign _ _ (fits .power) (sign-and-size .ensures)) (c .before .if1 .left)),
+      length-three (letters "e") (minusText (sign-and-size .result .minus)) (decimal (sign-and-size .result .size)),
+    )
 
 minus-at-requires : tie.Need-minus-at-requires
 minus-at-requires c κs =
@@ -34,7 +39,16 @@ minus-at-requires c κs =
     let sign-and-size = c .before .before .before .before .before .before .sign-and-size in
     let fits = c .before .before .before .before .before .before .before .before .fits in
     let if1 = c .before .before .before .before .before .if1 in
-    omega (arith, pre, byte-at .ensures .next, byte-at .kept .0, ap length (power-split _ (sign-and-size .result) (held-sign _ _ (fits .power) (sign-and-size .ensures)) (if1 .left)), length-three (letters "e") (minusText (sign-and-size .result .minus)) (decimal (sign-and-size .result .size)))
+    omega (
+      arith,
+      pre,
+      byte-at .ensures .next,
+      byte-at .kept .0,
+      ap length (power-split _ (sign-and-size .result)
+          (held-sign _ _ (fits .power) (sign-and-size .ensures)) (if1 .left)),
+      length-three (letters "e") (minusText (sign-and-size .result .minus))
+          (decimal (sign-and-size .result .size)),
+    )
 
 decimal-at-requires : tie.Need-decimal-at-requires
 decimal-at-requires c κs =
@@ -44,7 +58,16 @@ decimal-at-requires c κs =
     let sign-and-size = c .before .before .before .before .before .before .before .before .before .before .sign-and-size in
     let fits = c .before .before .before .before .before .before .before .before .before .before .before .before .fits in
     let if1 = c .before .before .before .before .before .before .before .before .before .if1 in
-    omega (arith, pre, byte-at .ensures .next, byte-at .kept .0, minus-at .ensures .next, minus-at .kept .0, ap length (power-split _ (sign-and-size .result) (held-sign _ _ (fits .power) (sign-and-size .ensures)) (if1 .left)), length-three (letters "e") (minusText (sign-and-size .result .minus)) (decimal (sign-and-size .result .size)))
+    omega (
+      arith,
+      pre,
+      byte-at .ensures .next,
+      byte-at .kept .0,
+      minus-at .ensures .next,
+      minus-at .kept .0,
+      ap length (power-split _ (sign-and-size .result) (held-sign _ _ (fits .power) (sign-and-size .ensures)) (if1 .left)),
+      length-three (letters "e") (minusText (sign-and-size .result .minus)) (decimal (sign-and-size .result .size)),
+    )
 
 same-length : tie.Need-same-length
 same-length c = search needs
@@ -58,7 +81,8 @@ returns-2 c =
     let byte-at = c .before .before .before .before .before .before .before .before .before .before .byte-at in
     let minus-at = c .before .before .before .before .before .before .minus-at in
     let decimal-at = c .before .before .decimal-at in
-    put-at-as (sym (power-split _ (sign-and-size .result) (held-sign _ _ (fits .power) (sign-and-size .ensures)) (if1 .left))) (put-next (omega (arith, pre)) (put-next (omega (arith, pre)) (byte-at .ensures) (minus-at .ensures)) (decimal-at .ensures))
+    put-at-as (sym (power-split _ (sign-and-size .result) (held-sign _ _ (fits .power) (sign-and-size .ensures)) (if1 .left)))
+    (put-next (omega (arith, pre)) (put-next (omega (arith, pre)) (byte-at .ensures) (minus-at .ensures)) (decimal-at .ensures))
 
 pub power-at-spec : {M : Type 1} → statement M
 power-at-spec =

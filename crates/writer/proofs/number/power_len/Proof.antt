@@ -36,8 +36,18 @@ returns-2 c =
     let minus-len = c .before .minus-len in
     let sign-and-size = c .before .before .before .sign-and-size in
     let fits = c .before .before .before .before .fits in
-    let if1 = c .before .before .if1 in
-    (omega (arith, minus-len .ensures, c .decimal-len .ensures, ap length (power-split _ (sign-and-size .result) (held-sign _ _ (fits .power) (sign-and-size .ensures)) (if1 .left)), length-three (letters "e") (minusText (sign-and-size .result .minus)) (decimal (sign-and-size .result .size))), omega (arith, minus-len .ensures, c .decimal-len .ensures))
+    let if1 = c .before .before .if1 in (
+      omega (
+        arith,
+        minus-len .ensures,
+        c .decimal-len .ensures,
+        ap length (power-split _ (sign-and-size .result)
+            (held-sign _ _ (fits .power) (sign-and-size .ensures)) (if1 .left)),
+        length-three (letters "e") (minusText (sign-and-size .result .minus))
+            (decimal (sign-and-size .result .size)),
+      ),
+      omega (arith, minus-len .ensures, c .decimal-len .ensures),
+    )
 
 pub power-len-spec : {M : Type 1} → statement M
 power-len-spec =

@@ -18,14 +18,26 @@ minus-at-requires : tie.Need-minus-at-requires
 minus-at-requires c κs =
     let pre = c .before .before .before .before .before .pre in
     let n = c .before .before .n in
-    omega (arith, pre, ap length (ap numberText (n .given .1) ∙ finite-text ((n .given .0) .0) ((n .given .0) .1 .0) ((n .given .0) .1 .1 .0)), length-three (minusText ((n .given .0) .0)) (decimal ((n .given .0) .1 .0)) (powerText ((n .given .0) .1 .1 .0)))
+    omega (
+      arith,
+      pre,
+      ap length (ap numberText (n .given .1) ∙ finite-text ((n .given .0) .0) ((n .given .0) .1 .0) ((n .given .0) .1 .1 .0)),
+      length-three (minusText ((n .given .0) .0)) (decimal ((n .given .0) .1 .0)) (powerText ((n .given .0) .1 .1 .0)),
+    )
 
 decimal-at-requires : tie.Need-decimal-at-requires
 decimal-at-requires c κs =
     let pre = c .before .before .before .before .before .before .before .before .before .pre in
     let n = c .before .before .before .before .before .before .n in
     let minus-at = c .before .before .before .minus-at in
-    omega (arith, pre, ap length (ap numberText (n .given .1) ∙ finite-text ((n .given .0) .0) ((n .given .0) .1 .0) ((n .given .0) .1 .1 .0)), length-three (minusText ((n .given .0) .0)) (decimal ((n .given .0) .1 .0)) (powerText ((n .given .0) .1 .1 .0)), minus-at .ensures .next, minus-at .kept .0)
+    omega (
+      arith,
+      pre,
+      ap length (ap numberText (n .given .1) ∙ finite-text ((n .given .0) .0) ((n .given .0) .1 .0) ((n .given .0) .1 .1 .0)),
+      length-three (minusText ((n .given .0) .0)) (decimal ((n .given .0) .1 .0)) (powerText ((n .given .0) .1 .1 .0)),
+      minus-at .ensures .next,
+      minus-at .kept .0,
+    )
 
 power-at-requires : tie.Need-power-at-requires
 power-at-requires c κs =
@@ -34,7 +46,18 @@ power-at-requires c κs =
     let minus-at = c .before .before .before .before .before .before .before .minus-at in
     let decimal-at = c .before .before .before .decimal-at in
     let known-told = c .before .before .before .before .before .before .before .before .before .known-told in
-    omega (arith, pre, ap length (ap numberText (n .given .1) ∙ finite-text ((n .given .0) .0) ((n .given .0) .1 .0) ((n .given .0) .1 .1 .0)), length-three (minusText ((n .given .0) .0)) (decimal ((n .given .0) .1 .0)) (powerText ((n .given .0) .1 .1 .0)), minus-at .ensures .next, minus-at .kept .0, decimal-at .ensures .next, decimal-at .kept .0, ap length (power-held ((n .given .0) .1 .1 .0) (record { sfits = known-told .given .1 .1 .0 .1 })))
+    omega (
+      arith,
+      pre,
+      ap length (ap numberText (n .given .1) ∙ finite-text ((n .given .0) .0) ((n .given .0) .1 .0) ((n .given .0) .1 .1 .0)),
+      length-three (minusText ((n .given .0) .0)) (decimal ((n .given .0) .1 .0)) (powerText ((n .given .0) .1 .1 .0)),
+      minus-at .ensures .next,
+      minus-at .kept .0,
+      decimal-at .ensures .next,
+      decimal-at .kept .0,
+      ap length
+          (power-held ((n .given .0) .1 .1 .0) (record { sfits = known-told .given .1 .1 .0 .1 })),
+    )
 
 enum-told : tie.Need-enum-told
 enum-told c = search needs
@@ -55,7 +78,12 @@ minus-at-requires-2 : tie.Need-minus-at-requires-2
 minus-at-requires-2 c κs =
     let pre = c .before .before .before .before .before .pre in
     let n2 = c .before .before .n2 in
-    omega (arith, pre, ap length (ap numberText (n2 .given .1) ∙ infinite-text (n2 .given .0 .0)), length-append (minusText (n2 .given .0 .0)) (letters "Infinity"))
+    omega (
+      arith,
+      pre,
+      ap length (ap numberText (n2 .given .1) ∙ infinite-text (n2 .given .0 .0)),
+      length-append (minusText (n2 .given .0 .0)) (letters "Infinity"),
+    )
 
 slice-aggregate-bytes-at-2 : tie.Need-slice-aggregate-bytes-at-2
 slice-aggregate-bytes-at-2 c = search needs
@@ -65,7 +93,14 @@ bytes-at-requires-2 c κs =
     let pre = c .before .before .before .before .before .before .before .before .before .before .pre in
     let n2 = c .before .before .before .before .before .before .before .n2 in
     let minus-at2 = c .before .before .before .before .minus-at2 in
-    omega (arith, pre, ap length (ap numberText (n2 .given .1) ∙ infinite-text (n2 .given .0 .0)), length-append (minusText (n2 .given .0 .0)) (letters "Infinity"), minus-at2 .ensures .next, minus-at2 .kept .0)
+    omega (
+      arith,
+      pre,
+      ap length (ap numberText (n2 .given .1) ∙ infinite-text (n2 .given .0 .0)),
+      length-append (minusText (n2 .given .0 .0)) (letters "Infinity"),
+      minus-at2 .ensures .next,
+      minus-at2 .kept .0,
+    )
 
 same-length : tie.Need-same-length
 same-length c = search needs
@@ -77,7 +112,9 @@ returns c =
     let decimal-at = c .before .before .before .before .before .before .decimal-at in
     let known-told = c .before .before .before .before .before .before .before .before .before .before .before .before .known-told in
     let power-at = c .before .before .power-at in
-    put-as (sym (ap numberText (n .given .1) ∙ finite-text ((n .given .0) .0) ((n .given .0) .1 .0) ((n .given .0) .1 .1 .0))) (put-whole (put-next (omega arith) (put-next (omega arith) (minus-at .ensures) (decimal-at .ensures)) (put-at-as (power-held ((n .given .0) .1 .1 .0) (record { sfits = known-told .given .1 .1 .0 .1 })) (power-at .ensures))))
+    put-as (sym (ap numberText (n .given .1) ∙ finite-text ((n .given .0) .0) ((n .given .0) .1 .0) ((n .given .0) .1 .1 .0)))
+    (put-whole (put-next (omega arith) (put-next (omega arith) (minus-at .ensures) (decimal-at .ensures))
+    (put-at-as (power-held ((n .given .0) .1 .1 .0) (record { sfits = known-told .given .1 .1 .0 .1 })) (power-at .ensures))))
 
 same-length-2 : tie.Need-same-length-2
 same-length-2 c = search needs

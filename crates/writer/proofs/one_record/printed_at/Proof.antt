@@ -7,7 +7,8 @@ use Rattle.meaning.specs.Canonical.{quoted}
 use Rattle.tape.specs.Between.Turns.{bytesEnd}
 use Rattle.writer.specs.Between.Walk.{part}
 use Rattle.writer.proofs.LaidLaws.{put-at-as, put-next}
-use Rattle.writer.proofs.OneRecordLaws.{null-printed, bool-printed, number-printed, string-printed, key-printed, binary-printed, time-printed, array-printed, object-printed}
+use Rattle.writer.proofs.OneRecordLaws.{null-printed, bool-printed, number-printed, string-printed, key-printed, binary-printed, time-printed}
+use Rattle.writer.proofs.OneRecordLaws.{array-printed, object-printed}
 use borrow.Author.Needs.{needs}
 use Rattle.writer.proofs.one_record.printed_at.Statement.{statement}
 use Rattle.writer.proofs.one_record.printed_at.Tie as tie
@@ -62,8 +63,15 @@ string-at-requires-2 : tie.Need-string-at-requires-2
 string-at-requires-2 c κs =
     let pre = c .before .before .before .before .before .before .pre in
     let r4 = c .before .before .r4 in
-    let args = c .before .before .before .before .before .before .args in
-    (omega (arith, pre .0, ap bytesEnd (r4 .given .1)), omega (arith, pre .1, ap length (key-printed (args .store .now) (r4 .given .1)), length-append (quoted (part (args .store .now) (r4 .given .0 .0) (r4 .given .0 .1 .0))) (letters ":")))
+    let args = c .before .before .before .before .before .before .args in (
+      omega (arith, pre .0, ap bytesEnd (r4 .given .1)),
+      omega (
+        arith,
+        pre .1,
+        ap length (key-printed (args .store .now) (r4 .given .1)),
+        length-append (quoted (part (args .store .now) (r4 .given .0 .0) (r4 .given .0 .1 .0))) (letters ":"),
+      ),
+    )
 
 byte-at-requires : tie.Need-byte-at-requires
 byte-at-requires c κs =
@@ -71,7 +79,14 @@ byte-at-requires c κs =
     let args = c .before .before .before .before .before .before .before .before .before .before .args in
     let r4 = c .before .before .before .before .before .before .r4 in
     let string-at2 = c .before .before .before .string-at2 in
-    omega (arith, pre .1, ap length (key-printed (args .store .now) (r4 .given .1)), length-append (quoted (part (args .store .now) (r4 .given .0 .0) (r4 .given .0 .1 .0))) (letters ":"), string-at2 .ensures .next, string-at2 .kept .0)
+    omega (
+      arith,
+      pre .1,
+      ap length (key-printed (args .store .now) (r4 .given .1)),
+      length-append (quoted (part (args .store .now) (r4 .given .0 .0) (r4 .given .0 .1 .0))) (letters ":"),
+      string-at2 .ensures .next,
+      string-at2 .kept .0,
+    )
 
 enum-known-r-5 : tie.Need-enum-known-r-5
 enum-known-r-5 c = search needs

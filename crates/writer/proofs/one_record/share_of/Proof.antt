@@ -6,7 +6,8 @@ use Rattle.tape.specs.Between.Turns.{bytesEnd}
 use Rattle.writer.specs.Between.Walk.{part}
 use Rattle.meaning.proofs.Text.{time-length}
 use Rattle.writer.proofs.PiecesLaws.{quoted-small}
-use Rattle.writer.proofs.OneRecordLaws.{closes-few, part-length, true-printed, false-printed, null-share, bool-share, number-share, string-share, key-share, binary-share, time-share, array-share, object-share}
+use Rattle.writer.proofs.OneRecordLaws.{closes-few, part-length, true-printed, false-printed, null-share, bool-share, number-share, string-share}
+use Rattle.writer.proofs.OneRecordLaws.{key-share, binary-share, time-share, array-share, object-share}
 use borrow.Author.Needs.{needs}
 use Rattle.writer.proofs.one_record.share_of.Statement.{statement}
 use Rattle.writer.proofs.one_record.share_of.Tie as tie
@@ -45,7 +46,17 @@ add-result-2 c =
     let args = c .before .before .before .before .before .args in
     let r3 = c .before .before .r3 in
     let pre = c .before .before .before .before .before .pre in
-    omega (arith, c .part-len .ensures, quoted-small (part (args .store .now) (r3 .given .0 .0) (r3 .given .0 .1 .0)) (omega (arith, part-length (args .store .now) (r3 .given .0 .0) (r3 .given .0 .1 .0) (omega (arith, pre .0, ap bytesEnd (r3 .given .1))), pre, ap bytesEnd (r3 .given .1))))
+    omega (
+      arith,
+      c .part-len .ensures,
+      quoted-small (part (args .store .now) (r3 .given .0 .0) (r3 .given .0 .1 .0))
+          (omega (
+            arith,
+            part-length (args .store .now) (r3 .given .0 .0) (r3 .given .0 .1 .0) (omega (arith, pre .0, ap bytesEnd (r3 .given .1))),
+            pre,
+            ap bytesEnd (r3 .given .1),
+          )),
+    )
 
 enum-known-r-4 : tie.Need-enum-known-r-4
 enum-known-r-4 c = search needs
@@ -60,7 +71,17 @@ add-result-3 c =
     let args = c .before .before .before .before .before .args in
     let r4 = c .before .before .r4 in
     let pre = c .before .before .before .before .before .pre in
-    omega (arith, c .part-len2 .ensures, quoted-small (part (args .store .now) (r4 .given .0 .0) (r4 .given .0 .1 .0)) (omega (arith, part-length (args .store .now) (r4 .given .0 .0) (r4 .given .0 .1 .0) (omega (arith, pre .0, ap bytesEnd (r4 .given .1))), pre, ap bytesEnd (r4 .given .1))))
+    omega (
+      arith,
+      c .part-len2 .ensures,
+      quoted-small (part (args .store .now) (r4 .given .0 .0) (r4 .given .0 .1 .0))
+          (omega (
+            arith,
+            part-length (args .store .now) (r4 .given .0 .0) (r4 .given .0 .1 .0) (omega (arith, pre .0, ap bytesEnd (r4 .given .1))),
+            pre,
+            ap bytesEnd (r4 .given .1),
+          )),
+    )
 
 enum-known-r-5 : tie.Need-enum-known-r-5
 enum-known-r-5 c = search needs

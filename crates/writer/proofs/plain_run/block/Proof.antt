@@ -35,7 +35,11 @@ loop-less : tie.Need-loop-less Inv-loop μ-loop
 loop-less c = search needs
 
 loop-again : tie.Need-loop-again Inv-loop μ-loop
-loop-again c = (omega (arith, c .before .before .before .loop-test .taken), all-more _ _ _ _ _ _ (c .before .before .before .before .loop .inv .1) (c .before .ease .ensures) (c .lesser .ensures))
+loop-again c = (
+  omega (arith, c .before .before .before .loop-test .taken),
+  all-more _ _ _ _ _ _ (c .before .before .before .before .loop .inv .1)
+      (c .before .ease .ensures) (c .lesser .ensures),
+)
 
 returns : tie.Need-returns Inv-loop μ-loop
 returns c = all-full _ _ _ _ (c .before .loop .inv .0) (c .loop-test .left) (c .before .loop .inv .1)

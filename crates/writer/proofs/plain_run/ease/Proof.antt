@@ -20,7 +20,8 @@ lesser-requires-2 : tie.Need-lesser-requires-2
 lesser-requires-2 c κs = search needs
 
 returns : tie.Need-returns
-returns c = ease-of _ _ _ _ _ _ (c .before .before .before .before .above .ensures) (c .before .before .before .apart .ensures) (c .before .before .apart2 .ensures) (c .before .lesser .ensures) (c .lesser2 .ensures)
+returns c = ease-of _ _ _ _ _ _ (c .before .before .before .before .above .ensures) (c .before .before .before .apart .ensures)
+    (c .before .before .apart2 .ensures) (c .before .lesser .ensures) (c .lesser2 .ensures)
 
 pub ease-spec : {M : Type 1} → statement M
 ease-spec =

@@ -36,13 +36,15 @@ loop-less : tie.Need-loop-less Inv-loop μ-loop
 loop-less c = omega (arith, c .before .before .loop-test .taken, c .before .before .before .loop .inv .within)
 
 loop-again : tie.Need-loop-again Inv-loop μ-loop
-loop-again c = run-block _ _ _ _ (c .before .before .before .loop .inv) (omega (arith, c .before .before .loop-test .taken)) (c .before .block .ensures) (c .if1 .left)
+loop-again c = run-block _ _ _ _ (c .before .before .before .loop .inv) (omega (arith, c .before .before .loop-test .taken)) (c .before .block .ensures)
+    (c .if1 .left)
 
 plain-last-requires : tie.Need-plain-last-requires Inv-loop μ-loop
 plain-last-requires c κs = search needs
 
 returns-2 : tie.Need-returns-2 Inv-loop μ-loop
-returns-2 c = run-last _ _ _ (c .before .before .before .loop .inv) (omega (arith, c .before .before .loop-test .left)) (c .before .plain-last .ensures) (c .if2 .taken)
+returns-2 c = run-last _ _ _ (c .before .before .before .loop .inv) (omega (arith, c .before .before .loop-test .left)) (c .before .plain-last .ensures)
+    (c .if2 .taken)
 
 plain-bytes-requires-2 : tie.Need-plain-bytes-requires-2 Inv-loop μ-loop
 plain-bytes-requires-2 c κs = omega (arith, c .before .before .before .loop .inv .within)

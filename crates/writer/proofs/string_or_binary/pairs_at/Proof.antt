@@ -26,7 +26,11 @@ pair-at-requires c κs =
     let args = c .before .before .before .before .before .before .args in
     let loop = c .before .before .before .loop in
     let loop-test = c .before .before .loop-test in
-    omega (arith, writing-room (hexPair (getD (args .s .now) (loop .i) 0)) (hexPairs (drop (loop .i + 1) (args .s .now))) (writing-as (pairs-more (args .s .now) (loop .i) (loop-test .taken)) (loop .inv .1)))
+    omega (
+      arith,
+      writing-room (hexPair (getD (args .s .now) (loop .i) 0)) (hexPairs (drop (loop .i + 1) (args .s .now)))
+          (writing-as (pairs-more (args .s .now) (loop .i) (loop-test .taken)) (loop .inv .1)),
+    )
 
 add-i : tie.Need-add-i Inv-loop μ-loop
 add-i c = search needs
@@ -39,8 +43,11 @@ loop-again c =
     let args = c .before .before .before .before .before .before .before .before .before .args in
     let loop = c .before .before .before .before .before .before .loop in
     let loop-test = c .before .before .before .before .before .loop-test in
-    let pair-at = c .before .before .pair-at in
-    (omega arith, writing-put (hexPair (getD (args .s .now) (loop .i) 0)) (writing-as (pairs-more (args .s .now) (loop .i) (loop-test .taken)) (loop .inv .1)) (pair-at .ensures))
+    let pair-at = c .before .before .pair-at in (
+      omega arith,
+      writing-put (hexPair (getD (args .s .now) (loop .i) 0)) (writing-as (pairs-more (args .s .now) (loop .i) (loop-test .taken)) (loop .inv .1))
+          (pair-at .ensures),
+    )
 
 same-length : tie.Need-same-length Inv-loop μ-loop
 same-length c = writing-length (c .before .loop .inv .1)

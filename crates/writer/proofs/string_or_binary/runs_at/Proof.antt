@@ -36,19 +36,32 @@ bytes-at-requires c κs =
     let s = c .before .before .before .before .before .before .before .before .args .s .now in
     let i = c .before .before .before .before .before .loop .i in
     let run = c .before .before .before .plain-run in
-    writing-room (take (run .result - i) (drop i s)) (escapes (drop (run .result) s)) (writing-as (run-text s i _ (run .ensures)) (c .before .before .before .before .before .loop .inv .1))
+    writing-room (take (run .result - i) (drop i s)) (escapes (drop (run .result) s))
+    (writing-as (run-text s i _ (run .ensures)) (c .before .before .before .before .before .loop .inv .1))
 
 loop-less : tie.Need-loop-less Inv-loop μ-loop
-loop-less c = omega (arith, c .before .before .before .before .before .if1 .taken, c .before .before .before .before .before .before .plain-run .ensures .within)
+loop-less c = omega (
+  arith,
+  c .before .before .before .before .before .if1 .taken,
+  c .before .before .before .before .before .before .plain-run .ensures .within,
+)
 
 loop-again : tie.Need-loop-again Inv-loop μ-loop
-loop-again c = (c .before .before .before .before .before .before .plain-run .ensures .within, writing-put _ (writing-as (run-text (c .before .before .before .before .before .before .before .before .before .before .before .args .s .now) (c .before .before .before .before .before .before .before .before .loop .i) _ (c .before .before .before .before .before .before .plain-run .ensures)) (c .before .before .before .before .before .before .before .before .loop .inv .1)) (c .before .before .bytes-at .ensures))
+loop-again c = (
+  c .before .before .before .before .before .before .plain-run .ensures .within,
+  writing-put _ (writing-as (run-text (c .before .before .before .before .before .before .before .before .before .before .before .args .s .now)
+      (c .before .before .before .before .before .before .before .before .loop .i) _ (c .before .before .before .before .before .before .plain-run .ensures))
+      (c .before .before .before .before .before .before .before .before .loop .inv .1)) (c .before .before .bytes-at .ensures),
+)
 
 shared-slice-read-escaped-at : tie.Need-shared-slice-read-escaped-at Inv-loop μ-loop
 shared-slice-read-escaped-at c = search needs
 
 escaped-at-requires : tie.Need-escaped-at-requires Inv-loop μ-loop
-escaped-at-requires c κs = writing-room (escaped (getD (c .before .before .before .before .before .before .before .before .args .s .now) (c .before .before .before .before .before .loop .i) 0)) _ (writing-as (escapes-more (c .before .before .before .before .before .before .before .before .args .s .now) (c .before .before .before .before .before .loop .i) (c .before .before .before .before .loop-test .taken)) (c .before .before .before .before .before .loop .inv .1))
+escaped-at-requires c κs = writing-room (escaped (getD (c .before .before .before .before .before .before .before .before .args .s .now)
+    (c .before .before .before .before .before .loop .i) 0)) _ (writing-as (escapes-more
+    (c .before .before .before .before .before .before .before .before .args .s .now) (c .before .before .before .before .before .loop .i)
+    (c .before .before .before .before .loop-test .taken)) (c .before .before .before .before .before .loop .inv .1))
 
 add-i : tie.Need-add-i Inv-loop μ-loop
 add-i c = omega (arith, c .before .before .before .before .before .before .before .loop-test .taken)
@@ -57,13 +70,22 @@ loop-less-2 : tie.Need-loop-less-2 Inv-loop μ-loop
 loop-less-2 c = omega (arith, c .before .before .before .before .before .before .before .loop-test .taken)
 
 loop-again-2 : tie.Need-loop-again-2 Inv-loop μ-loop
-loop-again-2 c = (omega (arith, c .before .before .before .before .before .before .before .loop-test .taken), writing-put (escaped (getD (c .before .before .before .before .before .before .before .before .before .before .before .args .s .now) (c .before .before .before .before .before .before .before .before .loop .i) 0)) (writing-as (escapes-more (c .before .before .before .before .before .before .before .before .before .before .before .args .s .now) (c .before .before .before .before .before .before .before .before .loop .i) (c .before .before .before .before .before .before .before .loop-test .taken)) (c .before .before .before .before .before .before .before .before .loop .inv .1)) (c .before .before .escaped-at .ensures))
+loop-again-2 c = (
+  omega (arith, c .before .before .before .before .before .before .before .loop-test .taken),
+  writing-put (escaped (getD (c .before .before .before .before .before .before .before .before .before .before .before .args .s .now)
+      (c .before .before .before .before .before .before .before .before .loop .i) 0))
+      (writing-as (escapes-more (c .before .before .before .before .before .before .before .before .before .before .before .args .s .now)
+      (c .before .before .before .before .before .before .before .before .loop .i)
+      (c .before .before .before .before .before .before .before .loop-test .taken))
+      (c .before .before .before .before .before .before .before .before .loop .inv .1)) (c .before .before .escaped-at .ensures),
+)
 
 same-length : tie.Need-same-length Inv-loop μ-loop
 same-length c = writing-length (c .before .loop .inv .1)
 
 returns : tie.Need-returns Inv-loop μ-loop
-returns c = finish (writing-as (escapes-end (c .before .before .before .before .args .s .now) (c .before .loop .i) (c .loop-test .left)) (c .before .loop .inv .1))
+returns c = finish (writing-as (escapes-end (c .before .before .before .before .args .s .now) (c .before .loop .i) (c .loop-test .left))
+    (c .before .loop .inv .1))
 
 pub runs-at-spec : {M : Type 1} → statement M
 runs-at-spec =

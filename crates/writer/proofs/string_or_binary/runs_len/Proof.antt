@@ -27,13 +27,27 @@ sub-total : tie.Need-sub-total Inv-loop μ-loop
 sub-total c = omega (arith, c .if1 .taken)
 
 add-total : tie.Need-add-total Inv-loop μ-loop
-add-total c = omega (arith, c .before .before .before .loop .inv, run-count (c .before .before .before .before .before .args .s .now) (c .before .before .before .loop .i) _ (c .before .plain-run .ensures), quoted-small (c .before .before .before .before .before .args .s .now) (c .before .before .before .before .before .pre))
+add-total c = omega (
+  arith,
+  c .before .before .before .loop .inv,
+  run-count (c .before .before .before .before .before .args .s .now)
+      (c .before .before .before .loop .i) _ (c .before .plain-run .ensures),
+  quoted-small (c .before .before .before .before .before .args .s .now)
+      (c .before .before .before .before .before .pre),
+)
 
 loop-less : tie.Need-loop-less Inv-loop μ-loop
 loop-less c = omega (arith, c .if1 .taken, c .before .plain-run .ensures .within)
 
 loop-again : tie.Need-loop-again Inv-loop μ-loop
-loop-again c = (c .before .plain-run .ensures .within, omega (arith, c .before .before .before .loop .inv, run-count (c .before .before .before .before .before .args .s .now) (c .before .before .before .loop .i) _ (c .before .plain-run .ensures)))
+loop-again c = (
+  c .before .plain-run .ensures .within,
+  omega (
+    arith,
+    c .before .before .before .loop .inv,
+    run-count (c .before .before .before .before .before .args .s .now) (c .before .before .before .loop .i) _ (c .before .plain-run .ensures),
+  ),
+)
 
 shared-slice-read-escaped-len : tie.Need-shared-slice-read-escaped-len Inv-loop μ-loop
 shared-slice-read-escaped-len c = search needs
@@ -42,7 +56,15 @@ escaped-len-requires : tie.Need-escaped-len-requires Inv-loop μ-loop
 escaped-len-requires c κs = search needs
 
 add-total-2 : tie.Need-add-total-2 Inv-loop μ-loop
-add-total-2 c = omega (arith, c .before .before .before .before .before .loop .inv, c .escaped-len .ensures, count-more (c .before .before .before .before .before .before .before .args .s .now) (c .before .before .before .before .before .loop .i) (c .before .before .before .before .loop-test .taken), quoted-small (c .before .before .before .before .before .before .before .args .s .now) (c .before .before .before .before .before .before .before .pre))
+add-total-2 c = omega (
+  arith,
+  c .before .before .before .before .before .loop .inv,
+  c .escaped-len .ensures,
+  count-more (c .before .before .before .before .before .before .before .args .s .now) (c .before .before .before .before .before .loop .i)
+      (c .before .before .before .before .loop-test .taken),
+  quoted-small (c .before .before .before .before .before .before .before .args .s .now)
+      (c .before .before .before .before .before .before .before .pre),
+)
 
 add-i : tie.Need-add-i Inv-loop μ-loop
 add-i c = omega (arith, c .before .before .before .before .loop-test .taken)
@@ -51,7 +73,16 @@ loop-less-2 : tie.Need-loop-less-2 Inv-loop μ-loop
 loop-less-2 c = omega (arith, c .before .before .before .before .loop-test .taken)
 
 loop-again-2 : tie.Need-loop-again-2 Inv-loop μ-loop
-loop-again-2 c = (omega (arith, c .before .before .before .before .loop-test .taken), omega (arith, c .before .before .before .before .before .loop .inv, c .escaped-len .ensures, count-more (c .before .before .before .before .before .before .before .args .s .now) (c .before .before .before .before .before .loop .i) (c .before .before .before .before .loop-test .taken)))
+loop-again-2 c = (
+  omega (arith, c .before .before .before .before .loop-test .taken),
+  omega (
+    arith,
+    c .before .before .before .before .before .loop .inv,
+    c .escaped-len .ensures,
+    count-more (c .before .before .before .before .before .before .before .args .s .now) (c .before .before .before .before .before .loop .i)
+        (c .before .before .before .before .loop-test .taken),
+  ),
+)
 
 returns : tie.Need-returns Inv-loop μ-loop
 returns c = omega (arith, c .before .loop .inv, ap length (escapes-end (c .before .before .before .args .s .now) (c .before .loop .i) (c .loop-test .left)))

@@ -39,8 +39,11 @@ loop-again c =
     let args = c .before .before .before .before .before .before .before .before .before .args in
     let loop = c .before .before .before .before .before .before .loop in
     let loop-test = c .before .before .before .before .before .loop-test in
-    let escaped-at = c .before .before .escaped-at in
-    (omega arith, writing-put (escaped (getD (args .s .now) (loop .i) 0)) (writing-as (escapes-more (args .s .now) (loop .i) (loop-test .taken)) (loop .inv .1)) (escaped-at .ensures))
+    let escaped-at = c .before .before .escaped-at in (
+      omega arith,
+      writing-put (escaped (getD (args .s .now) (loop .i) 0)) (writing-as (escapes-more (args .s .now) (loop .i) (loop-test .taken)) (loop .inv .1))
+          (escaped-at .ensures),
+    )
 
 same-length : tie.Need-same-length Inv-loop μ-loop
 same-length c = writing-length (c .before .loop .inv .1)

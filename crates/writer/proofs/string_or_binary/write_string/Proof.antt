@@ -21,7 +21,14 @@ escapes-at-requires c κs =
     let pre = c .before .before .before .before .before .before .before .pre in
     let args = c .before .before .before .before .before .before .before .args in
     let byte-at = c .before .before .before .byte-at in
-    omega (arith, pre, ap length (quoted-parts (args .s .now)), length-three (letters "\"") (escapes (args .s .now)) (letters "\""), byte-at .ensures .next, byte-at .kept .0)
+    omega (
+      arith,
+      pre,
+      ap length (quoted-parts (args .s .now)),
+      length-three (letters "\"") (escapes (args .s .now)) (letters "\""),
+      byte-at .ensures .next,
+      byte-at .kept .0,
+    )
 
 byte-at-requires-2 : tie.Need-byte-at-requires-2
 byte-at-requires-2 c κs =
@@ -29,7 +36,16 @@ byte-at-requires-2 c κs =
     let args = c .before .before .before .before .before .before .before .before .before .before .before .args in
     let byte-at = c .before .before .before .before .before .before .before .byte-at in
     let escapes-at = c .before .before .before .escapes-at in
-    omega (arith, pre, ap length (quoted-parts (args .s .now)), length-three (letters "\"") (escapes (args .s .now)) (letters "\""), byte-at .ensures .next, byte-at .kept .0, escapes-at .ensures .next, escapes-at .kept .0)
+    omega (
+      arith,
+      pre,
+      ap length (quoted-parts (args .s .now)),
+      length-three (letters "\"") (escapes (args .s .now)) (letters "\""),
+      byte-at .ensures .next,
+      byte-at .kept .0,
+      escapes-at .ensures .next,
+      escapes-at .kept .0,
+    )
 
 same-length : tie.Need-same-length
 same-length c = search needs
@@ -40,7 +56,8 @@ returns c =
     let byte-at = c .before .before .before .before .before .before .before .before .before .before .byte-at in
     let escapes-at = c .before .before .before .before .before .before .escapes-at in
     let byte-at2 = c .before .before .byte-at2 in
-    put-as (sym (quoted-parts (args .s .now))) (put-whole (put-next (omega arith) (put-next (omega arith) (byte-at .ensures) (escapes-at .ensures)) (byte-at2 .ensures)))
+    put-as (sym (quoted-parts (args .s .now))) (put-whole (put-next (omega arith) (put-next (omega arith) (byte-at .ensures) (escapes-at .ensures))
+    (byte-at2 .ensures)))
 
 pub write-string-spec : {M : Type 1} → statement M
 write-string-spec =

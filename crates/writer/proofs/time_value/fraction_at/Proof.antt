@@ -23,7 +23,12 @@ byte-at-requires c κs =
     let args = c .before .before .before .before .args in
     let if1 = c .before .before .if1 in
     let trimmed = c .before .trimmed in
-    omega (arith, pre, ap length (fraction-some (args .n) (if1 .left) ∙ ap (λ (l : List _). letters "." ++ l) (trimmed .ensures .text)), fixed-length ((trimmed .result) .count) ((trimmed .result) .digits))
+    omega (
+      arith,
+      pre,
+      ap length (fraction-some (args .n) (if1 .left) ∙ ap (λ (l : List _). letters "." ++ l) (trimmed .ensures .text)),
+      fixed-length ((trimmed .result) .count) ((trimmed .result) .digits),
+    )
 
 digits-at-requires : tie.Need-digits-at-requires
 digits-at-requires c κs =
@@ -32,7 +37,14 @@ digits-at-requires c κs =
     let if1 = c .before .before .before .before .before .before .if1 in
     let trimmed = c .before .before .before .before .before .trimmed in
     let byte-at = c .before .before .before .byte-at in
-    omega (arith, pre, ap length (fraction-some (args .n) (if1 .left) ∙ ap (λ (l : List _). letters "." ++ l) (trimmed .ensures .text)), fixed-length ((trimmed .result) .count) ((trimmed .result) .digits), byte-at .ensures .next, byte-at .kept .0)
+    omega (
+      arith,
+      pre,
+      ap length (fraction-some (args .n) (if1 .left) ∙ ap (λ (l : List _). letters "." ++ l) (trimmed .ensures .text)),
+      fixed-length ((trimmed .result) .count) ((trimmed .result) .digits),
+      byte-at .ensures .next,
+      byte-at .kept .0,
+    )
 
 same-length : tie.Need-same-length
 same-length c = search needs
@@ -45,7 +57,8 @@ returns-2 c =
     let pre = c .before .before .before .before .before .before .before .before .before .before .before .pre in
     let byte-at = c .before .before .before .before .before .before .byte-at in
     let digits-at = c .before .before .digits-at in
-    put-at-as (sym (fraction-some (args .n) (if1 .left) ∙ ap (λ (l : List _). letters "." ++ l) (trimmed .ensures .text))) (put-next (omega (arith, pre)) (byte-at .ensures) (digits-at .ensures))
+    put-at-as (sym (fraction-some (args .n) (if1 .left) ∙ ap (λ (l : List _). letters "." ++ l) (trimmed .ensures .text)))
+    (put-next (omega (arith, pre)) (byte-at .ensures) (digits-at .ensures))
 
 pub fraction-at-spec : {M : Type 1} → statement M
 fraction-at-spec =

@@ -23,8 +23,14 @@ returns-2 : tie.Need-returns-2
 returns-2 c =
     let args = c .before .before .before .args in
     let if1 = c .before .before .if1 in
-    let trimmed = c .before .trimmed in
-    (omega (arith, ap length (fraction-some (args .n) (if1 .left) ∙ ap (λ (l : List _). letters "." ++ l) (trimmed .ensures .text)), fixed-length ((trimmed .result) .count) ((trimmed .result) .digits)), omega (arith, trimmed .ensures .few))
+    let trimmed = c .before .trimmed in (
+      omega (
+        arith,
+        ap length (fraction-some (args .n) (if1 .left) ∙ ap (λ (l : List _). letters "." ++ l) (trimmed .ensures .text)),
+        fixed-length ((trimmed .result) .count) ((trimmed .result) .digits),
+      ),
+      omega (arith, trimmed .ensures .few),
+    )
 
 pub fraction-len-spec : {M : Type 1} → statement M
 fraction-len-spec = tie.close (tie.spec returns trimmed-requires add-result returns-2)

@@ -24,7 +24,16 @@ digits-at-requires-2 c κs =
     let args = c .before .before .before .before .before .before .before .before .before .before .args in
     let digits-at = c .before .before .before .before .before .before .before .digits-at in
     let byte-at = c .before .before .before .byte-at in
-    omega (arith, pre, minutes-length (args .n), digits-at .ensures .next, digits-at .kept .0, fixed-length 2 ((args .n) / 60), byte-at .ensures .next, byte-at .kept .0)
+    omega (
+      arith,
+      pre,
+      minutes-length (args .n),
+      digits-at .ensures .next,
+      digits-at .kept .0,
+      fixed-length 2 ((args .n) / 60),
+      byte-at .ensures .next,
+      byte-at .kept .0,
+    )
 
 same-length : tie.Need-same-length
 same-length c = search needs
@@ -36,7 +45,8 @@ returns c =
     let digits-at = c .before .before .before .before .before .before .before .before .before .before .digits-at in
     let byte-at = c .before .before .before .before .before .before .byte-at in
     let digits-at2 = c .before .before .digits-at2 in
-    put-next (omega (arith, pre, minutes-length (args .n))) (put-next (omega (arith, pre, minutes-length (args .n))) (digits-at .ensures) (byte-at .ensures)) (digits-at2 .ensures)
+    put-next (omega (arith, pre, minutes-length (args .n))) (put-next (omega (arith, pre, minutes-length (args .n))) (digits-at .ensures) (byte-at .ensures))
+    (digits-at2 .ensures)
 
 pub minutes-at-spec : {M : Type 1} → statement M
 minutes-at-spec =

@@ -39,7 +39,12 @@ byte-at-requires-2 c κs =
     let sign-and-size = c .before .before .before .sign-and-size in
     let fits = c .before .before .before .before .before .fits in
     let if1 = c .before .before .if1 in
-    omega (arith, pre, ap length (offset-below _ (sign-and-size .result) (offset-sign _ (fits .offset) _ (sign-and-size .ensures)) (if1 .left) (c .before .if2 .taken)))
+    omega (
+      arith,
+      pre,
+      ap length (offset-below _ (sign-and-size .result) (offset-sign _ (fits .offset) _ (sign-and-size .ensures)) (if1 .left)
+          (c .before .if2 .taken)),
+    )
 
 minutes-at-requires : tie.Need-minutes-at-requires
 minutes-at-requires c κs =
@@ -49,7 +54,13 @@ minutes-at-requires c κs =
     let if1 = c .before .before .before .before .before .before .if1 in
     let if2 = c .before .before .before .before .before .if2 in
     let byte-at2 = c .before .before .before .byte-at2 in
-    omega (arith, pre, ap length (offset-below _ (sign-and-size .result) (offset-sign _ (fits .offset) _ (sign-and-size .ensures)) (if1 .left) (if2 .taken)), byte-at2 .ensures .next, byte-at2 .kept .0)
+    omega (
+      arith,
+      pre,
+      ap length (offset-below _ (sign-and-size .result) (offset-sign _ (fits .offset) _ (sign-and-size .ensures)) (if1 .left) (if2 .taken)),
+      byte-at2 .ensures .next,
+      byte-at2 .kept .0,
+    )
 
 same-length-2 : tie.Need-same-length-2
 same-length-2 c = search needs
@@ -63,7 +74,8 @@ returns-2 c =
     let pre = c .before .before .before .before .before .before .before .before .before .before .before .before .pre in
     let byte-at2 = c .before .before .before .before .before .before .byte-at2 in
     let minutes-at = c .before .before .minutes-at in
-    put-at-as (sym (offset-below _ (sign-and-size .result) (offset-sign _ (fits .offset) _ (sign-and-size .ensures)) (if1 .left) (if2 .taken))) (put-next (omega (arith, pre)) (byte-at2 .ensures) (minutes-at .ensures))
+    put-at-as (sym (offset-below _ (sign-and-size .result) (offset-sign _ (fits .offset) _ (sign-and-size .ensures)) (if1 .left) (if2 .taken)))
+    (put-next (omega (arith, pre)) (byte-at2 .ensures) (minutes-at .ensures))
 
 byte-at-requires-3 : tie.Need-byte-at-requires-3
 byte-at-requires-3 c κs =
@@ -71,7 +83,12 @@ byte-at-requires-3 c κs =
     let sign-and-size = c .before .before .before .sign-and-size in
     let fits = c .before .before .before .before .before .fits in
     let if1 = c .before .before .if1 in
-    omega (arith, pre, ap length (offset-above _ (sign-and-size .result) (offset-sign _ (fits .offset) _ (sign-and-size .ensures)) (if1 .left) (c .before .if2 .left)))
+    omega (
+      arith,
+      pre,
+      ap length (offset-above _ (sign-and-size .result) (offset-sign _ (fits .offset) _ (sign-and-size .ensures)) (if1 .left)
+          (c .before .if2 .left)),
+    )
 
 minutes-at-requires-2 : tie.Need-minutes-at-requires-2
 minutes-at-requires-2 c κs =
@@ -81,7 +98,13 @@ minutes-at-requires-2 c κs =
     let if1 = c .before .before .before .before .before .before .if1 in
     let if2 = c .before .before .before .before .before .if2 in
     let byte-at3 = c .before .before .before .byte-at3 in
-    omega (arith, pre, ap length (offset-above _ (sign-and-size .result) (offset-sign _ (fits .offset) _ (sign-and-size .ensures)) (if1 .left) (if2 .left)), byte-at3 .ensures .next, byte-at3 .kept .0)
+    omega (
+      arith,
+      pre,
+      ap length (offset-above _ (sign-and-size .result) (offset-sign _ (fits .offset) _ (sign-and-size .ensures)) (if1 .left) (if2 .left)),
+      byte-at3 .ensures .next,
+      byte-at3 .kept .0,
+    )
 
 same-length-3 : tie.Need-same-length-3
 same-length-3 c = search needs
@@ -95,7 +118,8 @@ returns-3 c =
     let pre = c .before .before .before .before .before .before .before .before .before .before .before .before .pre in
     let byte-at3 = c .before .before .before .before .before .before .byte-at3 in
     let minutes-at2 = c .before .before .minutes-at2 in
-    put-at-as (sym (offset-above _ (sign-and-size .result) (offset-sign _ (fits .offset) _ (sign-and-size .ensures)) (if1 .left) (if2 .left))) (put-next (omega (arith, pre)) (byte-at3 .ensures) (minutes-at2 .ensures))
+    put-at-as (sym (offset-above _ (sign-and-size .result) (offset-sign _ (fits .offset) _ (sign-and-size .ensures)) (if1 .left) (if2 .left)))
+    (put-next (omega (arith, pre)) (byte-at3 .ensures) (minutes-at2 .ensures))
 
 pub offset-at-spec : {M : Type 1} → statement M
 offset-at-spec =

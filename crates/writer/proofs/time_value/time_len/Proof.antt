@@ -60,7 +60,15 @@ returns-4 : tie.Need-returns-4
 returns-4 c =
     let t3 = c .before .before .before .t3 in
     let known-told3 = c .before .before .known-told3 in
-    let f : SFits w16 (t3 .given .0 .1 .1 .0) = record { sfits = known-told3 .given .1 .1 .0 .1 } in omega (arith, c .before .clock-len3 .ensures .0, c .offset-len .ensures .0, ap length (offset-held (t3 .given .0 .1 .1 .0) f), ap length (ap timeText (t3 .given .1)), offset-date-time-length (t3 .given .0 .0) (t3 .given .0 .1 .0) (t3 .given .0 .1 .1 .0))
+    let f : SFits w16 (t3 .given .0 .1 .1 .0) = record { sfits = known-told3 .given .1 .1 .0 .1 } in
+    omega (
+      arith,
+      c .before .clock-len3 .ensures .0,
+      c .offset-len .ensures .0,
+      ap length (offset-held (t3 .given .0 .1 .1 .0) f),
+      ap length (ap timeText (t3 .given .1)),
+      offset-date-time-length (t3 .given .0 .0) (t3 .given .0 .1 .0) (t3 .given .0 .1 .1 .0),
+    )
 
 pub time-len-spec : {M : Type 1} → statement M
 time-len-spec =

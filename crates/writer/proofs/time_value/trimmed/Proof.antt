@@ -36,7 +36,11 @@ loop-again c =
 returns-2 : tie.Need-returns-2 Inv-loop μ-loop
 returns-2 c =
     let loop = c .before .loop in
-    let z : loop .count ≡ 0 = omega arith in record { text = loop .inv .0 ∙ ap (λ (k : ℕ). trimmedText k (loop .rest)) z ∙ trimmed-zero (loop .rest) (loop .rest); few = omega arith }
+    let z : loop .count ≡ 0 = omega arith in record {
+      text = loop .inv .0 ∙ ap (λ (k : ℕ). trimmedText k (loop .rest)) z
+          ∙ trimmed-zero (loop .rest) (loop .rest);
+      few = omega arith;
+    }
 
 pub trimmed-spec : {M : Type 1} → statement M
 trimmed-spec =

@@ -43,7 +43,15 @@ byte-at-requires c κs =
     let pre = c .before .before .before .before .before .before .before .before .before .pre in
     let t3 = c .before .before .before .before .before .before .t3 in
     let date-at2 = c .before .before .before .date-at2 in
-    omega (arith, pre, ap length (ap timeText (t3 .given .1)), local-date-time-length (t3 .given .0 .0) (t3 .given .0 .1 .0), date-length (t3 .given .0 .0), date-at2 .ensures .next, date-at2 .kept .0)
+    omega (
+      arith,
+      pre,
+      ap length (ap timeText (t3 .given .1)),
+      local-date-time-length (t3 .given .0 .0) (t3 .given .0 .1 .0),
+      date-length (t3 .given .0 .0),
+      date-at2 .ensures .next,
+      date-at2 .kept .0,
+    )
 
 clock-at-requires-2 : tie.Need-clock-at-requires-2
 clock-at-requires-2 c κs =
@@ -51,7 +59,17 @@ clock-at-requires-2 c κs =
     let t3 = c .before .before .before .before .before .before .before .before .before .before .t3 in
     let date-at2 = c .before .before .before .before .before .before .before .date-at2 in
     let byte-at = c .before .before .before .byte-at in
-    omega (arith, pre, ap length (ap timeText (t3 .given .1)), local-date-time-length (t3 .given .0 .0) (t3 .given .0 .1 .0), date-length (t3 .given .0 .0), date-at2 .ensures .next, date-at2 .kept .0, byte-at .ensures .next, byte-at .kept .0)
+    omega (
+      arith,
+      pre,
+      ap length (ap timeText (t3 .given .1)),
+      local-date-time-length (t3 .given .0 .0) (t3 .given .0 .1 .0),
+      date-length (t3 .given .0 .0),
+      date-at2 .ensures .next,
+      date-at2 .kept .0,
+      byte-at .ensures .next,
+      byte-at .kept .0,
+    )
 
 enum-known-t-4 : tie.Need-enum-known-t-4
 enum-known-t-4 c = search needs
@@ -60,14 +78,28 @@ date-at-requires-3 : tie.Need-date-at-requires-3
 date-at-requires-3 c κs =
     let pre = c .before .before .before .before .before .pre in
     let t4 = c .before .before .t4 in
-    omega (arith, pre, ap length (ap timeText (t4 .given .1)), offset-date-time-length (t4 .given .0 .0) (t4 .given .0 .1 .0) (t4 .given .0 .1 .1 .0), date-length (t4 .given .0 .0))
+    omega (
+      arith,
+      pre,
+      ap length (ap timeText (t4 .given .1)),
+      offset-date-time-length (t4 .given .0 .0) (t4 .given .0 .1 .0) (t4 .given .0 .1 .1 .0),
+      date-length (t4 .given .0 .0),
+    )
 
 byte-at-requires-2 : tie.Need-byte-at-requires-2
 byte-at-requires-2 c κs =
     let pre = c .before .before .before .before .before .before .before .before .before .pre in
     let t4 = c .before .before .before .before .before .before .t4 in
     let date-at3 = c .before .before .before .date-at3 in
-    omega (arith, pre, ap length (ap timeText (t4 .given .1)), offset-date-time-length (t4 .given .0 .0) (t4 .given .0 .1 .0) (t4 .given .0 .1 .1 .0), date-length (t4 .given .0 .0), date-at3 .ensures .next, date-at3 .kept .0)
+    omega (
+      arith,
+      pre,
+      ap length (ap timeText (t4 .given .1)),
+      offset-date-time-length (t4 .given .0 .0) (t4 .given .0 .1 .0) (t4 .given .0 .1 .1 .0),
+      date-length (t4 .given .0 .0),
+      date-at3 .ensures .next,
+      date-at3 .kept .0,
+    )
 
 clock-at-requires-3 : tie.Need-clock-at-requires-3
 clock-at-requires-3 c κs =
@@ -75,7 +107,17 @@ clock-at-requires-3 c κs =
     let t4 = c .before .before .before .before .before .before .before .before .before .before .t4 in
     let date-at3 = c .before .before .before .before .before .before .before .date-at3 in
     let byte-at2 = c .before .before .before .byte-at2 in
-    omega (arith, pre, ap length (ap timeText (t4 .given .1)), offset-date-time-length (t4 .given .0 .0) (t4 .given .0 .1 .0) (t4 .given .0 .1 .1 .0), date-length (t4 .given .0 .0), date-at3 .ensures .next, date-at3 .kept .0, byte-at2 .ensures .next, byte-at2 .kept .0)
+    omega (
+      arith,
+      pre,
+      ap length (ap timeText (t4 .given .1)),
+      offset-date-time-length (t4 .given .0 .0) (t4 .given .0 .1 .0) (t4 .given .0 .1 .1 .0),
+      date-length (t4 .given .0 .0),
+      date-at3 .ensures .next,
+      date-at3 .kept .0,
+      byte-at2 .ensures .next,
+      byte-at2 .kept .0,
+    )
 
 offset-at-requires : tie.Need-offset-at-requires
 offset-at-requires c κs =
@@ -85,7 +127,20 @@ offset-at-requires c κs =
     let byte-at2 = c .before .before .before .before .before .before .before .byte-at2 in
     let clock-at3 = c .before .before .before .clock-at3 in
     let known-told4 = c .before .before .before .before .before .before .before .before .before .before .before .before .before .known-told4 in
-    omega (arith, pre, ap length (ap timeText (t4 .given .1)), offset-date-time-length (t4 .given .0 .0) (t4 .given .0 .1 .0) (t4 .given .0 .1 .1 .0), date-length (t4 .given .0 .0), date-at3 .ensures .next, date-at3 .kept .0, byte-at2 .ensures .next, byte-at2 .kept .0, clock-at3 .ensures .next, clock-at3 .kept .0, ap length (offset-held (t4 .given .0 .1 .1 .0) (record { sfits = known-told4 .given .1 .1 .0 .1 })))
+    omega (
+      arith,
+      pre,
+      ap length (ap timeText (t4 .given .1)),
+      offset-date-time-length (t4 .given .0 .0) (t4 .given .0 .1 .0) (t4 .given .0 .1 .1 .0),
+      date-length (t4 .given .0 .0),
+      date-at3 .ensures .next,
+      date-at3 .kept .0,
+      byte-at2 .ensures .next,
+      byte-at2 .kept .0,
+      clock-at3 .ensures .next,
+      clock-at3 .kept .0,
+      ap length (offset-held (t4 .given .0 .1 .1 .0) (record { sfits = known-told4 .given .1 .1 .0 .1 })),
+    )
 
 same-length : tie.Need-same-length
 same-length c = search needs
@@ -114,7 +169,8 @@ returns-3 c =
     let date-at2 = c .before .before .before .before .before .before .before .before .before .before .date-at2 in
     let byte-at = c .before .before .before .before .before .before .byte-at in
     let clock-at2 = c .before .before .clock-at2 in
-    put-as (sym (ap timeText (t3 .given .1) ∙ local-date-time (t3 .given .0 .0) (t3 .given .0 .1 .0))) (put-whole (put-next (omega arith) (put-next (omega arith) (date-at2 .ensures) (byte-at .ensures)) (clock-at2 .ensures)))
+    put-as (sym (ap timeText (t3 .given .1) ∙ local-date-time (t3 .given .0 .0) (t3 .given .0 .1 .0)))
+    (put-whole (put-next (omega arith) (put-next (omega arith) (date-at2 .ensures) (byte-at .ensures)) (clock-at2 .ensures)))
 
 same-length-4 : tie.Need-same-length-4
 same-length-4 c = search needs
@@ -125,9 +181,12 @@ returns-4 c =
     let date-at3 = c .before .before .before .before .before .before .before .before .before .before .before .before .before .before .date-at3 in
     let byte-at2 = c .before .before .before .before .before .before .before .before .before .before .byte-at2 in
     let clock-at3 = c .before .before .before .before .before .before .clock-at3 in
-    let known-told4 = c .before .before .before .before .before .before .before .before .before .before .before .before .before .before .before .before .known-told4 in
+    let known-told4 = c .before .before .before .before .before .before .before .before .before .before .before .before .before .before .before .before
+    .known-told4 in
     let offset-at = c .before .before .offset-at in
-    put-as (sym (ap timeText (t4 .given .1) ∙ offset-date-time (t4 .given .0 .0) (t4 .given .0 .1 .0) (t4 .given .0 .1 .1 .0))) (put-whole (put-next (omega arith) (put-next (omega arith) (put-next (omega arith) (date-at3 .ensures) (byte-at2 .ensures)) (clock-at3 .ensures)) (put-at-as (offset-held (t4 .given .0 .1 .1 .0) (record { sfits = known-told4 .given .1 .1 .0 .1 })) (offset-at .ensures))))
+    put-as (sym (ap timeText (t4 .given .1) ∙ offset-date-time (t4 .given .0 .0) (t4 .given .0 .1 .0) (t4 .given .0 .1 .1 .0)))
+    (put-whole (put-next (omega arith) (put-next (omega arith) (put-next (omega arith) (date-at3 .ensures) (byte-at2 .ensures)) (clock-at3 .ensures))
+    (put-at-as (offset-held (t4 .given .0 .1 .1 .0) (record { sfits = known-told4 .given .1 .1 .0 .1 })) (offset-at .ensures))))
 
 pub write-time-spec : {M : Type 1} → statement M
 write-time-spec =

@@ -26,15 +26,23 @@ share-of-requires : tie.Need-share-of-requires Inv-loop μ-loop
 share-of-requires c κs =
     let args = c .before .before .before .before .before .args in
     let loop = c .before .before .loop in
-    let loop-test = c .before .loop-test in
-    (read-bytes (args .tape .now) (args .store .now) (loop .inv .well) _ _ (loop-test .taken) (c .record-at .ensures), store-small (args .tape .now) (args .store .now) (loop .inv .well), omega (arith, loop-test .taken, few-records (args .tape .now) (args .store .now) (loop .inv .well)))
+    let loop-test = c .before .loop-test in (
+      read-bytes (args .tape .now) (args .store .now) (loop .inv .well) _ _ (loop-test .taken) (c .record-at .ensures),
+      store-small (args .tape .now) (args .store .now) (loop .inv .well),
+      omega
+          (arith, loop-test .taken, few-records (args .tape .now) (args .store .now) (loop .inv .well)),
+    )
 
 add-total : tie.Need-add-total Inv-loop μ-loop
 add-total c =
     let args = c .before .before .before .before .before .before .args in
     let loop = c .before .before .before .loop in
     let loop-test = c .before .before .loop-test in
-    omega (arith, sum-small (args .tape .now) (args .store .now) (sum-more (args .tape .now) (args .store .now) (loop .inv) _ _ (loop-test .taken) (c .before .record-at .ensures) (c .share-of .ensures)))
+    omega (
+      arith,
+      sum-small (args .tape .now) (args .store .now) (sum-more (args .tape .now) (args .store .now) (loop .inv) _ _ (loop-test .taken)
+          (c .before .record-at .ensures) (c .share-of .ensures)),
+    )
 
 add-i : tie.Need-add-i Inv-loop μ-loop
 add-i c =
