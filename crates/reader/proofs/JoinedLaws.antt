@@ -76,7 +76,7 @@ module _ (text : List ℕ) (p start : ℕ) (entry : List ℕ) (h : p ≤ length 
   pub part-refused : (why : ℕ → Refusal) → ((o : ℕ) → ran Strings.scan o Strings.begin (take (length text - p) (drop p text)) ≡ broke (why o)) → ran Strings.scan p Strings.begin (drop p text) ≡ broke (why p)
   part-refused why w = ap (ran Strings.scan p Strings.begin) (sym (part-here text p)) ∙ w p
 
-  pub part-closed : (exit : List ℕ) (taken n : ℕ) → PartSays (take (length text - p) (drop p text)) start entry exit (Part.Closed taken n) → PlacedSays Strings.scan Strings.begin text p start entry exit (Bytes.Whole (p + taken) n)
+  pub part-closed : (exit : List ℕ) (taken n : ℕ) → PartSays (take (length text - p) (drop p text)) start entry exit (Part.Closed taken n) → PlacedSays Strings.scan Strings.begin text p start entry exit (Bytes.Whole n (p + taken))
   part-closed exit taken n w =
       let l = part-length text p in
       record {
@@ -86,7 +86,7 @@ module _ (text : List ℕ) (p start : ℕ) (entry : List ℕ) (h : p ≤ length 
         within = omega (arith, w .within);
       }
 
-  pub piece-says : (exit : List ℕ) (q n : ℕ) → PieceSays text p start entry exit (Piece.Closed q n) → PlacedSays Binaries.scan Binaries.begin text p start entry exit (Bytes.Whole q n)
+  pub piece-says : (exit : List ℕ) (q n : ℕ) → PieceSays text p start entry exit (Piece.Closed q n) → PlacedSays Binaries.scan Binaries.begin text p start entry exit (Bytes.Whole n q)
   piece-says exit q n w = w
 
 -- ---- what strings and binary have in common
@@ -204,7 +204,7 @@ module _ {S : Type 0} {scan : ℕ → S → ℕ → Out S (List ℕ)} {begin : S
     pub parts-broken : (r : ℕ) → JoinSays text q (Join.NotGrammar r) → BytesSays A part whole text from start entry exit (Bytes.Refused (NotGrammar r))
     parts-broken r j a d k = to-whole a d k ∙ j (whole a (v .u ++ w .u)) (kind .wants a (v .u ++ w .u)) (kind .joins a (v .u ++ w .u)) d k
 
-    pub parts-last : (r m : ℕ) → m + start ≡ out + n → JoinSays text q (Join.Last r) → BytesSays A part whole text from start entry exit (Bytes.Whole r m)
+    pub parts-last : (r m : ℕ) → m + start ≡ out + n → JoinSays text q (Join.Last r) → BytesSays A part whole text from start entry exit (Bytes.Whole m r)
     parts-last r m e j = record {
       u = v .u ++ w .u;
       runs = λ a d k. to-whole a d k ∙ j .goes (got (whole a (v .u ++ w .u))) d k;

@@ -63,7 +63,7 @@ module _ (text : List ℕ) (p start : ℕ) (entry : List ℕ) where
     quoted e d k = alike-on (at (base wantKey) d k) (at (item (stringPart as-key [])) d k) text p h (class-quote (getD text p 0) (classOf (getD text p 0)) e p d k)
 
     pub key-string : classOf (getD text p 0) ≡ quoteC → (exit : List ℕ) (r : Bytes) → BytesSays Use stringPart string text p start entry exit r → KeySays text p start entry exit r
-    key-string e exit (Bytes.Whole q n) w = record {
+    key-string e exit (Bytes.Whole n q) w = record {
       u = w .u;
       runs = λ d k. quoted e d k ∙ w .runs as-key d k ∙ string-key text q (w .bare) (w .plusless) (w .u) d k;
       meant = w .meant;
@@ -193,7 +193,7 @@ module _ (text : List ℕ) (p start : ℕ) (entry : List ℕ) (h : p < length te
         let m : suc p ≡ p + 1 = omega arith in
         rw (n, drop-cons text p 0, m)
 
-    pub key-named : (exit : List ℕ) → exit ≡ sets entry start (take (q - p) (drop p text)) → KeySays text p start entry exit (Bytes.Whole q (q - p))
+    pub key-named : (exit : List ℕ) → exit ≡ sets entry start (take (q - p) (drop p text)) → KeySays text p start entry exit (Bytes.Whole (q - p) q)
     unfolding Names.scan
     key-named exit f =
         let l : length (take (q - p) (drop p text)) ≡ q - p = simp (length-take, length-drop) (omega (arith, w .onward .behind, w .onward .within)) in

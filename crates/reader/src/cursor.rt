@@ -100,7 +100,7 @@ fn string(text: &[u8], at: usize, store: &mut [u8], start: usize) -> Scanned
 {
     match joined::string(text, at, store, start) {
         Bytes::Refused(why) => Scanned::Refused(why),
-        Bytes::Whole { end, bytes: n } => Scanned::Item(Item::Str(n), end),
+        Bytes::Whole { bytes: n, end } => Scanned::Item(Item::Str(n), end),
     }
 }
 
@@ -111,7 +111,7 @@ fn binary(text: &[u8], at: usize, store: &mut [u8], start: usize) -> Scanned
 {
     match joined::binary(text, at, store, start) {
         Bytes::Refused(why) => Scanned::Refused(why),
-        Bytes::Whole { end, bytes: n } => Scanned::Item(Item::Bin(n), end),
+        Bytes::Whole { bytes: n, end } => Scanned::Item(Item::Bin(n), end),
     }
 }
 
@@ -288,7 +288,7 @@ impl Cursor {
     {
         match key::key(text, self.at, store, self.stored) {
             Bytes::Refused(why) => Member::Refused(why),
-            Bytes::Whole { end, bytes: n } => (Cursor {
+            Bytes::Whole { bytes: n, end } => (Cursor {
                 at: end,
                 records: self.records + 1,
                 stored: self.stored + n,

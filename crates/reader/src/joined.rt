@@ -21,9 +21,9 @@ pub enum Join {
     NotGrammar(usize),
 }
 
-// Joined bytes, or a key's: the place after them and the layout that follows, and how many; or a refusal.
+// Joined bytes, or a key's: how many, and the place after them and the layout that follows; or a refusal.
 pub enum Bytes {
-    Whole { end: usize, bytes: usize },
+    Whole { bytes: usize, end: usize },
     Refused(Refusal),
 }
 
@@ -58,8 +58,8 @@ fn string_part(text: &[u8], at: usize, store: &mut [u8], start: usize) -> Bytes
         Part::NotGrammar(p) => Bytes::Refused(Refusal::NotGrammar(at + p)),
         Part::BadEscape(p) => Bytes::Refused(Refusal::BadEscape(at + p)),
         Part::Closed { taken, bytes } => Bytes::Whole {
-            end: at + taken,
             bytes: bytes,
+            end: at + taken,
         },
     }
 }
@@ -72,8 +72,8 @@ fn binary_part(text: &[u8], at: usize, store: &mut [u8], start: usize) -> Bytes
     match binary_part::read_part(text, at, store, start) {
         Piece::NotGrammar(p) => Bytes::Refused(Refusal::NotGrammar(p)),
         Piece::Closed { end: after, bytes } => Bytes::Whole {
-            end: after,
             bytes: bytes,
+            end: after,
         },
     }
 }
@@ -91,16 +91,16 @@ pub fn string(text: &[u8], from: usize, store: &mut [u8], start: usize) -> Bytes
                 return Bytes::Refused(why);
             }
             Bytes::Whole {
-                end: after,
                 bytes: n,
+                end: after,
             } => match after_part(text, after) {
                 Join::NotGrammar(p) => {
                     return Bytes::Refused(Refusal::NotGrammar(p));
                 }
                 Join::Last(end) => {
                     return Bytes::Whole {
-                        end: end,
                         bytes: out + n - start,
+                        end: end,
                     };
                 }
                 Join::Next(next) => {
@@ -125,16 +125,16 @@ pub fn binary(text: &[u8], from: usize, store: &mut [u8], start: usize) -> Bytes
                 return Bytes::Refused(why);
             }
             Bytes::Whole {
-                end: after,
                 bytes: n,
+                end: after,
             } => match after_part(text, after) {
                 Join::NotGrammar(p) => {
                     return Bytes::Refused(Refusal::NotGrammar(p));
                 }
                 Join::Last(end) => {
                     return Bytes::Whole {
-                        end: end,
                         bytes: out + n - start,
+                        end: end,
                     };
                 }
                 Join::Next(next) => {

@@ -18,7 +18,7 @@ use Rattle.reader.specs.declared.joined.Bytes.{Bytes}
 -- a part by itself, at its place in the text
 module _ {S : Type 0} (scan : ℕ → S → ℕ → Out S (List ℕ)) (begin : S) where
   abbrev pub PlacedSays : List ℕ → ℕ → ℕ → List ℕ → List ℕ → Bytes → Type 0
-  PlacedSays text p start entry exit (Bytes.Whole q n) = Ended scan begin text p start entry exit q n
+  PlacedSays text p start entry exit (Bytes.Whole n q) = Ended scan begin text p start entry exit q n
   PlacedSays text p start entry exit (Bytes.Refused why) = ran scan p begin (drop p text) ≡ broke why
 
 -- no plus stands at p
@@ -58,7 +58,7 @@ pub record Joined (A : Type 0) (part : A → List ℕ → Item) (whole : A → L
   pub plusless : Plusless text q
 
 abbrev pub BytesSays : (A : Type 0) → (A → List ℕ → Item) → (A → List ℕ → Got) → List ℕ → ℕ → ℕ → List ℕ → List ℕ → Bytes → Type 0
-BytesSays A part whole text p start entry exit (Bytes.Whole q n) = Joined A part whole text p start entry exit q n
+BytesSays A part whole text p start entry exit (Bytes.Whole n q) = Joined A part whole text p start entry exit q n
 BytesSays A part whole text p start entry exit (Bytes.Refused why) = (a : A) (d : ℕ) (k : List Frame) → Refuses text (at (item (part a [])) d k) p why
 
 abbrev pub stringPart : Use → List ℕ → Item
@@ -78,5 +78,5 @@ pub record Keyed (text : List ℕ) (p start : ℕ) (entry exit : List ℕ) (q n 
   pub within : q ≤ length text
 
 abbrev pub KeySays : List ℕ → ℕ → ℕ → List ℕ → List ℕ → Bytes → Type 0
-KeySays text p start entry exit (Bytes.Whole q n) = Keyed text p start entry exit q n
+KeySays text p start entry exit (Bytes.Whole n q) = Keyed text p start entry exit q n
 KeySays text p start entry exit (Bytes.Refused why) = (d : ℕ) (k : List Frame) → Shut text p d k → Refuses text (at (base wantKey) d k) p why
