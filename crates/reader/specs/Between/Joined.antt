@@ -13,13 +13,8 @@ use Rattle.items.specs.Between.Places.{Onward}
 use Rattle.items.specs.Between.PlacedPart.{Meant, Ended}
 use Rattle.reader.specs.Between.Scanning.{Goes, Refuses, Bare, Shut}
 use Rattle.reader.specs.declared.joined.Join.{Join}
+use Rattle.reader.specs.declared.joined.Link.{Link}
 use Rattle.reader.specs.declared.joined.Bytes.{Bytes}
-
--- a part by itself, at its place in the text
-module _ {S : Type 0} (scan : ℕ → S → ℕ → Out S (List ℕ)) (begin : S) where
-  abbrev pub PlacedSays : List ℕ → ℕ → ℕ → List ℕ → List ℕ → Bytes → Type 0
-  PlacedSays text p start entry exit (Bytes.Whole n q) = Ended scan begin text p start entry exit q n
-  PlacedSays text p start entry exit (Bytes.Refused why) = ran scan p begin (drop p text) ≡ broke why
 
 -- no plus stands at p
 abbrev pub Plusless : List ℕ → ℕ → Type 0
@@ -43,10 +38,38 @@ pub record Joining (text : List ℕ) (p q : ℕ) : Type 0 where
   pub within : q ≤ length text
   pub bare : Bare text q
 
+-- after a part: the text is refused
+abbrev pub Stray : List ℕ → ℕ → Refusal → Type 0
+Stray text p why = (g : Got) (s : Base) → Plus g s → (d : ℕ) (k : List Frame) → Refuses text (at (base (got g)) d k) p why
+
 abbrev pub JoinSays : List ℕ → ℕ → Join → Type 0
 JoinSays text p (Join.Next q) = Joining text p q
 JoinSays text p (Join.Last q) = Alone text p q
-JoinSays text p (Join.NotGrammar q) = (g : Got) (s : Base) → Plus g s → (d : ℕ) (k : List Frame) → Refuses text (at (base (got g)) d k) p (NotGrammar q)
+JoinSays text p (Join.NotGrammar q) = Stray text p (NotGrammar q)
+
+-- a part of n bytes, by what follows it
+abbrev pub linkOf : ℕ → Join → Link
+linkOf n (Join.Next q) = Link.Next n q
+linkOf n (Join.Last q) = Link.Last n q
+linkOf n (Join.NotGrammar q) = Link.Refused (NotGrammar q)
+
+-- a part at its place in the text, and what follows it
+module _ {S : Type 0} (scan : ℕ → S → ℕ → Out S (List ℕ)) (begin : S) where
+  -- a part of n bytes, and what holds of the place after it
+  pub record Linked (text : List ℕ) (p start : ℕ) (entry exit : List ℕ) (n : ℕ) (After : ℕ → Type 0) : Type 0 where
+    pub close : ℕ
+    pub part : Ended scan begin text p start entry exit close n
+    pub after : After close
+
+  -- the part is refused, or what follows it
+  pub data Unlinked (text : List ℕ) (p start : ℕ) (entry exit : List ℕ) (why : Refusal) : Type 0 where
+    in-part : ran scan p begin (drop p text) ≡ broke why → Unlinked text p start entry exit why
+    after-part : {n : ℕ} → Linked text p start entry exit n (λ q. Stray text q why) → Unlinked text p start entry exit why
+
+  abbrev pub LinkSays : List ℕ → ℕ → ℕ → List ℕ → List ℕ → Link → Type 0
+  LinkSays text p start entry exit (Link.Next n r) = Linked text p start entry exit n (λ q. Joining text q r)
+  LinkSays text p start entry exit (Link.Last n r) = Linked text p start entry exit n (λ q. Alone text q r)
+  LinkSays text p start entry exit (Link.Refused why) = Unlinked text p start entry exit why
 
 -- joined parts, from where the first begins; A tells apart what they are joined to
 pub record Joined (A : Type 0) (part : A → List ℕ → Item) (whole : A → List ℕ → Got) (text : List ℕ) (p start : ℕ) (entry exit : List ℕ) (q n : ℕ) : Type 0 where
