@@ -40,8 +40,11 @@ module _ (text : List ℕ) where
     measure-ill p j = Measures.no-text (not-utf8 h (utf8-fault j)) refl
 
     pub measure-walked : (tape tape' store store' : List ℕ) (a : Answer) → Judged text Done → WalkSays text tape tape' store store' a → Measures text a
-    measure-walked tape tape' store store' (Counts r s) j (m, w, er, es) = sizes (derives text m (utf8-done j) h (w .reads)) (ap₂ (λ (x y : ℕ). done (x, y)) er es)
-    measure-walked tape tape' store store' (Refused why) j w = let o = utf8-done j in Measures.no-text (Text-refused.refused h o (refusals text o why .0 w)) refl
+    measure-walked tape tape' store store' (Counts r s) j (m, w, er, es) =
+        sizes (derives text m (utf8-done j) h (w .reads)) (ap₂ (λ (x y : ℕ). done (x, y)) er es)
+    measure-walked tape tape' store store' (Refused why) j w =
+        let o = utf8-done j in
+        Measures.no-text (Text-refused.refused h o (refusals text o why .0 w)) refl
 
 -- ---- read
 
@@ -88,7 +91,8 @@ module _ (text tape store : List ℕ) where
         same-ok : {x y : Meaning} → Ok x ≡ Ok y → x ≡ y
         same-ok z = cc
 
-    pub read-walked : (tape' store' : List ℕ) (a : Answer) → r * 16 ≤ length tape → s ≤ length store → WalkSays text tape tape' store store' a → Reads text tape store a tape' store'
+    pub read-walked : (tape' store' : List ℕ) (a : Answer) → r * 16 ≤ length tape → s ≤ length store
+        → WalkSays text tape tape' store store' a → Reads text tape store a tape' store'
     read-walked tape' store' (Refused why) h k w = absurd (no-meaning (sym (reads (its .text-means)) ∙ w))
     read-walked tape' store' (Counts x y) h k (m, w, ex, ey) =
         let z = walked-as m (w .reads) in

@@ -12,7 +12,10 @@ use Rattle.meaning.specs.declared.Refusal.{Refusal}
 use Rattle.meaning.specs.declared.Refusal.the-variants.{NotGrammar}
 use Rattle.meaning.specs.Letters.{ch}
 use Rattle.machine.specs.Scan.{Out, takes, stops, breaks, over, Ran, ended, broke, ran}
-use Rattle.machine.specs.Machine.{Use, Item, string-part, binary-part, Got, string, binary, Base, wantString, wantBinary, got, Mode, base, item, Frame, Conf, at, step, finish, onPart, onOut, odd, Bracket, square, curly, Class, classOf, blankC, hashC, slashC, commaC, colonC, plusC, quoteC, dollarC, letterN, letterT, letterF, letterC, otherC, openC, closeC}
+use Rattle.machine.specs.Machine.{Use, Item, string-part, binary-part, Got, string, binary, Base, wantString, wantBinary, got}
+use Rattle.machine.specs.Machine.{Mode, base, item, Frame, Conf, at, step, finish, onPart, onOut, odd, Bracket, square, curly}
+use Rattle.machine.specs.Machine.{Class, classOf, blankC, hashC, slashC, commaC, colonC, plusC, quoteC, dollarC}
+use Rattle.machine.specs.Machine.{letterN, letterT, letterF, letterC, otherC, openC, closeC}
 use Rattle.machine.specs.Machine as Machine
 use Rattle.machine.specs.Strings
 use Rattle.machine.specs.Binaries
@@ -100,11 +103,14 @@ module _ {S : Type 0} {scan : ℕ → S → ℕ → Out S (List ℕ)} {begin : S
 -- ---- what strings and binary have in common
 
 pub record Kind (S : Type 0) (scan : ℕ → S → ℕ → Out S (List ℕ)) (begin : S) (A : Type 0) (part : A → List ℕ → Item) (whole : A → List ℕ → Got) : Type 0 where
-  pub closes : (text : List ℕ) (a : A) (u x : List ℕ) (p q d : ℕ) (k : List Frame) → ran scan p begin (drop p text) ≡ ended x q → Goes text (at (item (part a u)) d k) p (at (base (got (whole a (u ++ x)))) d k) q
-  pub refuses : (text : List ℕ) (a : A) (u : List ℕ) (p d : ℕ) (k : List Frame) (why : Refusal) → ran scan p begin (drop p text) ≡ broke why → Refuses text (at (item (part a u)) d k) p why
+  pub closes : (text : List ℕ) (a : A) (u x : List ℕ) (p q d : ℕ) (k : List Frame) → ran scan p begin (drop p text) ≡ ended x q
+      → Goes text (at (item (part a u)) d k) p (at (base (got (whole a (u ++ x)))) d k) q
+  pub refuses : (text : List ℕ) (a : A) (u : List ℕ) (p d : ℕ) (k : List Frame) (why : Refusal) → ran scan p begin (drop p text) ≡ broke why
+      → Refuses text (at (item (part a u)) d k) p why
   pub wants : A → List ℕ → Base
   pub joins : (a : A) (u : List ℕ) → Plus (whole a u) (wants a u)
-  pub opens : (text : List ℕ) (a : A) (u : List ℕ) (p : ℕ) → Bare text p → (d : ℕ) (k : List Frame) → Goes text (at (base (wants a u)) d k) p (at (item (part a u)) d k) p
+  pub opens : (text : List ℕ) (a : A) (u : List ℕ) (p : ℕ) → Bare text p → (d : ℕ) (k : List Frame)
+      → Goes text (at (base (wants a u)) d k) p (at (item (part a u)) d k) p
 
 string-none : (p b : ℕ) → (b ≡ ch "\"" → ⊥) → (b ≡ ch "'" → ⊥) → Strings.scan p Strings.begin b ≡ breaks (NotGrammar p)
 unfolding Strings.scan
@@ -170,7 +176,8 @@ strings = record {
   wants = wantString;
   joins = λ z u o d k. refl;
   opens = λ text z u p b d k. alike (at (base (wantString z u)) d k) (at (item (stringPart z u)) d k) text p
-      (λ h. string-class p d k z u (getD text p 0) (classOf (getD text p 0)) (class-is (getD text p 0)) (b .no-blank h) (b .no-hash h) (b .no-slash h)) (λ h. refl);
+      (λ h. string-class p d k z u (getD text p 0) (classOf (getD text p 0)) (class-is (getD text p 0))
+      (b .no-blank h) (b .no-hash h) (b .no-slash h)) (λ h. refl);
 }
 
 pub binaries : Kind Binaries.St Binaries.scan Binaries.begin (Unit {0}) binaryPart wholeBinary
@@ -181,7 +188,8 @@ binaries = record {
   wants = λ z u. wantBinary u;
   joins = λ z u o d k. refl;
   opens = λ text z u p b d k. alike (at (base (wantBinary u)) d k) (at (item (binaryPart z u)) d k) text p
-      (λ h. binary-class p d k u (getD text p 0) (classOf (getD text p 0)) (class-is (getD text p 0)) (b .no-blank h) (b .no-hash h) (b .no-slash h)) (λ h. refl);
+      (λ h. binary-class p d k u (getD text p 0) (classOf (getD text p 0)) (class-is (getD text p 0))
+      (b .no-blank h) (b .no-hash h) (b .no-slash h)) (λ h. refl);
 }
 
 -- ---- the loop: the parts so far, and the next begins
@@ -194,10 +202,12 @@ pub record Parts (A : Type 0) (part : A → List ℕ → Item) (text : List ℕ)
   pub room : from + length u ≤ p
   pub within : p ≤ length text
 
-pub no-part : (A : Type 0) (part : A → List ℕ → Item) (text : List ℕ) (from start : ℕ) (entry : List ℕ) → from ≤ length text → Parts A part text from start entry entry from start
+pub no-part : (A : Type 0) (part : A → List ℕ → Item) (text : List ℕ) (from start : ℕ) (entry : List ℕ) → from ≤ length text
+    → Parts A part text from start entry entry from start
 no-part A part text from start entry h = record { u = []; runs = λ a d k. refl; filled = refl; placed = omega arith; room = omega arith; within = h }
 
-module _ {S : Type 0} {scan : ℕ → S → ℕ → Out S (List ℕ)} {begin : S} {A : Type 0} {part : A → List ℕ → Item} {whole : A → List ℕ → Got} (kind : Kind S scan begin A part whole)
+module _ {S : Type 0} {scan : ℕ → S → ℕ → Out S (List ℕ)} {begin : S} {A : Type 0} {part : A → List ℕ → Item} {whole : A → List ℕ → Got}
+    (kind : Kind S scan begin A part whole)
     {text : List ℕ} {from start : ℕ} {entry store : List ℕ} {p out : ℕ} (v : Parts A part text from start entry store p out) where
   module _ {exit : List ℕ} {q n : ℕ} (w : Ended scan begin text p out store exit q n) where
     to-whole : (a : A) (d : ℕ) (k : List Frame) → Goes text (at (item (part a [])) d k) from (at (base (got (whole a (v .u ++ w .u)))) d k) q

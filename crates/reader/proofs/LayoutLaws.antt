@@ -10,7 +10,8 @@ use borrow.Author.Tests.{ne-eqb}
 use Rattle.meaning.specs.declared.Refusal.the-variants.{NotGrammar}
 use Rattle.meaning.specs.Letters.{ch}
 use Rattle.machine.specs.Machine
-use Rattle.machine.specs.Machine.{Base, want, wantKey, wantString, wantBinary, got, Mode, base, slash, line, block, star, Frame, Conf, at, step, finish, Class, classOf, blankC, hashC, slashC, Note, noteOf, lineEnd, starN, slashN, plainN, controlN}
+use Rattle.machine.specs.Machine.{Base, want, wantKey, wantString, wantBinary, got, Mode, base, slash, line, block, star, Frame, Conf, at, step, finish}
+use Rattle.machine.specs.Machine.{Class, classOf, blankC, hashC, slashC, Note, noteOf, lineEnd, starN, slashN, plainN, controlN}
 use Rattle.items.specs.Between.Places.{Onward}
 use Rattle.reader.specs.Between.Scanning.{Goes, Refuses, Bare}
 use Rattle.reader.specs.Between.Layout.{Passes, Commented, Tells, Breaks, Blanks, LayoutEnds, CommentSays, MaybeSays}
@@ -105,7 +106,8 @@ module _ {text : List ℕ} where
       onward = v .onward;
     }
 
-    pub note-breaks : q < length text → ((s : Base) (d : ℕ) (k : List Frame) → step q (at (n s) d k) (getD text q 0) ≡ Conf.fail (NotGrammar q)) → Breaks text m p q
+    pub note-breaks : q < length text
+        → ((s : Base) (d : ℕ) (k : List Frame) → step q (at (n s) d k) (getD text q 0) ≡ Conf.fail (NotGrammar q)) → Breaks text m p q
     note-breaks h e s d k = v .goes s d k ∙ stop (at (n s) d k) text q (NotGrammar q) h (e s d k)
 
     pub note-unended : length text ≤ q → ((s : Base) (d : ℕ) (k : List Frame) → finish q (at (n s) d k) ≡ Machine.No (NotGrammar q)) → Breaks text m p q
@@ -215,7 +217,8 @@ module _ (text : List ℕ) (q : ℕ) where
   pub slash-closes : (f : Bool) → f ≡ true → noteOf (getD text q 0) ≡ slashN → Leads text (blocked f) base q
   slash-closes f h e s d k = rw (h, e)
 
-  pub control-breaks : (f : Bool) → noteOf (getD text q 0) ≡ controlN → (s : Base) (d : ℕ) (k : List Frame) → step q (at (blocked f s) d k) (getD text q 0) ≡ Conf.fail (NotGrammar q)
+  pub control-breaks : (f : Bool) → noteOf (getD text q 0) ≡ controlN
+      → (s : Base) (d : ℕ) (k : List Frame) → step q (at (blocked f s) d k) (getD text q 0) ≡ Conf.fail (NotGrammar q)
   control-breaks true e s d k = rw e
   control-breaks false e s d k = rw e
 
@@ -232,7 +235,8 @@ module _ {text : List ℕ} {p : ℕ} (h : p < length text) where
   pub slash-block : getD text p 0 ≡ ch "*" → Noting text slash block p (p + 1)
   slash-block e = note-more (noting slash p (omega arith)) block h (λ s d k. rw e)
 
-slash-note : (b : ℕ) (n : Note) → NoteIs b n → (b ≡ ch "/" → ⊥) → (b ≡ ch "*" → ⊥) → (p : ℕ) (s : Base) (d : ℕ) (k : List Frame) → Machine.onSlash p d k s n ≡ Conf.fail (NotGrammar p)
+slash-note : (b : ℕ) (n : Note) → NoteIs b n → (b ≡ ch "/" → ⊥) → (b ≡ ch "*" → ⊥) → (p : ℕ) (s : Base) (d : ℕ) (k : List Frame)
+    → Machine.onSlash p d k s n ≡ Conf.fail (NotGrammar p)
 slash-note b lineEnd x i j p s d k = refl
 slash-note b starN x i j p s d k = absurd (j x)
 slash-note b slashN x i j p s d k = absurd (i x)

@@ -6,7 +6,8 @@ ghost use Rattle.machine.specs.Machine.{Use};
 ghost use Rattle.machine.specs.Machine as Machine;
 ghost use Rattle.machine.specs.Strings;
 ghost use Rattle.machine.specs.Binaries;
-ghost use Rattle.reader.specs.Between.Joined.{JoinSays, linkOf, LinkSays, BytesSays, stringPart, binaryPart, wholeBinary};
+ghost use Rattle.reader.specs.Between.Joined.{JoinSays, linkOf, LinkSays, BytesSays};
+ghost use Rattle.reader.specs.Between.Joined.{stringPart, binaryPart, wholeBinary};
 use crate::layout;
 use crate::layout::Layout;
 use items::binary_part;
@@ -77,7 +78,8 @@ fn link_of(bytes: usize, follows: Join) -> Link
 // The string part at a place of the text, and what follows it.
 fn string_part(text: &[u8], at: usize, store: &mut [u8], start: usize) -> Link
     requires { ⌜ (at ≤ length (now text)) × (start ≤ at) ⌝ }
-    ensures { λ r. ⌜ LinkSays Strings.scan Strings.begin (now (text .entry)) at start (now (store .entry)) (now (store .exit)) r ⌝ }
+    ensures { λ r. ⌜ LinkSays Strings.scan Strings.begin (now (text .entry))
+        at start (now (store .entry)) (now (store .exit)) r ⌝ }
 {
     match string_part::read_part(&text[at..], store, start) {
         Part::NotGrammar(p) => Link::Refused(Refusal::NotGrammar(at + p)),
@@ -89,7 +91,8 @@ fn string_part(text: &[u8], at: usize, store: &mut [u8], start: usize) -> Link
 // The binary part at a place of the text, and what follows it.
 fn binary_part(text: &[u8], at: usize, store: &mut [u8], start: usize) -> Link
     requires { ⌜ (at ≤ length (now text)) × (start ≤ at) ⌝ }
-    ensures { λ r. ⌜ LinkSays Binaries.scan Binaries.begin (now (text .entry)) at start (now (store .entry)) (now (store .exit)) r ⌝ }
+    ensures { λ r. ⌜ LinkSays Binaries.scan Binaries.begin (now (text .entry))
+        at start (now (store .entry)) (now (store .exit)) r ⌝ }
 {
     match binary_part::read_part(text, at, store, start) {
         Piece::NotGrammar(p) => Link::Refused(Refusal::NotGrammar(p)),
@@ -100,7 +103,8 @@ fn binary_part(text: &[u8], at: usize, store: &mut [u8], start: usize) -> Link
 // A string, from its first part on.
 pub fn string(text: &[u8], from: usize, store: &mut [u8], start: usize) -> Bytes
     requires { ⌜ (from ≤ length (now text)) × (start ≤ from) ⌝ }
-    ensures { λ r. ⌜ BytesSays Use stringPart Machine.string (now (text .entry)) from start (now (store .entry)) (now (store .exit)) r ⌝ }
+    ensures { λ r. ⌜ BytesSays Use stringPart Machine.string (now (text .entry))
+        from start (now (store .entry)) (now (store .exit)) r ⌝ }
 {
     let mut at = from;
     let mut out = start;
@@ -126,7 +130,8 @@ pub fn string(text: &[u8], from: usize, store: &mut [u8], start: usize) -> Bytes
 // Binary, from its first part on.
 pub fn binary(text: &[u8], from: usize, store: &mut [u8], start: usize) -> Bytes
     requires { ⌜ (from ≤ length (now text)) × (start ≤ from) ⌝ }
-    ensures { λ r. ⌜ BytesSays Unit binaryPart wholeBinary (now (text .entry)) from start (now (store .entry)) (now (store .exit)) r ⌝ }
+    ensures { λ r. ⌜ BytesSays Unit binaryPart wholeBinary (now (text .entry))
+        from start (now (store .entry)) (now (store .exit)) r ⌝ }
 {
     let mut at = from;
     let mut out = start;

@@ -46,7 +46,8 @@ fn ended(text: &[u8], next: Cursor) -> Answer
 // The text is layout, one value, layout.
 fn walk(text: &[u8], tape: &mut [u8], store: &mut [u8]) -> Answer
     requires { ⌜ length (now text) ≤ textLimit ⌝ }
-    ensures { λ a. ⌜ WalkSays (now (text .entry)) (now (tape .entry)) (now (tape .exit)) (now (store .entry)) (now (store .exit)) a ⌝ }
+    ensures { λ a. ⌜ WalkSays (now (text .entry))
+        (now (tape .entry)) (now (tape .exit)) (now (store .entry)) (now (store .exit)) a ⌝ }
 {
     match layout::pass(text, 0) {
         Layout::NotGrammar(p) => Answer::Refused(Refusal::NotGrammar(p)),
@@ -80,7 +81,8 @@ pub fn measure(text: &[u8]) -> Answer
 
 // Fills the tape and the store from their start: nothing is written before all the room is known; 8, then 9.
 pub fn read(text: &[u8], tape: &mut [u8], store: &mut [u8]) -> Answer
-    ensures { λ a. ⌜ Reads (now (text .entry)) (now (tape .entry)) (now (store .entry)) a (now (tape .exit)) (now (store .exit)) ⌝ }
+    ensures { λ a. ⌜ Reads (now (text .entry)) (now (tape .entry)) (now (store .entry)) a
+        (now (tape .exit)) (now (store .exit)) ⌝ }
 {
     match measure(text) {
         Answer::Refused(why) => Answer::Refused(why),

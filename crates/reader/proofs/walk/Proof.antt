@@ -19,7 +19,9 @@ enum-known-first : tie.Need-enum-known-first
 enum-known-first c = search needs
 
 -- where the value begins
-begun : (c : tie.After-value-arg2) → LayoutEnds (c .before .before .before .before .before .before .before .before .before .args .text .now) 0 (c .before .before .before .first .given .0 .0)
+begun : (c : tie.After-value-arg2) → (
+    let text = c .before .before .before .before .before .before .before .before .before .args .text .now in
+    LayoutEnds text 0 (c .before .before .before .first .given .0 .0))
 begun c = rw (c .before .before .before .first .given .1) at (c .before .before .before .before .before .pass .ensures)
 
 value-requires : tie.Need-value-requires

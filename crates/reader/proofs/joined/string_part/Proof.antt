@@ -47,8 +47,11 @@ enum-known-taken : tie.Need-enum-known-taken
 enum-known-taken c = search needs
 
 -- a part has been read
-closed : (c : tie.After-known-told3) → (let a = c .before .before .before .before .before .before .before .before .before .before .args in let r = c .before .taken .given .0 in
-    Ended Strings.scan Strings.begin (a .text .now) (a .at) (a .start) (a .store .now) (c .before .before .before .before .before .read-part .last .1 .0) (a .at + r .0) (r .1 .0))
+closed : (c : tie.After-known-told3) → (
+    let a = c .before .before .before .before .before .before .before .before .before .before .args in
+    let r = c .before .taken .given .0 in
+    let exit = c .before .before .before .before .before .read-part .last .1 .0 in
+    Ended Strings.scan Strings.begin (a .text .now) (a .at) (a .start) (a .store .now) exit (a .at + r .0) (r .1 .0))
 closed c =
     let a = c .before .before .before .before .before .before .before .before .before .before .args in
     let w = rw (c .before .taken .given .1) at (c .before .before .before .before .before .read-part .ensures) in

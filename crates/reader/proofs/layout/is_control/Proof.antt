@@ -20,7 +20,9 @@ returns-4 : tie.Need-returns-4
 returns-4 c = tells-no (λ e. omega (arith, note-told (c .before .before .before .before .args .b) controlN e))
 
 returns-5 : tie.Need-returns-5
-returns-5 c = tells-yes (control-note (c .before .before .before .before .args .b) (omega arith) (c .if4 .left) (c .before .before .if2 .left) (c .before .if3 .left))
+returns-5 c =
+    let b = c .before .before .before .before .args .b in
+    tells-yes (control-note b (omega arith) (c .if4 .left) (c .before .before .if2 .left) (c .before .if3 .left))
 
 pub is-control-spec : {M : Type 1} → statement M
 is-control-spec = tie.close (tie.spec returns returns-2 returns-3 returns-4 returns-5)
