@@ -2,7 +2,9 @@
 ghost use mathlib.Core.Path.{_≡_};
 ghost use mathlib.Core.Bool.{true};
 ghost use Prim.Native.Nat.{_≤_, _<_};
+ghost use lib.Dec.{eqb};
 ghost use lib.ListN.{length};
+ghost use Rattle.meaning.specs.Letters.{ch};
 ghost use Rattle.machine.specs.Machine.{classOf, blankC, noteOf, lineEnd, slashN, controlN, line, block, slash};
 ghost use Rattle.reader.specs.Between.Layout.{Tells, CommentSays, MaybeSays, Blanks, LayoutSays};
 
@@ -51,12 +53,12 @@ fn is_control(b: u8) -> bool
     true
 }
 
-// Whether a byte closes a block comment: a slash, if a star stands before it.
-fn closes(star: bool, b: u8) -> bool
-    ensures { λ r. ⌜ Tells ((star ≡ true) × (noteOf b ≡ slashN)) r ⌝ }
+// Whether a byte closes a block comment: a slash, after a star.
+fn closes(last: u8, b: u8) -> bool
+    ensures { λ r. ⌜ Tells ((eqb last (ch "*") ≡ true) × (noteOf b ≡ slashN)) r ⌝ }
 {
     if b == b'/' {
-        return star;
+        return last == b'*';
     }
     false
 }
@@ -80,22 +82,22 @@ fn line(text: &[u8], from: usize) -> Comment
     Comment::Ended(at)
 }
 
-// A block comment, after its opening: to the first star and slash.
+// A block comment, after its opening, whose star is none to close it: to the first star and slash.
 fn block(text: &[u8], from: usize) -> Comment
     requires { ⌜ from ≤ length (now text) ⌝ }
     ensures { λ r. ⌜ CommentSays (now (text .entry)) block from r ⌝ }
 {
     let mut at = from;
-    let mut star = false;
+    let mut last = b' ';
     while at < text.len() {
         let b = text[at];
-        if closes(star, b) {
+        if closes(last, b) {
             return Comment::Ended(at + 1);
         }
         if is_control(b) {
             return Comment::NotGrammar(at);
         }
-        star = b == b'*';
+        last = b;
         at = at + 1;
     }
     Comment::NotGrammar(at)

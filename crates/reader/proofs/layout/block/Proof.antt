@@ -14,10 +14,10 @@ use Rattle.reader.proofs.layout.closes.Reads as closes-reads
 use Rattle.reader.proofs.layout.is_control.Reads as is-control-reads
 
 abbrev Inv-loop : tie.InvT-loop
-Inv-loop text from at₀ star₀ at star = Noting text block (blocked star) from at
+Inv-loop text from at₀ last₀ at last = Noting text block (blocked (eqb last (ch "*"))) from at
 
 abbrev μ-loop : tie.MeasureT-loop
-μ-loop text from at₀ star₀ at star = length text - at
+μ-loop text from at₀ last₀ at last = length text - at
 
 loop-holds : tie.Need-loop-holds Inv-loop μ-loop
 loop-holds c = noting block (c .before .args .from) (omega arith)
@@ -36,7 +36,7 @@ returns c =
     let text = c .before .before .before .before .before .before .args .text .now in
     let l = c .before .before .before .before .loop in
     let e = c .before .closes .ensures .yes (c .if1 .taken) in
-    note-ends (l .inv) (omega arith) (slash-closes text (l .at) (l .star) (e .0) (e .1))
+    note-ends (l .inv) (omega arith) (slash-closes text (l .at) (eqb (l .last) (ch "*")) (e .0) (e .1))
 
 is-control-requires : tie.Need-is-control-requires Inv-loop μ-loop
 is-control-requires c κs = tt
@@ -45,7 +45,7 @@ returns-2 : tie.Need-returns-2 Inv-loop μ-loop
 returns-2 c =
     let text = c .before .before .before .before .before .before .before .before .args .text .now in
     let l = c .before .before .before .before .before .before .loop in
-    note-breaks (l .inv) (omega arith) (control-breaks text (l .at) (l .star) (c .before .is-control .ensures .yes (c .if2 .taken)))
+    note-breaks (l .inv) (omega arith) (control-breaks text (l .at) (eqb (l .last) (ch "*")) (c .before .is-control .ensures .yes (c .if2 .taken)))
 
 add-at : tie.Need-add-at Inv-loop μ-loop
 add-at c = omega arith
@@ -58,11 +58,11 @@ loop-again c =
     let text = c .before .before .before .before .before .before .before .before .args .text .now in
     let l = c .before .before .before .before .before .before .loop in
     let unclosed = c .before .before .before .closes .ensures .no (c .before .before .if1 .left) in
-    let leads = block-leads text (l .at) (l .star) unclosed (c .before .is-control .ensures .no (c .if2 .left)) in
+    let leads = block-leads text (l .at) (eqb (l .last) (ch "*")) unclosed (c .before .is-control .ensures .no (c .if2 .left)) in
     note-more (l .inv) (blocked (eqb (getD text (l .at) 0) (ch "*"))) (omega arith) leads
 
 returns-3 : tie.Need-returns-3 Inv-loop μ-loop
-returns-3 c = note-unended (c .before .loop .inv) (omega arith) (block-open (c .before .loop .star) (c .before .loop .at))
+returns-3 c = note-unended (c .before .loop .inv) (omega arith) (block-open (eqb (c .before .loop .last) (ch "*")) (c .before .loop .at))
 
 pub block-spec : {M : Type 1} → statement M
 block-spec =
