@@ -4,7 +4,8 @@ use Prim.Native.Nat.{ℕ, _≤_, _<_}
 use native.Mathlib.Omega.{arith}
 use Rattle.meaning.specs.Letters.{ch}
 use Rattle.machine.specs.Machine.{Bracket, square, curly}
-use Rattle.machine.specs.Machine.{Class, blankC, hashC, slashC, commaC, colonC, plusC, quoteC, dollarC, letterN, letterT, letterF, letterC, otherC, openC, closeC, classes, classOf}
+use Rattle.machine.specs.Machine.{Class, blankC, hashC, slashC, commaC, colonC, plusC, quoteC, dollarC, letterN, letterT, letterF}
+use Rattle.machine.specs.Machine.{letterC, otherC, openC, closeC, classes, classOf}
 use Rattle.machine.specs.Machine.{Note, lineEnd, starN, slashN, plainN, controlN, notes, noteOf}
 use Rattle.machine.proofs.Tables.{cut-is}
 
