@@ -82,7 +82,7 @@ fn line(text: &[u8], from: usize) -> Comment
     Comment::Ended(at)
 }
 
-// A block comment, after its opening, whose star is none to close it: to the first star and slash.
+// A block comment, after its opening (whose star closes nothing): to the first star and slash.
 fn block(text: &[u8], from: usize) -> Comment
     requires { ⌜ from ≤ length (now text) ⌝ }
     ensures { λ r. ⌜ CommentSays (now (text .entry)) block from r ⌝ }
