@@ -47,7 +47,8 @@ same-answer (Refused v) (Refused w) e = ap Refused (same-refusal v w e)
 -- ---- one outcome
 
 -- two meanings of one text
-same-sizes : {text : List ℕ} {m n : Meaning} → Text true text m → Text true text n → _≡_ {A = Said (ℕ × ℕ)} (done (records m, bytes m)) (done (records n, bytes n))
+same-sizes : {text : List ℕ} {m n : Meaning} → Text true text m → Text true text n
+    → _≡_ {A = Said (ℕ × ℕ)} (done (records m, bytes m)) (done (records n, bytes n))
 same-sizes x y = ap (λ (m : Meaning). done (records m, bytes m)) (unambiguous x y)
 
 -- two refusals of one text
@@ -69,9 +70,14 @@ Same a b t u s v = (a ≡ b) × (t ≡ u) × (s ≡ v)
 module _ (tape store : List ℕ) where
   one-filled : {a b : Answer} {m n : Meaning} → m ≡ n → answerSaid a ≡ done (records m, bytes m) → answerSaid b ≡ done (records n, bytes n)
       → Same a b (laid (tapeOf m) tape) (laid (tapeOf n) tape) (laid (storeOf m) store) (laid (storeOf n) store)
-  one-filled {a} {b} z e f = (same-answer a b (e ∙ ap (λ (k : Meaning). done (records k, bytes k)) z ∙ sym f), ap (λ (k : Meaning). laid (tapeOf k) tape) z, ap (λ (k : Meaning). laid (storeOf k) store) z)
+  one-filled {a} {b} z e f = (
+    same-answer a b (e ∙ ap (λ (k : Meaning). done (records k, bytes k)) z ∙ sym f),
+    ap (λ (k : Meaning). laid (tapeOf k) tape) z,
+    ap (λ (k : Meaning). laid (storeOf k) store) z,
+  )
 
-  one-short : {a b : Answer} (f : Meaning → ℕ) (n : ℕ) {m k : Meaning} → m ≡ k → answerSaid a ≡ refused n (f m) → answerSaid b ≡ refused n (f k) → Same a b tape tape store store
+  one-short : {a b : Answer} (f : Meaning → ℕ) (n : ℕ) {m k : Meaning} → m ≡ k → answerSaid a ≡ refused n (f m)
+      → answerSaid b ≡ refused n (f k) → Same a b tape tape store store
   one-short {a} {b} f n z e g = (same-answer a b (e ∙ ap (λ (x : Meaning). refused n (f x)) z ∙ sym g), refl, refl)
 
 module _ {text tape store : List ℕ} where
@@ -94,7 +100,8 @@ module _ {text tape store : List ℕ} where
   one-outcome-read {a} {b} (Reads.no-text x e) (Reads.no-text y f) = (same-answer a b (e ∙ same-told x y ∙ sym f), refl, refl)
 
 -- two texts of one meaning are read alike
-pub reads-as : {s t tape store : List ℕ} {m : Meaning} {a : Answer} {tape' store' : List ℕ} → Text true s m → Text true t m → Reads s tape store a tape' store' → Reads t tape store a tape' store'
+pub reads-as : {s t tape store : List ℕ} {m : Meaning} {a : Answer} {tape' store' : List ℕ} → Text true s m → Text true t m
+    → Reads s tape store a tape' store' → Reads t tape store a tape' store'
 reads-as {t = t} x y (filled z h k e) = filled (subst (Text true t) (unambiguous x z) y) h k e
 reads-as {t = t} x y (tape-short z h e) = tape-short (subst (Text true t) (unambiguous x z) y) h e
 reads-as {t = t} x y (store-short z h k e) = store-short (subst (Text true t) (unambiguous x z) y) h k e
@@ -136,7 +143,8 @@ module _ (text tape store : List ℕ) where
   read-accepts r s tape' store' (store-short x h k e) = absurd (done-apart e)
   read-accepts r s tape' store' (Reads.no-text x e) = absurd (done-apart e)
 
-  pub accepts-read : (tape' store' : List ℕ) (a : Answer) (m : Meaning) → Text true text m → tapeBytes m ≤ length tape → bytes m ≤ length store → Reads text tape store a tape' store' → a ≡ Counts (records m) (bytes m)
+  pub accepts-read : (tape' store' : List ℕ) (a : Answer) (m : Meaning) → Text true text m → tapeBytes m ≤ length tape
+      → bytes m ≤ length store → Reads text tape store a tape' store' → a ≡ Counts (records m) (bytes m)
   accepts-read tape' store' a m x h k p = one-outcome-read p (filled x h k refl) .0
 
   -- ---- untouched: after a refusal each lent buffer is as it was
@@ -151,7 +159,8 @@ module _ (text tape store : List ℕ) where
 pub measure-refuses : {text : List ℕ} {a : Answer} {why : Refusal} → Text-refused text why → Measures text a → a ≡ Refused why
 measure-refuses {text} {a} {why} x p = one-outcome-measure text a (Refused why) p (Measures.no-text x refl)
 
-pub read-refuses : {text tape store tape' store' : List ℕ} {a : Answer} {why : Refusal} → Text-refused text why → Reads text tape store a tape' store' → a ≡ Refused why
+pub read-refuses : {text tape store tape' store' : List ℕ} {a : Answer} {why : Refusal} → Text-refused text why
+    → Reads text tape store a tape' store' → a ≡ Refused why
 read-refuses x p = one-outcome-read p (Reads.no-text x refl) .0
 
 -- ---- bounded: records and store bytes are each at most the text's length

@@ -10,12 +10,17 @@ use Rattle.meaning.specs.declared.Refusal.the-variants.{NotGrammar, TooDeep}
 use Rattle.meaning.specs.Letters.{ch}
 use Rattle.meaning.specs.Meaning.{Meaning, Meanings, Members}
 use Rattle.grammar.specs.Values.{Inside, elements, members}
-use Rattle.machine.specs.Machine.{Base, want, wantKey, got, value, key, base, Frame, inside, pair, Conf, at, fail, step, onGot, onWant, closeWanted, odd, wanted, shut, Bracket, square, curly, bareOf, Class, classOf, blankC, hashC, slashC, commaC, colonC, plusC, quoteC, dollarC, letterN, letterT, letterF, letterC, otherC, openC, closeC}
+use Rattle.machine.specs.Machine.{Base, want, wantKey, got, value, key, base, Frame, inside, pair, Conf, at, fail, step, onGot}
+use Rattle.machine.specs.Machine.{onWant, closeWanted, odd, wanted, shut, Bracket, square, curly, bareOf, Class, classOf, blankC}
+use Rattle.machine.specs.Machine.{hashC, slashC, commaC, colonC, plusC, quoteC, dollarC, letterN, letterT, letterF, letterC}
+use Rattle.machine.specs.Machine.{otherC, openC, closeC}
 use Rattle.machine.specs.Machine as Machine
 use Rattle.reader.specs.Between.Scanning.{Goes, Refuses, Bare, Shut}
 use Rattle.reader.specs.Between.Layout.{LayoutEnds, Breaks}
 use Rattle.reader.specs.Between.Joined.{Keyed, KeySays}
-use Rattle.reader.specs.Between.Cursor.{Scalar, Unwanted, ScalarSays, itemBytes, Ready, AtValue, AtMember, Moved, Opened, OneItem, closer, within, Begins, AheadSays, Adds, AfterSays, Coloned, ColonSays, Named, MemberSays}
+use Rattle.reader.specs.Between.Cursor.{Scalar, Unwanted, ScalarSays, itemBytes, Ready, AtValue, AtMember, Moved, Opened}
+use Rattle.reader.specs.Between.Cursor.{OneItem, closer, within, Begins, AheadSays, Adds, AfterSays, Coloned, ColonSays}
+use Rattle.reader.specs.Between.Cursor.{Named, MemberSays}
 use Rattle.reader.specs.declared.cursor.Cursor.{Cursor}
 use Rattle.reader.specs.declared.cursor.Ahead.{Ahead}
 use Rattle.reader.specs.declared.cursor.After.{After}
@@ -70,7 +75,8 @@ module _ (text : List ℕ) (c : Cursor) (closing : ℕ) where
     ahead-end h y e d k = v .goes (wanted y) d (inside y ∷ k) ∙ ahead-over h y d k
 
     module _ (h : q < length text) where
-      shuts : (y : Inside) → getD text q 0 ≡ closer y → (d : ℕ) (k : List Frame) → Goes text (within y d k) q (at (base (got (value (shut y)))) (suc d) k) (q + 1)
+      shuts : (y : Inside) → getD text q 0 ≡ closer y → (d : ℕ) (k : List Frame)
+          → Goes text (within y d k) q (at (base (got (value (shut y)))) (suc d) k) (q + 1)
       shuts (elements x) e d k = go (within (elements x) d k) (at (base (got (value (shut (elements x))))) (suc d) k) text q h (rw e)
       shuts (members x) e d k = go (within (members x) d k) (at (base (got (value (shut (members x))))) (suc d) k) text q h (rw e)
 
@@ -83,7 +89,8 @@ module _ (text : List ℕ) (c : Cursor) (closing : ℕ) where
 -- ---- after an element or a member
 
 module _ (p d : ℕ) (k : List Frame) (m : Meaning) where
-  after-class : (f : Frame) (closing : ℕ) (y : Meaning → Inside) → Adds f closing y → (b : ℕ) (c : Class) → ClassIs b c → (c ≡ blankC → ⊥) → (c ≡ hashC → ⊥) → (c ≡ slashC → ⊥) → (b ≡ ch "," → ⊥) → (b ≡ closing → ⊥)
+  after-class : (f : Frame) (closing : ℕ) (y : Meaning → Inside) → Adds f closing y → (b : ℕ) (c : Class) → ClassIs b c
+      → (c ≡ blankC → ⊥) → (c ≡ hashC → ⊥) → (c ≡ slashC → ⊥) → (b ≡ ch "," → ⊥) → (b ≡ closing → ⊥)
       → onGot p d (f ∷ k) (value m) c ≡ odd p
   after-class f closing y a b blankC x i j l n o = absurd (i refl)
   after-class f closing y a b hashC x i j l n o = absurd (j refl)
@@ -104,13 +111,22 @@ module _ (p d : ℕ) (k : List Frame) (m : Meaning) where
   after-class f closing y Adds.member b (closeC square) x i j l n o = refl
   after-class f closing y Adds.member b (closeC curly) x i j l n o = absurd (o x)
 
-commas : (text : List ℕ) (q : ℕ) → q < length text → getD text q 0 ≡ ch "," → (closing : ℕ) (f : Frame) (y : Meaning → Inside) → Adds f closing y → (m : Meaning) (d : ℕ) (k : List Frame) → Goes text (at (base (got (value m))) d (f ∷ k)) q (within (y m) d k) (q + 1)
-commas text q h e closing f y (Adds.element {x = x}) m d k = go (at (base (got (value m))) d (inside (elements x) ∷ k)) (within (elements (Meanings.more x m)) d k) text q h (rw e)
-commas text q h e closing f y (Adds.member {x = x} {u = u}) m d k = go (at (base (got (value m))) d (pair x u ∷ k)) (within (members (Members.member x u m)) d k) text q h (rw e)
+commas : (text : List ℕ) (q : ℕ) → q < length text → getD text q 0 ≡ ch "," → (closing : ℕ) (f : Frame) (y : Meaning → Inside)
+    → Adds f closing y → (m : Meaning) (d : ℕ) (k : List Frame)
+    → Goes text (at (base (got (value m))) d (f ∷ k)) q (within (y m) d k) (q + 1)
+commas text q h e closing f y (Adds.element {x = x}) m d k =
+    go (at (base (got (value m))) d (inside (elements x) ∷ k)) (within (elements (Meanings.more x m)) d k) text q h (rw e)
+commas text q h e closing f y (Adds.member {x = x} {u = u}) m d k =
+    go (at (base (got (value m))) d (pair x u ∷ k)) (within (members (Members.member x u m)) d k) text q h (rw e)
 
-closes : (text : List ℕ) (q : ℕ) → q < length text → (closing : ℕ) (f : Frame) (y : Meaning → Inside) → Adds f closing y → getD text q 0 ≡ closing → (m : Meaning) (d : ℕ) (k : List Frame) → Goes text (at (base (got (value m))) d (f ∷ k)) q (at (base (got (value (shut (y m))))) (suc d) k) (q + 1)
-closes text q h closing f y (Adds.element {x = x}) e m d k = go (at (base (got (value m))) d (inside (elements x) ∷ k)) (at (base (got (value (shut (elements (Meanings.more x m)))))) (suc d) k) text q h (rw e)
-closes text q h closing f y (Adds.member {x = x} {u = u}) e m d k = go (at (base (got (value m))) d (pair x u ∷ k)) (at (base (got (value (shut (members (Members.member x u m)))))) (suc d) k) text q h (rw e)
+closes : (text : List ℕ) (q : ℕ) → q < length text → (closing : ℕ) (f : Frame) (y : Meaning → Inside) → Adds f closing y
+    → getD text q 0 ≡ closing → (m : Meaning) (d : ℕ) (k : List Frame)
+    → Goes text (at (base (got (value m))) d (f ∷ k)) q (at (base (got (value (shut (y m))))) (suc d) k) (q + 1)
+closes text q h closing f y (Adds.element {x = x}) e m d k =
+    go (at (base (got (value m))) d (inside (elements x) ∷ k))
+    (at (base (got (value (shut (elements (Meanings.more x m)))))) (suc d) k) text q h (rw e)
+closes text q h closing f y (Adds.member {x = x} {u = u}) e m d k =
+    go (at (base (got (value m))) d (pair x u ∷ k)) (at (base (got (value (shut (members (Members.member x u m)))))) (suc d) k) text q h (rw e)
 
 module _ (text : List ℕ) (c : Cursor) (closing : ℕ) where
   pub after-broken : (q : ℕ) → Breaks text base (c .at) q → AfterSays text c closing (After.Refused (NotGrammar q))
@@ -129,12 +145,14 @@ module _ (text : List ℕ) (c : Cursor) (closing : ℕ) where
 
       pub after-wrong : (getD text q 0 ≡ ch "," → ⊥) → (getD text q 0 ≡ closing → ⊥) → AfterSays text c closing (After.Refused (NotGrammar q))
       after-wrong n o f y a m d k = v .goes (got (value m)) d (f ∷ k) ∙ stop (at (base (got (value m))) d (f ∷ k)) text q (NotGrammar q) h
-          (after-class q d k m f closing y a (getD text q 0) (classOf (getD text q 0)) (class-is (getD text q 0)) (v .bare .no-blank h) (v .bare .no-hash h) (v .bare .no-slash h) n o)
+          (after-class q d k m f closing y a (getD text q 0) (classOf (getD text q 0)) (class-is (getD text q 0))
+          (v .bare .no-blank h) (v .bare .no-hash h) (v .bare .no-slash h) n o)
 
 -- ---- after a key
 
 module _ (p d : ℕ) (k : List Frame) (x : Members) (u : List ℕ) where
-  colon-class : (b : ℕ) (c : Class) → ClassIs b c → (c ≡ blankC → ⊥) → (c ≡ hashC → ⊥) → (c ≡ slashC → ⊥) → (b ≡ ch ":" → ⊥) → onGot p d (inside (members x) ∷ k) (key u) c ≡ odd p
+  colon-class : (b : ℕ) (c : Class) → ClassIs b c → (c ≡ blankC → ⊥) → (c ≡ hashC → ⊥) → (c ≡ slashC → ⊥) → (b ≡ ch ":" → ⊥)
+      → onGot p d (inside (members x) ∷ k) (key u) c ≡ odd p
   colon-class b blankC z i j l n = absurd (i refl)
   colon-class b hashC z i j l n = absurd (j refl)
   colon-class b slashC z i j l n = absurd (l refl)
@@ -157,16 +175,22 @@ module _ (text : List ℕ) (c : Cursor) (size : ℕ) where
 
   module _ (q : ℕ) (v : LayoutEnds text (c .at) q) where
     pub colon-end : length text ≤ q → ColonSays text c size (Member.Refused (NotGrammar q))
-    colon-end h x u d k = v .goes (got (key u)) d (inside (members x) ∷ k) ∙ halt (at (base (got (key u))) d (inside (members x) ∷ k)) text q (NotGrammar q) h refl
+    colon-end h x u d k =
+        v .goes (got (key u)) d (inside (members x) ∷ k) ∙ halt (at (base (got (key u))) d (inside (members x) ∷ k)) text q (NotGrammar q) h refl
 
     module _ (h : q < length text) where
       pub colon-wrong : (getD text q 0 ≡ ch ":" → ⊥) → ColonSays text c size (Member.Refused (NotGrammar q))
-      colon-wrong n x u d k = v .goes (got (key u)) d (inside (members x) ∷ k) ∙ stop (at (base (got (key u))) d (inside (members x) ∷ k)) text q (NotGrammar q) h
-          (colon-class q d k x u (getD text q 0) (classOf (getD text q 0)) (class-is (getD text q 0)) (v .bare .no-blank h) (v .bare .no-hash h) (v .bare .no-slash h) n)
+      colon-wrong n x u d k =
+          v .goes (got (key u)) d (inside (members x) ∷ k) ∙ stop (at (base (got (key u))) d (inside (members x) ∷ k)) text q (NotGrammar q) h
+          (colon-class q d k x u (getD text q 0) (classOf (getD text q 0)) (class-is (getD text q 0))
+          (v .bare .no-blank h) (v .bare .no-hash h) (v .bare .no-slash h) n)
 
       module _ (e : getD text q 0 ≡ ch ":") where
-        coloned : (x : Members) (u : List ℕ) (d : ℕ) (k : List Frame) → Goes text (at (base (got (key u))) d (inside (members x) ∷ k)) (c .at) (at (base want) d (pair x u ∷ k)) (q + 1)
-        coloned x u d k = v .goes (got (key u)) d (inside (members x) ∷ k) ∙ go (at (base (got (key u))) d (inside (members x) ∷ k)) (at (base want) d (pair x u ∷ k)) text q h (rw e)
+        coloned : (x : Members) (u : List ℕ) (d : ℕ) (k : List Frame)
+            → Goes text (at (base (got (key u))) d (inside (members x) ∷ k)) (c .at) (at (base want) d (pair x u ∷ k)) (q + 1)
+        coloned x u d k =
+            v .goes (got (key u)) d (inside (members x) ∷ k) ∙ go (at (base (got (key u))) d (inside (members x) ∷ k))
+            (at (base want) d (pair x u ∷ k)) text q h (rw e)
 
         pub colon-breaks : (r : ℕ) → Breaks text base (q + 1) r → ColonSays text c size (Member.Refused (NotGrammar r))
         colon-breaks r w x u d k = coloned x u d k ∙ w want d (pair x u ∷ k)
@@ -191,13 +215,16 @@ module _ (text : List ℕ) (c : Cursor) (entry : List ℕ) where
       closing-is : (b : ℕ) (z : Class) → ClassIs b z → z ≡ closeC curly → b ≡ ch "}"
       closing-is b z y f = rw f at y
 
-  pub member-refused : AtMember text c → (why : Refusal) → ((d : ℕ) (k : List Frame) → Shut text (c .at) d k → Refuses text (at (base wantKey) d k) (c .at) why) → (x : Members) (d : ℕ) (k : List Frame) → Refuses text (within (members x) d k) (c .at) why
+  pub member-refused : AtMember text c → (why : Refusal)
+      → ((d : ℕ) (k : List Frame) → Shut text (c .at) d k → Refuses text (at (base wantKey) d k) (c .at) why)
+      → (x : Members) (d : ℕ) (k : List Frame) → Refuses text (within (members x) d k) (c .at) why
   member-refused v why w x d k = w d (inside (members x) ∷ k) (member-shut v x d k)
 
   abbrev pub keyedAt : ℕ → ℕ → Cursor
   keyedAt q n = record { at = q; records = c .records + 1; stored = c .stored + n }
 
-  pub member-says : (exit : List ℕ) (q n : ℕ) → Keyed text (c .at) (c .stored) entry exit q n → (r : Member) → ColonSays text (keyedAt q n) n r → MemberSays text c entry exit r
+  pub member-says : (exit : List ℕ) (q n : ℕ) → Keyed text (c .at) (c .stored) entry exit q n → (r : Member)
+      → ColonSays text (keyedAt q n) n r → MemberSays text c entry exit r
   member-says exit q n w (Member.Key j t) s =
       let m = s .0 .moved in
       let o = w .meant in

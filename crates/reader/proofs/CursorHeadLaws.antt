@@ -14,7 +14,10 @@ use Rattle.meaning.specs.Letters.{ch}
 use Rattle.meaning.specs.Meaning.{Meaning}
 use Rattle.meaning.specs.Tape.{storeOf, recordsOf, bytes}
 use Rattle.machine.specs.Scan.{Out, takes, stops, breaks, over, Ran, ended, broke, unended, goesOn, ran}
-use Rattle.machine.specs.Machine.{Use, as-value, as-key, Item, word, numeric, Got, value, string, binary, Base, want, got, base, item, Frame, Conf, at, step, finish, onGot, onWant, onOut, odd, closeWanted, read, Bracket, square, curly, Class, classOf, blankC, hashC, slashC, commaC, colonC, plusC, quoteC, dollarC, letterN, letterT, letterF, letterC, otherC, openC, closeC}
+use Rattle.machine.specs.Machine.{Use, as-value, as-key, Item, word, numeric, Got, value, string, binary, Base, want, got, base}
+use Rattle.machine.specs.Machine.{item, Frame, Conf, at, step, finish, onGot, onWant, onOut, odd, closeWanted, read, Bracket}
+use Rattle.machine.specs.Machine.{square, curly, Class, classOf, blankC, hashC, slashC, commaC, colonC, plusC, quoteC, dollarC}
+use Rattle.machine.specs.Machine.{letterN, letterT, letterF, letterC, otherC, openC, closeC}
 use Rattle.machine.specs.Machine as Machine
 use Rattle.machine.specs.Names.{wordScan}
 use Rattle.machine.specs.Numeric
@@ -46,7 +49,9 @@ word-past [] p q c a e = go (eqb over c) e
 word-past (b ∷ t) p q c a e = go (eqb b c) e
   where
     go : (x : Bool) → goesOn wordScan p (λ l. ran wordScan (suc p) l t) (cond x (takes a) (breaks (NotGrammar p))) ≡ ended tt q → p < q
-    go true h = let v = item-ends wordScan (λ l. word l Meaning.null) (λ l. value Meaning.null) (λ p s b. refl) 0 [] t (suc p) a tt q h in omega (arith, v .behind)
+    go true h =
+        let v = item-ends wordScan (λ l. word l Meaning.null) (λ l. value Meaning.null) (λ p s b. refl) 0 [] t (suc p) a tt q h in
+        omega (arith, v .behind)
     go false h = absurd (let z : _≡_ {A = ℕ} 0 1 = cc in omega arith)
 
 -- ---- one item: what its meaning puts
@@ -73,7 +78,9 @@ means-counted Means.number = refl
 means-counted Means.time = refl
 
 module _ (text : List ℕ) (p start : ℕ) (entry : List ℕ) where
-  pub of-means : (i : Taken) (m : Meaning) (q : ℕ) → Means i m → p < q → q ≤ length text → ((d : ℕ) (k : List Frame) → Goes text (at (base want) d k) p (at (base (got (value m))) d k) q) → Scalar text p start entry entry i q
+  pub of-means : (i : Taken) (m : Meaning) (q : ℕ) → Means i m → p < q → q ≤ length text
+      → ((d : ℕ) (k : List Frame) → Goes text (at (base want) d k) p (at (base (got (value m))) d k) q)
+      → Scalar text p start entry entry i q
   of-means i m q v l h r = let s = means-stored v in record {
     m = m;
     runs = r;
@@ -86,19 +93,26 @@ module _ (text : List ℕ) (p start : ℕ) (entry : List ℕ) where
   }
 
   -- a word whose first byte is known: the machine begins the item
-  pub of-word : (w : List ℕ) (c : ℕ) (a : List ℕ) → w ≡ c ∷ a → (i : Taken) (m : Meaning) → Means i m → ((d : ℕ) (k : List Frame) → Goes text (at (base want) d k) p (at (item (word w m)) d k) p)
+  pub of-word : (w : List ℕ) (c : ℕ) (a : List ℕ) → w ≡ c ∷ a → (i : Taken) (m : Meaning) → Means i m
+      → ((d : ℕ) (k : List Frame) → Goes text (at (base want) d k) p (at (item (word w m)) d k) p)
       → (r : Scanned) → SpeltSays text p w i r → ScalarSays text p start entry entry r
-  of-word w c a e i m v g (Scanned.Item j q) s = rw (s .2) (of-means i m q v (word-past (drop p text) p q c a (rw e at (s .0))) (s .1) (λ d k. g d k ∙ lift-done wordScan (λ l. word l m) (λ l. value m) (λ p s b. refl) d k text p w tt q (s .0)))
+  of-word w c a e i m v g (Scanned.Item j q) s =
+      rw (s .2)
+      (of-means i m q v (word-past (drop p text) p q c a (rw e at (s .0))) (s .1)
+      (λ d k. g d k ∙ lift-done wordScan (λ l. word l m) (λ l. value m) (λ p s b. refl) d k text p w tt q (s .0)))
   of-word w c a e i m v g (Scanned.Refused why) s = λ d k x. g d k ∙ lift-refused wordScan (λ l. word l m) (λ l. value m) (λ p s b. refl) d k text p w why s
 
   module _ (h : p < length text) where
-    pub at-word : (w : List ℕ) (m : Meaning) → ((d : ℕ) (k : List Frame) → onWant p d k (getD text p 0) (classOf (getD text p 0)) ≡ step p (at (item (word w m)) d k) (getD text p 0)) → (d : ℕ) (k : List Frame) → Goes text (at (base want) d k) p (at (item (word w m)) d k) p
+    pub at-word : (w : List ℕ) (m : Meaning)
+        → ((d : ℕ) (k : List Frame) → onWant p d k (getD text p 0) (classOf (getD text p 0)) ≡ step p (at (item (word w m)) d k) (getD text p 0))
+        → (d : ℕ) (k : List Frame) → Goes text (at (base want) d k) p (at (item (word w m)) d k) p
     at-word w m e d k = alike-on (at (base want) d k) (at (item (word w m)) d k) text p h (e d k)
 
 -- ---- strings and binary
 
 module _ (p d : ℕ) (k : List Frame) (u : List ℕ) where
-  string-class : (c : Class) → (c ≡ blankC → ⊥) → (c ≡ hashC → ⊥) → (c ≡ slashC → ⊥) → (c ≡ plusC → ⊥) → onGot p d k (string as-value u) c ≡ onGot p d k (value (Meaning.string u)) c
+  string-class : (c : Class) → (c ≡ blankC → ⊥) → (c ≡ hashC → ⊥) → (c ≡ slashC → ⊥) → (c ≡ plusC → ⊥)
+      → onGot p d k (string as-value u) c ≡ onGot p d k (value (Meaning.string u)) c
   string-class blankC a b e f = absurd (a refl)
   string-class hashC a b e f = absurd (b refl)
   string-class slashC a b e f = absurd (e refl)
@@ -115,7 +129,8 @@ module _ (p d : ℕ) (k : List Frame) (u : List ℕ) where
   string-class (openC c) a b e f = refl
   string-class (closeC c) a b e f = refl
 
-  binary-class : (c : Class) → (c ≡ blankC → ⊥) → (c ≡ hashC → ⊥) → (c ≡ slashC → ⊥) → (c ≡ plusC → ⊥) → onGot p d k (binary u) c ≡ onGot p d k (value (Meaning.binary u)) c
+  binary-class : (c : Class) → (c ≡ blankC → ⊥) → (c ≡ hashC → ⊥) → (c ≡ slashC → ⊥) → (c ≡ plusC → ⊥)
+      → onGot p d k (binary u) c ≡ onGot p d k (value (Meaning.binary u)) c
   binary-class blankC a b e f = absurd (a refl)
   binary-class hashC a b e f = absurd (b refl)
   binary-class slashC a b e f = absurd (e refl)
@@ -147,7 +162,9 @@ quote-opens b c e p d k = rw e
 module _ (text : List ℕ) (p start : ℕ) (entry : List ℕ) where
   module _ (h : Quoted text p) where
     opens-string : (d : ℕ) (k : List Frame) → Goes text (at (base want) d k) p (at (item (stringPart as-value [])) d k) p
-    opens-string d k = alike-on (at (base want) d k) (at (item (stringPart as-value [])) d k) text p (h .inside) (quote-opens (getD text p 0) (classOf (getD text p 0)) (h .quote) p d k)
+    opens-string d k =
+        alike-on (at (base want) d k) (at (item (stringPart as-value [])) d k) text p (h .inside)
+        (quote-opens (getD text p 0) (classOf (getD text p 0)) (h .quote) p d k)
 
     pub string-whole : (exit : List ℕ) (q n : ℕ) → Joined Use stringPart string text p start entry exit q n → Scalar text p start entry exit (Taken.Str n) q
     unfolding recordsOf storeOf
@@ -169,7 +186,8 @@ module _ (text : List ℕ) (p start : ℕ) (entry : List ℕ) where
     opens-binary : (d : ℕ) (k : List Frame) → Goes text (at (base want) d k) p (at (item (binaryPart tt [])) d k) p
     opens-binary d k = alike-on (at (base want) d k) (at (item (binaryPart tt [])) d k) text p h (rw e)
 
-    pub binary-whole : (exit : List ℕ) (q n : ℕ) → Joined (Unit {0}) binaryPart wholeBinary text p start entry exit q n → Scalar text p start entry exit (Taken.Bin n) q
+    pub binary-whole : (exit : List ℕ) (q n : ℕ) → Joined (Unit {0}) binaryPart wholeBinary text p start entry exit q n
+        → Scalar text p start entry exit (Taken.Bin n) q
     unfolding recordsOf storeOf
     binary-whole exit q n w = let c = w .meant .counted in record {
       m = Meaning.binary (w .u);
@@ -182,7 +200,8 @@ module _ (text : List ℕ) (p start : ℕ) (entry : List ℕ) where
       within = w .within;
     }
 
-    pub binary-refused : (why : Refusal) → ((z : Unit {0}) (d : ℕ) (k : List Frame) → Refuses text (at (item (binaryPart z [])) d k) p why) → Unwanted text p why
+    pub binary-refused : (why : Refusal)
+        → ((z : Unit {0}) (d : ℕ) (k : List Frame) → Refuses text (at (item (binaryPart z [])) d k) p why) → Unwanted text p why
     binary-refused why w = λ d k s. opens-binary d k ∙ w tt d k
 
 -- ---- numbers and times
@@ -198,11 +217,13 @@ pub record Others (b : ℕ) : Type 0 where
   pub square : b ≡ ch "[" → ⊥
   pub curly : b ≡ ch "{" → ⊥
 
-numeric-odd : (p d : ℕ) (k : List Frame) (b : ℕ) → Numeric.scan p Numeric.begin b ≡ breaks (NotGrammar p) → odd p ≡ step p (at (item (numeric Numeric.begin)) d k) b
+numeric-odd : (p d : ℕ) (k : List Frame) (b : ℕ) → Numeric.scan p Numeric.begin b ≡ breaks (NotGrammar p)
+    → odd p ≡ step p (at (item (numeric Numeric.begin)) d k) b
 numeric-odd p d k b e = sym (ap (λ (o : Out Numeric.St Meaning). onOut p d k b (Machine.lift numeric value o)) e)
 
 module _ (p d : ℕ) (k : List Frame) where
-  other-class : (b : ℕ) (c : Class) → ClassIs b c → Others b → (c ≡ blankC → ⊥) → (c ≡ hashC → ⊥) → (c ≡ slashC → ⊥) → (c ≡ quoteC → ⊥) → ((y : Bracket) → c ≡ closeC y → closeWanted p d y k ≡ odd p)
+  other-class : (b : ℕ) (c : Class) → ClassIs b c → Others b → (c ≡ blankC → ⊥) → (c ≡ hashC → ⊥) → (c ≡ slashC → ⊥)
+      → (c ≡ quoteC → ⊥) → ((y : Bracket) → c ≡ closeC y → closeWanted p d y k ≡ odd p)
       → onWant p d k b c ≡ step p (at (item (numeric Numeric.begin)) d k) b
   other-class b blankC x o i j l q s = absurd (i refl)
   other-class b hashC x o i j l q s = absurd (j refl)
@@ -229,15 +250,18 @@ closes-none p b c x curly e = let z : ClassIs b (closeC curly) = rw e at x in rw
 module _ (text : List ℕ) (p start : ℕ) (entry : List ℕ) (v : AtScalar text p start) (o : Others (getD text p 0)) where
   opens-numeric : (d : ℕ) (k : List Frame) → Shut text p d k → Goes text (at (base want) d k) p (at (item (numeric Numeric.begin)) d k) p
   opens-numeric d k s = let h = v .inside in alike-on (at (base want) d k) (at (item (numeric Numeric.begin)) d k) text p h
-      (other-class p d k (getD text p 0) (classOf (getD text p 0)) (class-is (getD text p 0)) o (v .bare .no-blank h) (v .bare .no-hash h) (v .bare .no-slash h) (not-quote (getD text p 0) (o .double) (o .single)) (s h))
+      (other-class p d k (getD text p 0) (classOf (getD text p 0)) (class-is (getD text p 0)) o (v .bare .no-blank h)
+      (v .bare .no-hash h) (v .bare .no-slash h) (not-quote (getD text p 0) (o .double) (o .single)) (s h))
 
   -- where an item is taken, no bracket closes
   never-shut : (m : Meaning) (q : ℕ) → ran Numeric.scan p Numeric.begin (drop p text) ≡ ended m q → (d : ℕ) (k : List Frame) → Shut text p d k
   never-shut m q e d k h c f =
-      let r = run-break Numeric.scan text p Numeric.begin (NotGrammar p) h (closes-none p (getD text p 0) (classOf (getD text p 0)) (class-is (getD text p 0)) c f) in
+      let r = run-break Numeric.scan text p Numeric.begin (NotGrammar p) h
+      (closes-none p (getD text p 0) (classOf (getD text p 0)) (class-is (getD text p 0)) c f) in
       absurd (let z : _≡_ {A = ℕ} 0 1 = cc in omega arith)
 
   pub of-numeric : (r : Scanned) → NumericSays text p r → ScalarSays text p start entry entry r
   of-numeric (Scanned.Item i q) w = of-means text p start entry i (w .m) q (w .means) (w .past) (w .within)
-      (λ d k. opens-numeric d k (never-shut (w .m) q (w .runs) d k) ∙ lift-done Numeric.scan numeric value (λ p s b. refl) d k text p Numeric.begin (w .m) q (w .runs))
+      (λ d k. opens-numeric d k (never-shut (w .m) q (w .runs) d k) ∙ lift-done Numeric.scan numeric value
+      (λ p s b. refl) d k text p Numeric.begin (w .m) q (w .runs))
   of-numeric (Scanned.Refused why) w = λ d k s. opens-numeric d k s ∙ lift-refused Numeric.scan numeric value (λ p s b. refl) d k text p Numeric.begin why w

@@ -12,20 +12,23 @@ use Rattle.meaning.specs.declared.Refusal.{Refusal}
 use Rattle.meaning.specs.declared.Refusal.the-variants.{NotGrammar}
 use Rattle.meaning.specs.Letters.{ch}
 use Rattle.machine.specs.Scan.{Out, takes, stops, breaks, over, Ran, ended, broke, ran}
-use Rattle.machine.specs.Machine.{Use, Item, string-part, binary-part, Got, string, binary, Base, wantString, wantBinary, got, Mode, base, item, Frame, Conf, at, step, finish, onPart, onOut, odd, Bracket, square, curly, Class, classOf, blankC, hashC, slashC, commaC, colonC, plusC, quoteC, dollarC, letterN, letterT, letterF, letterC, otherC, openC, closeC}
+use Rattle.machine.specs.Machine.{Use, Item, string-part, binary-part, Got, string, binary, Base, wantString, wantBinary, got}
+use Rattle.machine.specs.Machine.{Mode, base, item, Frame, Conf, at, step, finish, onPart, onOut, odd, Bracket, square, curly}
+use Rattle.machine.specs.Machine.{Class, classOf, blankC, hashC, slashC, commaC, colonC, plusC, quoteC, dollarC}
+use Rattle.machine.specs.Machine.{letterN, letterT, letterF, letterC, otherC, openC, closeC}
 use Rattle.machine.specs.Machine as Machine
 use Rattle.machine.specs.Strings
 use Rattle.machine.specs.Binaries
 use Rattle.reader.specs.Between.Scanning.{Goes, Refuses, Bare}
 use Rattle.reader.specs.Between.Layout.{LayoutEnds, Breaks}
 use Rattle.items.specs.Between.PlacedPart.{Ended}
-use Rattle.items.specs.Between.BinaryPart.{PieceSays}
-use Rattle.reader.specs.Between.Joined.{PlacedSays, Plusless, Plus, Alone, Joining, JoinSays, Joined, BytesSays, stringPart, binaryPart, wholeBinary}
+use Rattle.reader.specs.Between.Joined.{Plusless, Plus, Alone, Joining, JoinSays, linkOf, Linked, Unlinked, in-part, after-part, LinkSays}
+use Rattle.reader.specs.Between.Joined.{Joined, BytesSays, stringPart, binaryPart, wholeBinary}
 use Rattle.items.specs.Between.StringPart.{PartSays}
 use Rattle.reader.specs.declared.joined.Bytes.{Bytes}
 use Rattle.reader.specs.declared.joined.Join.{Join}
+use Rattle.reader.specs.declared.joined.Link.{Link}
 use Rattle.items.specs.declared.string_part.Part.{Part}
-use Rattle.items.specs.declared.binary_part.Piece.{Piece}
 use Rattle.reader.proofs.ScanningLaws.{go, alike}
 use Rattle.reader.proofs.ScanningClassLaws.{ClassIs, class-is, closing, opening}
 use Rattle.reader.proofs.ScanningItemLaws.{lift-done, lift-refused}
@@ -73,10 +76,13 @@ pub part-length : (text : List ℕ) (p : ℕ) → length (take (length text - p)
 part-length text p = ap length (part-here text p) ∙ simp length-drop refl
 
 module _ (text : List ℕ) (p start : ℕ) (entry : List ℕ) (h : p ≤ length text) where
-  pub part-refused : (why : ℕ → Refusal) → ((o : ℕ) → ran Strings.scan o Strings.begin (take (length text - p) (drop p text)) ≡ broke (why o)) → ran Strings.scan p Strings.begin (drop p text) ≡ broke (why p)
-  part-refused why w = ap (ran Strings.scan p Strings.begin) (sym (part-here text p)) ∙ w p
+  pub part-refused : (exit : List ℕ) (why : ℕ → Refusal)
+      → ((o : ℕ) → ran Strings.scan o Strings.begin (take (length text - p) (drop p text)) ≡ broke (why o))
+      → Unlinked Strings.scan Strings.begin text p start entry exit (why p)
+  part-refused exit why w = in-part (ap (ran Strings.scan p Strings.begin) (sym (part-here text p)) ∙ w p)
 
-  pub part-closed : (exit : List ℕ) (taken n : ℕ) → PartSays (take (length text - p) (drop p text)) start entry exit (Part.Closed taken n) → PlacedSays Strings.scan Strings.begin text p start entry exit (Bytes.Whole (p + taken) n)
+  pub part-closed : (exit : List ℕ) (taken n : ℕ) → PartSays (take (length text - p) (drop p text)) start entry exit (Part.Closed taken n)
+      → Ended Strings.scan Strings.begin text p start entry exit (p + taken) n
   part-closed exit taken n w =
       let l = part-length text p in
       record {
@@ -86,17 +92,25 @@ module _ (text : List ℕ) (p start : ℕ) (entry : List ℕ) (h : p ≤ length 
         within = omega (arith, w .within);
       }
 
-  pub piece-says : (exit : List ℕ) (q n : ℕ) → PieceSays text p start entry exit (Piece.Closed q n) → PlacedSays Binaries.scan Binaries.begin text p start entry exit (Bytes.Whole q n)
-  piece-says exit q n w = w
+-- a part, by what follows it
+module _ {S : Type 0} {scan : ℕ → S → ℕ → Out S (List ℕ)} {begin : S} {text : List ℕ} {p start : ℕ} {entry exit : List ℕ} {q n : ℕ}
+    (w : Ended scan begin text p start entry exit q n) where
+  pub part-linked : (j : Join) → JoinSays text q j → LinkSays scan begin text p start entry exit (linkOf n j)
+  part-linked (Join.Next r) j = record { close = q; part = w; after = j }
+  part-linked (Join.Last r) j = record { close = q; part = w; after = j }
+  part-linked (Join.NotGrammar r) j = after-part {n = n} (record { close = q; part = w; after = j })
 
 -- ---- what strings and binary have in common
 
 pub record Kind (S : Type 0) (scan : ℕ → S → ℕ → Out S (List ℕ)) (begin : S) (A : Type 0) (part : A → List ℕ → Item) (whole : A → List ℕ → Got) : Type 0 where
-  pub closes : (text : List ℕ) (a : A) (u x : List ℕ) (p q d : ℕ) (k : List Frame) → ran scan p begin (drop p text) ≡ ended x q → Goes text (at (item (part a u)) d k) p (at (base (got (whole a (u ++ x)))) d k) q
-  pub refuses : (text : List ℕ) (a : A) (u : List ℕ) (p d : ℕ) (k : List Frame) (why : Refusal) → ran scan p begin (drop p text) ≡ broke why → Refuses text (at (item (part a u)) d k) p why
+  pub closes : (text : List ℕ) (a : A) (u x : List ℕ) (p q d : ℕ) (k : List Frame) → ran scan p begin (drop p text) ≡ ended x q
+      → Goes text (at (item (part a u)) d k) p (at (base (got (whole a (u ++ x)))) d k) q
+  pub refuses : (text : List ℕ) (a : A) (u : List ℕ) (p d : ℕ) (k : List Frame) (why : Refusal) → ran scan p begin (drop p text) ≡ broke why
+      → Refuses text (at (item (part a u)) d k) p why
   pub wants : A → List ℕ → Base
   pub joins : (a : A) (u : List ℕ) → Plus (whole a u) (wants a u)
-  pub opens : (text : List ℕ) (a : A) (u : List ℕ) (p : ℕ) → Bare text p → (d : ℕ) (k : List Frame) → Goes text (at (base (wants a u)) d k) p (at (item (part a u)) d k) p
+  pub opens : (text : List ℕ) (a : A) (u : List ℕ) (p : ℕ) → Bare text p → (d : ℕ) (k : List Frame)
+      → Goes text (at (base (wants a u)) d k) p (at (item (part a u)) d k) p
 
 string-none : (p b : ℕ) → (b ≡ ch "\"" → ⊥) → (b ≡ ch "'" → ⊥) → Strings.scan p Strings.begin b ≡ breaks (NotGrammar p)
 unfolding Strings.scan
@@ -162,7 +176,8 @@ strings = record {
   wants = wantString;
   joins = λ z u o d k. refl;
   opens = λ text z u p b d k. alike (at (base (wantString z u)) d k) (at (item (stringPart z u)) d k) text p
-      (λ h. string-class p d k z u (getD text p 0) (classOf (getD text p 0)) (class-is (getD text p 0)) (b .no-blank h) (b .no-hash h) (b .no-slash h)) (λ h. refl);
+      (λ h. string-class p d k z u (getD text p 0) (classOf (getD text p 0)) (class-is (getD text p 0))
+      (b .no-blank h) (b .no-hash h) (b .no-slash h)) (λ h. refl);
 }
 
 pub binaries : Kind Binaries.St Binaries.scan Binaries.begin (Unit {0}) binaryPart wholeBinary
@@ -173,7 +188,8 @@ binaries = record {
   wants = λ z u. wantBinary u;
   joins = λ z u o d k. refl;
   opens = λ text z u p b d k. alike (at (base (wantBinary u)) d k) (at (item (binaryPart z u)) d k) text p
-      (λ h. binary-class p d k u (getD text p 0) (classOf (getD text p 0)) (class-is (getD text p 0)) (b .no-blank h) (b .no-hash h) (b .no-slash h)) (λ h. refl);
+      (λ h. binary-class p d k u (getD text p 0) (classOf (getD text p 0)) (class-is (getD text p 0))
+      (b .no-blank h) (b .no-hash h) (b .no-slash h)) (λ h. refl);
 }
 
 -- ---- the loop: the parts so far, and the next begins
@@ -186,14 +202,13 @@ pub record Parts (A : Type 0) (part : A → List ℕ → Item) (text : List ℕ)
   pub room : from + length u ≤ p
   pub within : p ≤ length text
 
-pub no-part : (A : Type 0) (part : A → List ℕ → Item) (text : List ℕ) (from start : ℕ) (entry : List ℕ) → from ≤ length text → Parts A part text from start entry entry from start
+pub no-part : (A : Type 0) (part : A → List ℕ → Item) (text : List ℕ) (from start : ℕ) (entry : List ℕ) → from ≤ length text
+    → Parts A part text from start entry entry from start
 no-part A part text from start entry h = record { u = []; runs = λ a d k. refl; filled = refl; placed = omega arith; room = omega arith; within = h }
 
-module _ {S : Type 0} {scan : ℕ → S → ℕ → Out S (List ℕ)} {begin : S} {A : Type 0} {part : A → List ℕ → Item} {whole : A → List ℕ → Got} (kind : Kind S scan begin A part whole)
+module _ {S : Type 0} {scan : ℕ → S → ℕ → Out S (List ℕ)} {begin : S} {A : Type 0} {part : A → List ℕ → Item} {whole : A → List ℕ → Got}
+    (kind : Kind S scan begin A part whole)
     {text : List ℕ} {from start : ℕ} {entry store : List ℕ} {p out : ℕ} (v : Parts A part text from start entry store p out) where
-  pub parts-refused : (why : Refusal) → ran scan p begin (drop p text) ≡ broke why → (a : A) (d : ℕ) (k : List Frame) → Refuses text (at (item (part a [])) d k) from why
-  parts-refused why e a d k = v .runs a d k ∙ kind .refuses text a (v .u) p d k why e
-
   module _ {exit : List ℕ} {q n : ℕ} (w : Ended scan begin text p out store exit q n) where
     to-whole : (a : A) (d : ℕ) (k : List Frame) → Goes text (at (item (part a [])) d k) from (at (base (got (whole a (v .u ++ w .u)))) d k) q
     to-whole a d k = v .runs a d k ∙ kind .closes text a (v .u) (w .u) p q d k (w .runs)
@@ -201,30 +216,51 @@ module _ {S : Type 0} {scan : ℕ → S → ℕ → Out S (List ℕ)} {begin : S
     both-filled : exit ≡ sets entry start (v .u ++ w .u)
     both-filled = w .meant .filled ∙ rw (sets-app, ← v .filled, ← v .placed)
 
-    pub parts-broken : (r : ℕ) → JoinSays text q (Join.NotGrammar r) → BytesSays A part whole text from start entry exit (Bytes.Refused (NotGrammar r))
-    parts-broken r j a d k = to-whole a d k ∙ j (whole a (v .u ++ w .u)) (kind .wants a (v .u ++ w .u)) (kind .joins a (v .u ++ w .u)) d k
+  pub parts-refused : {exit : List ℕ} (why : Refusal) → Unlinked scan begin text p out store exit why
+      → BytesSays A part whole text from start entry exit (Bytes.Refused why)
+  parts-refused why (in-part e) = λ a d k. v .runs a d k ∙ kind .refuses text a (v .u) p d k why e
+  parts-refused why (after-part l) = λ a d k.
+      let u = v .u ++ l .part .u in
+      to-whole (l .part) a d k ∙ l .after (whole a u) (kind .wants a u) (kind .joins a u) d k
 
-    pub parts-last : (r m : ℕ) → m + start ≡ out + n → JoinSays text q (Join.Last r) → BytesSays A part whole text from start entry exit (Bytes.Whole r m)
-    parts-last r m e j = record {
-      u = v .u ++ w .u;
-      runs = λ a d k. to-whole a d k ∙ j .goes (got (whole a (v .u ++ w .u))) d k;
-      meant = record {
-        counted = simp length-append (omega (arith, v .placed, w .meant .counted));
-        filled = both-filled;
-        room = simp length-append (omega (arith, v .room, w .meant .room, j .onward .behind));
-        past = omega (arith, v .room, w .meant .past, j .onward .behind);
-      };
-      within = j .onward .within;
-      bare = j .bare;
-      plusless = j .plusless;
-    }
+  -- the bytes so far are no more than the text
+  pub parts-short : {exit : List ℕ} {n : ℕ} {After : ℕ → Type 0} → start ≤ from → Linked scan begin text p out store exit n After → out + n ≤ length text
+  parts-short h l = omega (arith, v .placed, v .room, l .part .meant .counted, l .part .meant .room, l .part .within)
 
-    pub parts-next : (r : ℕ) → JoinSays text q (Join.Next r) → Parts A part text from start entry exit r (out + n)
-    parts-next r j = record {
-      u = v .u ++ w .u;
-      runs = λ a d k. to-whole a d k ∙ j .goes (whole a (v .u ++ w .u)) (kind .wants a (v .u ++ w .u)) (kind .joins a (v .u ++ w .u)) d k ∙ kind .opens text a (v .u ++ w .u) r (j .bare) d k;
-      filled = both-filled;
-      placed = simp length-append (omega (arith, v .placed, w .meant .counted));
-      room = simp length-append (omega (arith, v .room, w .meant .room, j .past));
-      within = j .within;
-    }
+  module _ {exit : List ℕ} {n r : ℕ} where
+    pub parts-last : (m : ℕ) → m + start ≡ out + n → LinkSays scan begin text p out store exit (Link.Last n r)
+        → BytesSays A part whole text from start entry exit (Bytes.Whole m r)
+    parts-last m e l =
+        let w = l .part in
+        let j = l .after in
+        record {
+          u = v .u ++ w .u;
+          runs = λ a d k. to-whole w a d k ∙ j .goes (got (whole a (v .u ++ w .u))) d k;
+          meant = record {
+            counted = simp length-append (omega (arith, v .placed, w .meant .counted));
+            filled = both-filled w;
+            room = simp length-append (omega (arith, v .room, w .meant .room, j .onward .behind));
+            past = omega (arith, v .room, w .meant .past, j .onward .behind);
+          };
+          within = j .onward .within;
+          bare = j .bare;
+          plusless = j .plusless;
+        }
+
+    module _ (l : LinkSays scan begin text p out store exit (Link.Next n r)) where
+      pub parts-next : Parts A part text from start entry exit r (out + n)
+      parts-next =
+          let w = l .part in
+          let j = l .after in
+          let u = v .u ++ w .u in
+          record {
+            u = v .u ++ w .u;
+            runs = λ a d k. to-whole w a d k ∙ j .goes (whole a u) (kind .wants a u) (kind .joins a u) d k ∙ kind .opens text a u r (j .bare) d k;
+            filled = both-filled w;
+            placed = simp length-append (omega (arith, v .placed, w .meant .counted));
+            room = simp length-append (omega (arith, v .room, w .meant .room, j .past));
+            within = j .within;
+          }
+
+      pub parts-further : length text - r < length text - p
+      parts-further = omega (arith, l .part .meant .past, l .after .past, l .after .within)

@@ -10,7 +10,10 @@ use Rattle.meaning.specs.declared.Refusal.{Refusal}
 use Rattle.meaning.specs.declared.Refusal.the-variants.{NotGrammar}
 use Rattle.meaning.specs.Letters.{ch}
 use Rattle.machine.specs.Scan.{Out, takes, stops, breaks, over, Ran, ended, broke, ran}
-use Rattle.machine.specs.Machine.{Use, as-value, as-key, Item, identifier, Got, key, string, Base, wantKey, got, base, item, Frame, Conf, at, step, finish, onGot, onKey, onOut, odd, closeWanted, Bracket, square, curly, Class, classOf, blankC, hashC, slashC, commaC, colonC, plusC, quoteC, dollarC, letterN, letterT, letterF, letterC, otherC, openC, closeC}
+use Rattle.machine.specs.Machine.{Use, as-value, as-key, Item, identifier, Got, key, string, Base, wantKey, got, base, item, Frame}
+use Rattle.machine.specs.Machine.{Conf, at, step, finish, onGot, onKey, onOut, odd, closeWanted, Bracket, square, curly, Class}
+use Rattle.machine.specs.Machine.{classOf, blankC, hashC, slashC, commaC, colonC, plusC, quoteC, dollarC, letterN, letterT}
+use Rattle.machine.specs.Machine.{letterF, letterC, otherC, openC, closeC}
 use Rattle.machine.specs.Machine as Machine
 use Rattle.machine.specs.Names
 use Rattle.machine.specs.Names.{letter, figure, neither}
@@ -60,10 +63,13 @@ module _ (text : List ℕ) (p start : ℕ) (entry : List ℕ) where
 
   module _ (h : p < length text) where
     quoted : classOf (getD text p 0) ≡ quoteC → (d : ℕ) (k : List Frame) → Goes text (at (base wantKey) d k) p (at (item (stringPart as-key [])) d k) p
-    quoted e d k = alike-on (at (base wantKey) d k) (at (item (stringPart as-key [])) d k) text p h (class-quote (getD text p 0) (classOf (getD text p 0)) e p d k)
+    quoted e d k =
+        alike-on (at (base wantKey) d k) (at (item (stringPart as-key [])) d k) text p h
+        (class-quote (getD text p 0) (classOf (getD text p 0)) e p d k)
 
-    pub key-string : classOf (getD text p 0) ≡ quoteC → (exit : List ℕ) (r : Bytes) → BytesSays Use stringPart string text p start entry exit r → KeySays text p start entry exit r
-    key-string e exit (Bytes.Whole q n) w = record {
+    pub key-string : classOf (getD text p 0) ≡ quoteC → (exit : List ℕ) (r : Bytes)
+        → BytesSays Use stringPart string text p start entry exit r → KeySays text p start entry exit r
+    key-string e exit (Bytes.Whole n q) w = record {
       u = w .u;
       runs = λ d k. quoted e d k ∙ w .runs as-key d k ∙ string-key text q (w .bare) (w .plusless) (w .u) d k;
       meant = w .meant;
@@ -133,7 +139,8 @@ module _ (p d : ℕ) (k : List Frame) where
   named-class b (closeC curly) x y = absurd (omega (arith, x .1))
 
   -- what is no letter and no quote begins no key
-  unkeyed-class : (b : ℕ) (c : Class) → Unlettered b → ClassIs b c → (c ≡ blankC → ⊥) → (c ≡ hashC → ⊥) → (c ≡ slashC → ⊥) → (c ≡ quoteC → ⊥) → ((y : Bracket) → c ≡ closeC y → closeWanted p d y k ≡ odd p)
+  unkeyed-class : (b : ℕ) (c : Class) → Unlettered b → ClassIs b c → (c ≡ blankC → ⊥) → (c ≡ hashC → ⊥) → (c ≡ slashC → ⊥)
+      → (c ≡ quoteC → ⊥) → ((y : Bracket) → c ≡ closeC y → closeWanted p d y k ≡ odd p)
       → onKey p d k b c ≡ odd p
   unkeyed-class b blankC x y i j l q s = absurd (i refl)
   unkeyed-class b hashC x y i j l q s = absurd (j refl)
@@ -161,13 +168,15 @@ module _ (text : List ℕ) (p start : ℕ) (entry : List ℕ) (h : p < length te
   pub key-none : Bare text p → (getD text p 0 ≡ ch "\"" → ⊥) → (getD text p 0 ≡ ch "'" → ⊥) → (Names.classOf (getD text p 0) ≡ letter → ⊥)
       → (d : ℕ) (k : List Frame) → Shut text p d k → Refuses text (at (base wantKey) d k) p (NotGrammar p)
   key-none b i j n d k s = stop (at (base wantKey) d k) text p (NotGrammar p) h
-      (unkeyed-class p d k (getD text p 0) (classOf (getD text p 0)) (unlettered (getD text p 0) (Names.classOf (getD text p 0)) (sort-is (getD text p 0)) n) (class-is (getD text p 0))
+      (unkeyed-class p d k (getD text p 0) (classOf (getD text p 0))
+      (unlettered (getD text p 0) (Names.classOf (getD text p 0)) (sort-is (getD text p 0)) n) (class-is (getD text p 0))
       (b .no-blank h) (b .no-hash h) (b .no-slash h) (not-quote (getD text p 0) i j) (s h))
 
   module _ (e : Names.classOf (getD text p 0) ≡ letter) (q : ℕ) (w : NameEnds text (p + 1) q) where
     begins : (d : ℕ) (k : List Frame) → Goes text (at (base wantKey) d k) p (at (item (identifier Names.begin)) d k) p
     begins d k = alike-on (at (base wantKey) d k) (at (item (identifier Names.begin)) d k) text p h
-        (named-class p d k (getD text p 0) (classOf (getD text p 0)) (letter-is (getD text p 0) (Names.classOf (getD text p 0)) (sort-is (getD text p 0)) e) (class-is (getD text p 0)))
+        (named-class p d k (getD text p 0) (classOf (getD text p 0))
+        (letter-is (getD text p 0) (Names.classOf (getD text p 0)) (sort-is (getD text p 0)) e) (class-is (getD text p 0)))
 
     abbrev spelt : List ℕ
     spelt = (getD text p 0 ∷ []) ++ take (q - (p + 1)) (drop (p + 1) text)
@@ -193,7 +202,7 @@ module _ (text : List ℕ) (p start : ℕ) (entry : List ℕ) (h : p < length te
         let m : suc p ≡ p + 1 = omega arith in
         rw (n, drop-cons text p 0, m)
 
-    pub key-named : (exit : List ℕ) → exit ≡ sets entry start (take (q - p) (drop p text)) → KeySays text p start entry exit (Bytes.Whole q (q - p))
+    pub key-named : (exit : List ℕ) → exit ≡ sets entry start (take (q - p) (drop p text)) → KeySays text p start entry exit (Bytes.Whole (q - p) q)
     unfolding Names.scan
     key-named exit f =
         let l : length (take (q - p) (drop p text)) ≡ q - p = simp (length-take, length-drop) (omega (arith, w .onward .behind, w .onward .within)) in
@@ -201,7 +210,13 @@ module _ (text : List ℕ) (p start : ℕ) (entry : List ℕ) (h : p < length te
         record {
           u = spelt;
           runs = λ d k. begins d k ∙ lift-done Names.scan identifier key (λ p s b. refl) d k text p Names.begin spelt q whole-run;
-          meant = record { counted = sym l'; filled = f ∙ ap (sets entry start) spelt-is; room = omega (arith, l', w .onward .behind); past = omega (arith, w .onward .behind) };
+          meant = record {
+            counted = sym l';
+            filled = f ∙ ap (sets entry start) spelt-is;
+            room = omega
+                (arith, l', w .onward .behind);
+            past = omega (arith, w .onward .behind);
+          };
           within = w .onward .within;
         }
 

@@ -4,14 +4,17 @@ use mathlib.Core.Bool.{Bool, true, false, cond}
 use mathlib.Core.List.{List, [], _∷_}
 use Prim.Native.Nat.{ℕ, suc, _+_, _≤_, _<_}
 use native.Mathlib.Omega.{arith}
+use lib.Dec.{eqb}
 use lib.ListN.{length, getD}
+use borrow.Author.Tests.{ne-eqb}
 use Rattle.meaning.specs.declared.Refusal.the-variants.{NotGrammar}
 use Rattle.meaning.specs.Letters.{ch}
 use Rattle.machine.specs.Machine
-use Rattle.machine.specs.Machine.{Base, want, wantKey, wantString, wantBinary, got, Mode, base, slash, line, block, star, Frame, Conf, at, step, finish, Class, classOf, blankC, hashC, slashC, Note, noteOf, lineEnd, starN, slashN, plainN, controlN}
+use Rattle.machine.specs.Machine.{Base, want, wantKey, wantString, wantBinary, got, Mode, base, slash, line, block, star, Frame, Conf, at, step, finish}
+use Rattle.machine.specs.Machine.{Class, classOf, blankC, hashC, slashC, Note, noteOf, lineEnd, starN, slashN, plainN, controlN}
 use Rattle.items.specs.Between.Places.{Onward}
 use Rattle.reader.specs.Between.Scanning.{Goes, Refuses, Bare}
-use Rattle.reader.specs.Between.Layout.{Passes, Commented, Breaks, BlankSays, Blanks, LayoutEnds, CommentSays, MaybeSays}
+use Rattle.reader.specs.Between.Layout.{Passes, Commented, Tells, Breaks, Blanks, LayoutEnds, CommentSays, MaybeSays}
 use Rattle.reader.specs.declared.layout.Comment.{Comment}
 use Rattle.reader.proofs.ScanningClassLaws.{NoteIs, note-is}
 use Rattle.reader.proofs.ScanningLaws.{go, stop, halt, alike, alike-end}
@@ -41,11 +44,14 @@ on-slash (wantBinary u) p d k b e = rw e
 on-slash (got g) p d k b e = rw e
 
 -- what is told of one byte
-pub is-blank : (b : ℕ) → classOf b ≡ blankC → BlankSays b true
-is-blank b h = record { blank = λ e. h; other = λ e. let z : _≡_ {A = ℕ} 0 1 = cc in absurd (omega arith) }
+pub tells-yes : {P : Type 0} → P → Tells P true
+tells-yes h = record { yes = λ e. h; no = λ e. let z : _≡_ {A = ℕ} 0 1 = cc in absurd (omega arith) }
 
-pub no-blank : (b : ℕ) → (classOf b ≡ blankC → ⊥) → BlankSays b false
-no-blank b h = record { blank = λ e. let z : _≡_ {A = ℕ} 0 1 = cc in absurd (omega arith); other = λ e. h }
+pub tells-no : {P : Type 0} → (P → ⊥) → Tells P false
+tells-no h = record { yes = λ e. let z : _≡_ {A = ℕ} 0 1 = cc in absurd (omega arith); no = λ e. h }
+
+pub tells-both : {P : Type 0} (f : Bool) → P → Tells ((f ≡ true) × P) f
+tells-both f h = record { yes = λ e. (e, h); no = λ e x. let i = x .0 in let z : _≡_ {A = ℕ} 0 1 = cc in omega arith }
 
 -- on the way
 pub record Passing (text : List ℕ) (p q : ℕ) : Type 0 where
@@ -100,7 +106,8 @@ module _ {text : List ℕ} where
       onward = v .onward;
     }
 
-    pub note-breaks : q < length text → ((s : Base) (d : ℕ) (k : List Frame) → step q (at (n s) d k) (getD text q 0) ≡ Conf.fail (NotGrammar q)) → Breaks text m p q
+    pub note-breaks : q < length text
+        → ((s : Base) (d : ℕ) (k : List Frame) → step q (at (n s) d k) (getD text q 0) ≡ Conf.fail (NotGrammar q)) → Breaks text m p q
     note-breaks h e s d k = v .goes s d k ∙ stop (at (n s) d k) text q (NotGrammar q) h (e s d k)
 
     pub note-unended : length text ≤ q → ((s : Base) (d : ℕ) (k : List Frame) → finish q (at (n s) d k) ≡ Machine.No (NotGrammar q)) → Breaks text m p q
@@ -167,28 +174,51 @@ module _ {text : List ℕ} {p q : ℕ} where
     stopped = b .stopped;
   }
 
+-- ---- in a line comment
+
+line-note : (n : Note) → (n ≡ lineEnd → ⊥) → (n ≡ controlN → ⊥) → (p d : ℕ) (k : List Frame) (s : Base) → Machine.onLine p d k s n ≡ at (line s) d k
+line-note lineEnd i j p d k s = absurd (i refl)
+line-note starN i j p d k s = refl
+line-note slashN i j p d k s = refl
+line-note plainN i j p d k s = refl
+line-note controlN i j p d k s = absurd (j refl)
+
+pub line-leads : (text : List ℕ) (q : ℕ) → (noteOf (getD text q 0) ≡ lineEnd → ⊥) → (noteOf (getD text q 0) ≡ controlN → ⊥) → Leads text line line q
+line-leads text q i j s d k = line-note (noteOf (getD text q 0)) i j q d k s
+
 -- ---- in a block comment
 
+-- what a byte does after a star or not
+abbrev onBlocked : Bool → ℕ → ℕ → List Frame → Base → Note → Conf
+onBlocked true = Machine.onStar
+onBlocked false = Machine.onBlock
+
+module _ (b p d : ℕ) (k : List Frame) (s : Base) where
+  block-note : (f : Bool) (n : Note) → NoteIs b n → ((f ≡ true) × (n ≡ slashN) → ⊥) → (n ≡ controlN → ⊥)
+      → onBlocked f p d k s n ≡ at (blocked (eqb b (ch "*")) s) d k
+  block-note true lineEnd x i j = rw (ne-eqb b (ch "*") (omega arith))
+  block-note true starN x i j = rw x
+  block-note true slashN x i j = absurd (i (refl, refl))
+  block-note true plainN x i j = rw (ne-eqb b (ch "*") (x .1))
+  block-note true controlN x i j = absurd (j refl)
+  block-note false lineEnd x i j = rw (ne-eqb b (ch "*") (omega arith))
+  block-note false starN x i j = rw x
+  block-note false slashN x i j = rw (ne-eqb b (ch "*") (omega arith))
+  block-note false plainN x i j = rw (ne-eqb b (ch "*") (x .1))
+  block-note false controlN x i j = absurd (j refl)
+
+-- a block comment goes on, after a star if the byte is one
+pub block-leads : (text : List ℕ) (q : ℕ) (f : Bool) → ((f ≡ true) × (noteOf (getD text q 0) ≡ slashN) → ⊥) → (noteOf (getD text q 0) ≡ controlN → ⊥)
+    → Leads text (blocked f) (blocked (eqb (getD text q 0) (ch "*"))) q
+block-leads text q true i j s d k = block-note (getD text q 0) q d k s true (noteOf (getD text q 0)) (note-is (getD text q 0)) i j
+block-leads text q false i j s d k = block-note (getD text q 0) q d k s false (noteOf (getD text q 0)) (note-is (getD text q 0)) i j
+
 module _ (text : List ℕ) (q : ℕ) where
-  pub star-leads : (f : Bool) → noteOf (getD text q 0) ≡ starN → Leads text (blocked f) (blocked true) q
-  star-leads true e s d k = rw e
-  star-leads false e s d k = rw e
-
-  pub plain-leads : (f : Bool) → noteOf (getD text q 0) ≡ plainN → Leads text (blocked f) (blocked false) q
-  plain-leads true e s d k = rw e
-  plain-leads false e s d k = rw e
-
-  pub line-leads : (f : Bool) → noteOf (getD text q 0) ≡ lineEnd → Leads text (blocked f) (blocked false) q
-  line-leads true e s d k = rw e
-  line-leads false e s d k = rw e
-
-  pub slash-leads : (f : Bool) → f ≡ false → noteOf (getD text q 0) ≡ slashN → Leads text (blocked f) (blocked false) q
-  slash-leads f h e s d k = rw (h, e)
-
   pub slash-closes : (f : Bool) → f ≡ true → noteOf (getD text q 0) ≡ slashN → Leads text (blocked f) base q
   slash-closes f h e s d k = rw (h, e)
 
-  pub control-breaks : (f : Bool) → noteOf (getD text q 0) ≡ controlN → (s : Base) (d : ℕ) (k : List Frame) → step q (at (blocked f s) d k) (getD text q 0) ≡ Conf.fail (NotGrammar q)
+  pub control-breaks : (f : Bool) → noteOf (getD text q 0) ≡ controlN
+      → (s : Base) (d : ℕ) (k : List Frame) → step q (at (blocked f s) d k) (getD text q 0) ≡ Conf.fail (NotGrammar q)
   control-breaks true e s d k = rw e
   control-breaks false e s d k = rw e
 
@@ -205,7 +235,8 @@ module _ {text : List ℕ} {p : ℕ} (h : p < length text) where
   pub slash-block : getD text p 0 ≡ ch "*" → Noting text slash block p (p + 1)
   slash-block e = note-more (noting slash p (omega arith)) block h (λ s d k. rw e)
 
-slash-note : (b : ℕ) (n : Note) → NoteIs b n → (b ≡ ch "/" → ⊥) → (b ≡ ch "*" → ⊥) → (p : ℕ) (s : Base) (d : ℕ) (k : List Frame) → Machine.onSlash p d k s n ≡ Conf.fail (NotGrammar p)
+slash-note : (b : ℕ) (n : Note) → NoteIs b n → (b ≡ ch "/" → ⊥) → (b ≡ ch "*" → ⊥) → (p : ℕ) (s : Base) (d : ℕ) (k : List Frame)
+    → Machine.onSlash p d k s n ≡ Conf.fail (NotGrammar p)
 slash-note b lineEnd x i j p s d k = refl
 slash-note b starN x i j p s d k = absurd (j x)
 slash-note b slashN x i j p s d k = absurd (i x)

@@ -18,5 +18,7 @@ pub mod CursorLoopLaws
 pub mod Claims
 -- CursorBracketLaws: brackets, commas and colons
 pub mod CursorBracketLaws
--- AnswersLaws: one walk over a text, and what `measure` and `read` make of it
+-- WalkLaws: one walk over a text
+pub mod WalkLaws
+-- AnswersLaws: what `measure` and `read` make of a walk
 pub mod AnswersLaws

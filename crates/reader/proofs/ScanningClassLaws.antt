@@ -1,9 +1,12 @@
 -- What a byte's class says of it. Assumes nothing.
-use mathlib.Core.Path.{_≡_, refl}
+use mathlib.Core.Path.{_≡_, refl, subst}
 use Prim.Native.Nat.{ℕ, _≤_, _<_}
 use native.Mathlib.Omega.{arith}
 use Rattle.meaning.specs.Letters.{ch}
-use Rattle.machine.specs.Machine.{Bracket, square, curly, Class, blankC, hashC, slashC, commaC, colonC, plusC, quoteC, dollarC, letterN, letterT, letterF, letterC, otherC, openC, closeC, classes, classOf, Note, lineEnd, starN, slashN, plainN, controlN, notes, noteOf}
+use Rattle.machine.specs.Machine.{Bracket, square, curly}
+use Rattle.machine.specs.Machine.{Class, blankC, hashC, slashC, commaC, colonC, plusC, quoteC, dollarC, letterN, letterT, letterF}
+use Rattle.machine.specs.Machine.{letterC, otherC, openC, closeC, classes, classOf}
+use Rattle.machine.specs.Machine.{Note, lineEnd, starN, slashN, plainN, controlN, notes, noteOf}
 use Rattle.machine.proofs.Tables.{cut-is}
 
 abbrev pub opening : Bracket → ℕ
@@ -48,15 +51,12 @@ note-is b =
     cut-is NoteIs 0 notes plainN b (omega arith)
     ((λ l u. omega arith), ((λ l u. omega arith), ((λ l u. omega arith), ((λ l u. omega arith), ((λ l u. omega arith), ((λ l u. omega arith), ((λ l u. omega arith), ((λ l u. omega arith), ((λ l u. omega arith), ((λ l u. omega arith), λ l. omega arith))))))))))
 
-note-plain : (b : ℕ) (n : Note) → NoteIs b n → 0x20 ≤ b → (b ≡ ch "*" → ⊥) → (b ≡ ch "/" → ⊥) → n ≡ plainN
-note-plain b lineEnd x h i j = absurd (omega arith)
-note-plain b starN x h i j = absurd (i x)
-note-plain b slashN x h i j = absurd (j x)
-note-plain b plainN x h i j = refl
-note-plain b controlN x h i j = absurd (omega arith)
+module _ (b : ℕ) where
+  pub note-told : (n : Note) → noteOf b ≡ n → NoteIs b n
+  note-told n e = subst (NoteIs b) e (note-is b)
 
-pub plain-note : (b : ℕ) → 0x20 ≤ b → (b ≡ ch "*" → ⊥) → (b ≡ ch "/" → ⊥) → noteOf b ≡ plainN
-plain-note b = note-plain b (noteOf b) (note-is b)
+  pub not-line-end : (b ≡ ch "\n" → ⊥) → (b ≡ ch "\r" → ⊥) → noteOf b ≡ lineEnd → ⊥
+  not-line-end i j e = j (note-told lineEnd e .2 i)
 
 note-control : (b : ℕ) (n : Note) → NoteIs b n → b < 0x20 → (b ≡ ch "\t" → ⊥) → (b ≡ ch "\n" → ⊥) → (b ≡ ch "\r" → ⊥) → n ≡ controlN
 note-control b lineEnd x h i j k = absurd (k (x .2 j))

@@ -12,9 +12,11 @@ use Rattle.machine.specs.Machine as Machine
 use Rattle.machine.proofs.Lift.{item-ends, item-breaks}
 use Rattle.reader.specs.Between.Scanning.{Goes, Refuses}
 
-module _ {S M : Type 0} (scan : ℕ → S → ℕ → Out S M) (f : S → Item) (g : M → Got) (lifts : (p : ℕ) (s : S) (b : ℕ) → Machine.scan p (f s) b ≡ lift f g (scan p s b)) (d : ℕ) (k : List Frame) where
+module _ {S M : Type 0} (scan : ℕ → S → ℕ → Out S M) (f : S → Item) (g : M → Got)
+    (lifts : (p : ℕ) (s : S) (b : ℕ) → Machine.scan p (f s) b ≡ lift f g (scan p s b)) (d : ℕ) (k : List Frame) where
   -- an item from p to q
-  pub lift-done : (text : List ℕ) (p : ℕ) (s : S) (m : M) (q : ℕ) → ran scan p s (drop p text) ≡ ended m q → Goes text (at (item (f s)) d k) p (at (base (got (g m))) d k) q
+  pub lift-done : (text : List ℕ) (p : ℕ) (s : S) (m : M) (q : ℕ) → ran scan p s (drop p text) ≡ ended m q
+      → Goes text (at (item (f s)) d k) p (at (base (got (g m))) d k) q
   lift-done text p s m q h =
       let v = item-ends scan f g lifts d k (drop p text) p s m q h in
       let n : p + (q - p) ≡ q = omega (arith, v .behind) in

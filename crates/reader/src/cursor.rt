@@ -5,7 +5,9 @@ ghost use lib.ListN.{length, getD};
 ghost use Rattle.meaning.specs.Letters.{ch};
 ghost use Rattle.machine.specs.Machine.{square, curly};
 ghost use Rattle.reader.specs.Between.Scanning.{Bare, Shut};
-ghost use Rattle.reader.specs.Between.Cursor.{Ready, AtMember, AtValue, Inner, HeadSays, AheadSays, AfterSays, ColonSays, MemberSays, Says, wants, bareIn, always, recordItem, itemBytes, SpeltSays, Quoted, AtScalar, ScalarSays};
+ghost use Rattle.reader.specs.Between.Cursor.{recordItem, itemBytes, SpeltSays, Quoted, AtScalar, ScalarSays};
+ghost use Rattle.reader.specs.Between.Cursor.{Ready, AtMember, AtValue, Inner, HeadSays, AheadSays, AfterSays};
+ghost use Rattle.reader.specs.Between.Cursor.{ColonSays, MemberSays, Says, wants, bareIn, always};
 use crate::joined;
 use crate::joined::Bytes;
 use crate::key;
@@ -27,8 +29,8 @@ pub struct Cursor {
     pub stored: usize,
 }
 
-// A value has been read, or a refusal is given where the reader stood. The refusal comes after a cursor, not in its place: laid over
-// the cursor's words, its mark would have them stored in pieces.
+// A value has been read, or a refusal is given where the reader stood. The refusal comes after a cursor, not in its
+// place: laid over the cursor's words, its mark would have them stored in pieces.
 pub enum Step {
     Value(Cursor),
     Refused(Cursor, Refusal),
@@ -100,7 +102,7 @@ fn string(text: &[u8], at: usize, store: &mut [u8], start: usize) -> Scanned
 {
     match joined::string(text, at, store, start) {
         Bytes::Refused(why) => Scanned::Refused(why),
-        Bytes::Whole { end, bytes: n } => Scanned::Item(Item::Str(n), end),
+        Bytes::Whole { bytes: n, end } => Scanned::Item(Item::Str(n), end),
     }
 }
 
@@ -111,7 +113,7 @@ fn binary(text: &[u8], at: usize, store: &mut [u8], start: usize) -> Scanned
 {
     match joined::binary(text, at, store, start) {
         Bytes::Refused(why) => Scanned::Refused(why),
-        Bytes::Whole { end, bytes: n } => Scanned::Item(Item::Bin(n), end),
+        Bytes::Whole { bytes: n, end } => Scanned::Item(Item::Bin(n), end),
     }
 }
 
@@ -288,7 +290,7 @@ impl Cursor {
     {
         match key::key(text, self.at, store, self.stored) {
             Bytes::Refused(why) => Member::Refused(why),
-            Bytes::Whole { end, bytes: n } => (Cursor {
+            Bytes::Whole { bytes: n, end } => (Cursor {
                 at: end,
                 records: self.records + 1,
                 stored: self.stored + n,
@@ -299,7 +301,8 @@ impl Cursor {
     // A value, where no layout stands; `depth` more arrays and objects may open.
     pub fn value(self, text: &[u8], depth: usize, tape: &mut [u8], store: &mut [u8]) -> Step
         requires { ⌜ AtValue (now text) self ⌝ }
-        ensures { λ r. ⌜ Says (now (text .entry)) (wants depth) (λ k. Shut (now (text .entry)) (self .at) depth k) depth self (now (tape .entry)) (now (tape .exit)) (now (store .entry)) (now (store .exit)) r ⌝ }
+        ensures { λ r. ⌜ Says (now (text .entry)) (wants depth) (λ k. Shut (now (text .entry)) (self .at) depth k)
+            depth self (now (tape .entry)) (now (tape .exit)) (now (store .entry)) (now (store .exit)) r ⌝ }
     {
         match self.head(text, store) {
             Head::Refused(why) => Step::Refused(self, why),
@@ -325,7 +328,8 @@ impl Cursor {
     // An array, after its opening bracket.
     fn array(self, text: &[u8], depth: usize, tape: &mut [u8], store: &mut [u8]) -> Step
         requires { ⌜ Inner (now text) self ⌝ }
-        ensures { λ r. ⌜ Says (now (text .entry)) (bareIn square depth) always (suc depth) self (now (tape .entry)) (now (tape .exit)) (now (store .entry)) (now (store .exit)) r ⌝ }
+        ensures { λ r. ⌜ Says (now (text .entry)) (bareIn square depth) always (suc depth) self
+            (now (tape .entry)) (now (tape .exit)) (now (store .entry)) (now (store .exit)) r ⌝ }
     {
         let own = self.records;
         let mut at = self.at;
@@ -377,7 +381,8 @@ impl Cursor {
     // An object, after its opening bracket.
     fn object(self, text: &[u8], depth: usize, tape: &mut [u8], store: &mut [u8]) -> Step
         requires { ⌜ Inner (now text) self ⌝ }
-        ensures { λ r. ⌜ Says (now (text .entry)) (bareIn curly depth) always (suc depth) self (now (tape .entry)) (now (tape .exit)) (now (store .entry)) (now (store .exit)) r ⌝ }
+        ensures { λ r. ⌜ Says (now (text .entry)) (bareIn curly depth) always (suc depth) self
+            (now (tape .entry)) (now (tape .exit)) (now (store .entry)) (now (store .exit)) r ⌝ }
     {
         let own = self.records;
         let mut at = self.at;

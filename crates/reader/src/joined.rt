@@ -1,11 +1,13 @@
 // Parts joined by a plus, with layout allowed on both sides.
+ghost use mathlib.Core.Path.{_≡_};
 ghost use Prim.Native.Nat.{_≤_};
 ghost use lib.ListN.{length};
 ghost use Rattle.machine.specs.Machine.{Use};
 ghost use Rattle.machine.specs.Machine as Machine;
 ghost use Rattle.machine.specs.Strings;
 ghost use Rattle.machine.specs.Binaries;
-ghost use Rattle.reader.specs.Between.Joined.{JoinSays, PlacedSays, BytesSays, stringPart, binaryPart, wholeBinary};
+ghost use Rattle.reader.specs.Between.Joined.{JoinSays, linkOf, LinkSays, BytesSays};
+ghost use Rattle.reader.specs.Between.Joined.{stringPart, binaryPart, wholeBinary};
 use crate::layout;
 use crate::layout::Layout;
 use items::binary_part;
@@ -21,9 +23,16 @@ pub enum Join {
     NotGrammar(usize),
 }
 
-// Joined bytes, or a key's: the place after them and the layout that follows, and how many; or a refusal.
+// A part of so many bytes and what follows it: the next one's place; none, and where the layout ends; or a refusal.
+pub enum Link {
+    Next { bytes: usize, at: usize },
+    Last { bytes: usize, end: usize },
+    Refused(Refusal),
+}
+
+// Joined bytes, or a key's: how many, and the place after them and the layout that follows; or a refusal.
 pub enum Bytes {
-    Whole { end: usize, bytes: usize },
+    Whole { bytes: usize, end: usize },
     Refused(Refusal),
 }
 
@@ -49,65 +58,71 @@ pub fn after_part(text: &[u8], from: usize) -> Join
     }
 }
 
-// The string part at a place of the text.
-fn string_part(text: &[u8], at: usize, store: &mut [u8], start: usize) -> Bytes
-    requires { ⌜ (at ≤ length (now text)) × (start ≤ at) ⌝ }
-    ensures { λ r. ⌜ PlacedSays Strings.scan Strings.begin (now (text .entry)) at start (now (store .entry)) (now (store .exit)) r ⌝ }
+// A part of so many bytes, by what follows it.
+fn link_of(bytes: usize, follows: Join) -> Link
+    ensures { λ r. ⌜ r ≡ linkOf bytes follows ⌝ }
 {
-    match string_part::read_part(&text[at..], store, start) {
-        Part::NotGrammar(p) => Bytes::Refused(Refusal::NotGrammar(at + p)),
-        Part::BadEscape(p) => Bytes::Refused(Refusal::BadEscape(at + p)),
-        Part::Closed { taken, bytes } => Bytes::Whole {
-            end: at + taken,
+    match follows {
+        Join::NotGrammar(p) => Link::Refused(Refusal::NotGrammar(p)),
+        Join::Last(end) => Link::Last {
             bytes: bytes,
+            end: end,
+        },
+        Join::Next(at) => Link::Next {
+            bytes: bytes,
+            at: at,
         },
     }
 }
 
-// The binary part at a place of the text.
-fn binary_part(text: &[u8], at: usize, store: &mut [u8], start: usize) -> Bytes
+// The string part at a place of the text, and what follows it.
+fn string_part(text: &[u8], at: usize, store: &mut [u8], start: usize) -> Link
     requires { ⌜ (at ≤ length (now text)) × (start ≤ at) ⌝ }
-    ensures { λ r. ⌜ PlacedSays Binaries.scan Binaries.begin (now (text .entry)) at start (now (store .entry)) (now (store .exit)) r ⌝ }
+    ensures { λ r. ⌜ LinkSays Strings.scan Strings.begin (now (text .entry))
+        at start (now (store .entry)) (now (store .exit)) r ⌝ }
+{
+    match string_part::read_part(&text[at..], store, start) {
+        Part::NotGrammar(p) => Link::Refused(Refusal::NotGrammar(at + p)),
+        Part::BadEscape(p) => Link::Refused(Refusal::BadEscape(at + p)),
+        Part::Closed { taken, bytes } => link_of(bytes, after_part(text, at + taken)),
+    }
+}
+
+// The binary part at a place of the text, and what follows it.
+fn binary_part(text: &[u8], at: usize, store: &mut [u8], start: usize) -> Link
+    requires { ⌜ (at ≤ length (now text)) × (start ≤ at) ⌝ }
+    ensures { λ r. ⌜ LinkSays Binaries.scan Binaries.begin (now (text .entry))
+        at start (now (store .entry)) (now (store .exit)) r ⌝ }
 {
     match binary_part::read_part(text, at, store, start) {
-        Piece::NotGrammar(p) => Bytes::Refused(Refusal::NotGrammar(p)),
-        Piece::Closed { end: after, bytes } => Bytes::Whole {
-            end: after,
-            bytes: bytes,
-        },
+        Piece::NotGrammar(p) => Link::Refused(Refusal::NotGrammar(p)),
+        Piece::Closed { end, bytes } => link_of(bytes, after_part(text, end)),
     }
 }
 
 // A string, from its first part on.
 pub fn string(text: &[u8], from: usize, store: &mut [u8], start: usize) -> Bytes
     requires { ⌜ (from ≤ length (now text)) × (start ≤ from) ⌝ }
-    ensures { λ r. ⌜ BytesSays Use stringPart Machine.string (now (text .entry)) from start (now (store .entry)) (now (store .exit)) r ⌝ }
+    ensures { λ r. ⌜ BytesSays Use stringPart Machine.string (now (text .entry))
+        from start (now (store .entry)) (now (store .exit)) r ⌝ }
 {
     let mut at = from;
     let mut out = start;
     loop {
         match string_part(text, at, store, out) {
-            Bytes::Refused(why) => {
+            Link::Refused(why) => {
                 return Bytes::Refused(why);
             }
-            Bytes::Whole {
-                end: after,
-                bytes: n,
-            } => match after_part(text, after) {
-                Join::NotGrammar(p) => {
-                    return Bytes::Refused(Refusal::NotGrammar(p));
-                }
-                Join::Last(end) => {
-                    return Bytes::Whole {
-                        end: end,
-                        bytes: out + n - start,
-                    };
-                }
-                Join::Next(next) => {
-                    at = next;
-                    out = out + n;
-                }
-            },
+            Link::Last { bytes, end } => {
+                return Bytes::Whole {
+                    bytes: out + bytes - start,
+                    end: end,
+                };
+            }
+            Link::Next { bytes, at: next } => {
+                at = next;
+                out = out + bytes;
+            }
         }
     }
 }
@@ -115,33 +130,26 @@ pub fn string(text: &[u8], from: usize, store: &mut [u8], start: usize) -> Bytes
 // Binary, from its first part on.
 pub fn binary(text: &[u8], from: usize, store: &mut [u8], start: usize) -> Bytes
     requires { ⌜ (from ≤ length (now text)) × (start ≤ from) ⌝ }
-    ensures { λ r. ⌜ BytesSays Unit binaryPart wholeBinary (now (text .entry)) from start (now (store .entry)) (now (store .exit)) r ⌝ }
+    ensures { λ r. ⌜ BytesSays Unit binaryPart wholeBinary (now (text .entry))
+        from start (now (store .entry)) (now (store .exit)) r ⌝ }
 {
     let mut at = from;
     let mut out = start;
     loop {
         match binary_part(text, at, store, out) {
-            Bytes::Refused(why) => {
+            Link::Refused(why) => {
                 return Bytes::Refused(why);
             }
-            Bytes::Whole {
-                end: after,
-                bytes: n,
-            } => match after_part(text, after) {
-                Join::NotGrammar(p) => {
-                    return Bytes::Refused(Refusal::NotGrammar(p));
-                }
-                Join::Last(end) => {
-                    return Bytes::Whole {
-                        end: end,
-                        bytes: out + n - start,
-                    };
-                }
-                Join::Next(next) => {
-                    at = next;
-                    out = out + n;
-                }
-            },
+            Link::Last { bytes, end } => {
+                return Bytes::Whole {
+                    bytes: out + bytes - start,
+                    end: end,
+                };
+            }
+            Link::Next { bytes, at: next } => {
+                at = next;
+                out = out + bytes;
+            }
         }
     }
 }

@@ -32,8 +32,8 @@ pub fn key(text: &[u8], at: usize, store: &mut [u8], start: usize) -> Bytes
             let end = identifier::name_end(text, at + 1);
             store::copy(text, at, end, store, start);
             Bytes::Whole {
-                end: end,
                 bytes: end - at,
+                end: end,
             }
         }
     }

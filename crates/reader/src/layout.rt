@@ -1,10 +1,14 @@
 // Layout: space, tab, LF, CR and comments.
 ghost use mathlib.Core.Path.{_≡_};
+ghost use mathlib.Core.Bool.{true};
 ghost use Prim.Native.Nat.{_≤_, _<_};
+ghost use lib.Dec.{eqb};
 ghost use lib.ListN.{length};
-ghost use Rattle.machine.specs.Machine.{noteOf, line, block, slash};
-ghost use Rattle.reader.specs.Between.Layout.{noteIs, CommentSays, MaybeSays, BlankSays, Blanks, LayoutSays};
+ghost use Rattle.meaning.specs.Letters.{ch};
+ghost use Rattle.machine.specs.Machine.{classOf, blankC, noteOf, lineEnd, slashN, controlN, line, block, slash};
+ghost use Rattle.reader.specs.Between.Layout.{Tells, CommentSays, MaybeSays, Blanks, LayoutSays};
 
+// Where the layout from a place on ends, or the byte that breaks it.
 pub enum Layout {
     Ended(usize),
     NotGrammar(usize),
@@ -17,38 +21,46 @@ pub enum Comment {
     NotGrammar(usize),
 }
 
-// A byte, as comments tell it apart.
-pub enum Note {
-    LineEnd,
-    Star,
-    Slash,
-    Control,
-    Plain,
-}
-
-// What a byte is in a comment; of the bytes below U+0020 only a tab is plain.
-fn note_of(b: u8) -> Note
-    ensures { λ r. ⌜ noteOf b ≡ noteIs r ⌝ }
+// Whether a byte ends a line comment.
+fn is_line_end(b: u8) -> bool
+    ensures { λ r. ⌜ Tells (noteOf b ≡ lineEnd) r ⌝ }
 {
-    if b == b'*' {
-        return Note::Star;
-    }
-    if b == b'/' {
-        return Note::Slash;
-    }
-    if b >= 0x20 {
-        return Note::Plain;
-    }
     if b == b'\n' {
-        return Note::LineEnd;
+        return true;
     }
     if b == b'\r' {
-        return Note::LineEnd;
+        return true;
+    }
+    false
+}
+
+// Whether no comment may hold a byte: those below U+0020 but tab, LF and CR.
+fn is_control(b: u8) -> bool
+    ensures { λ r. ⌜ Tells (noteOf b ≡ controlN) r ⌝ }
+{
+    if b >= 0x20 {
+        return false;
+    }
+    if b == b'\n' {
+        return false;
+    }
+    if b == b'\r' {
+        return false;
     }
     if b == b'\t' {
-        return Note::Plain;
+        return false;
     }
-    Note::Control
+    true
+}
+
+// Whether a byte closes a block comment: a slash, after a star.
+fn closes(last: u8, b: u8) -> bool
+    ensures { λ r. ⌜ Tells ((eqb last (ch "*") ≡ true) × (noteOf b ≡ slashN)) r ⌝ }
+{
+    if b == b'/' {
+        return last == b'*';
+    }
+    false
 }
 
 // A line comment, after its opening: to the next LF or CR, or the text's end.
@@ -58,59 +70,35 @@ fn line(text: &[u8], from: usize) -> Comment
 {
     let mut at = from;
     while at < text.len() {
-        match note_of(text[at]) {
-            Note::LineEnd => {
-                return Comment::Ended(at + 1);
-            }
-            Note::Control => {
-                return Comment::NotGrammar(at);
-            }
-            Note::Star => {
-                at = at + 1;
-            }
-            Note::Slash => {
-                at = at + 1;
-            }
-            Note::Plain => {
-                at = at + 1;
-            }
+        let b = text[at];
+        if is_line_end(b) {
+            return Comment::Ended(at + 1);
         }
+        if is_control(b) {
+            return Comment::NotGrammar(at);
+        }
+        at = at + 1;
     }
     Comment::Ended(at)
 }
 
-// A block comment, after its opening: to the first star and slash.
+// A block comment, after its opening (whose star closes nothing): to the first star and slash.
 fn block(text: &[u8], from: usize) -> Comment
     requires { ⌜ from ≤ length (now text) ⌝ }
     ensures { λ r. ⌜ CommentSays (now (text .entry)) block from r ⌝ }
 {
     let mut at = from;
-    let mut star = false;
+    let mut last = b' ';
     while at < text.len() {
-        match note_of(text[at]) {
-            Note::Slash => {
-                if star {
-                    return Comment::Ended(at + 1);
-                }
-                star = false;
-                at = at + 1;
-            }
-            Note::Control => {
-                return Comment::NotGrammar(at);
-            }
-            Note::Star => {
-                star = true;
-                at = at + 1;
-            }
-            Note::LineEnd => {
-                star = false;
-                at = at + 1;
-            }
-            Note::Plain => {
-                star = false;
-                at = at + 1;
-            }
+        let b = text[at];
+        if closes(last, b) {
+            return Comment::Ended(at + 1);
         }
+        if is_control(b) {
+            return Comment::NotGrammar(at);
+        }
+        last = b;
+        at = at + 1;
     }
     Comment::NotGrammar(at)
 }
@@ -150,7 +138,7 @@ fn comment_at(text: &[u8], at: usize) -> Comment
 
 // Whether a byte is a space, tab, LF or CR. Most are above all of them.
 fn is_blank(b: u8) -> bool
-    ensures { λ r. ⌜ BlankSays b r ⌝ }
+    ensures { λ r. ⌜ Tells (classOf b ≡ blankC) r ⌝ }
 {
     if b > b' ' {
         return false;

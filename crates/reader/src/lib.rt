@@ -8,7 +8,7 @@ ghost use Prim.Native.Nat.{_≤_};
 ghost use lib.ListN.{length};
 ghost use Rattle.meaning.specs.Limits.{textLimit};
 ghost use Rattle.reader.specs.Answers.{Measures, Reads};
-ghost use Rattle.reader.specs.Between.Walk.{WalkSays};
+ghost use Rattle.reader.specs.Between.Walk.{EndedSays, WalkSays};
 use cursor::Cursor;
 use cursor::Step;
 use layout::Layout;
@@ -24,10 +24,30 @@ pub enum Answer {
     Refused(Refusal),
 }
 
+// After the value: layout, and the text's end.
+fn ended(text: &[u8], next: Cursor) -> Answer
+    requires { ⌜ next .at ≤ length (now text) ⌝ }
+    ensures { λ a. ⌜ EndedSays (now (text .entry)) next a ⌝ }
+{
+    match layout::pass(text, next.at) {
+        Layout::NotGrammar(p) => Answer::Refused(Refusal::NotGrammar(p)),
+        Layout::Ended(end) => {
+            if end < text.len() {
+                return Answer::Refused(Refusal::NotGrammar(end));
+            }
+            Answer::Counts {
+                records: next.records,
+                bytes: next.stored,
+            }
+        }
+    }
+}
+
 // The text is layout, one value, layout.
 fn walk(text: &[u8], tape: &mut [u8], store: &mut [u8]) -> Answer
     requires { ⌜ length (now text) ≤ textLimit ⌝ }
-    ensures { λ a. ⌜ WalkSays (now (text .entry)) (now (tape .entry)) (now (tape .exit)) (now (store .entry)) (now (store .exit)) a ⌝ }
+    ensures { λ a. ⌜ WalkSays (now (text .entry))
+        (now (tape .entry)) (now (tape .exit)) (now (store .entry)) (now (store .exit)) a ⌝ }
 {
     match layout::pass(text, 0) {
         Layout::NotGrammar(p) => Answer::Refused(Refusal::NotGrammar(p)),
@@ -37,18 +57,7 @@ fn walk(text: &[u8], tape: &mut [u8], store: &mut [u8]) -> Answer
             stored: 0,
         }).value(text, DEPTH_LIMIT, tape, store) {
             Step::Refused(_, why) => Answer::Refused(why),
-            Step::Value(next) => match layout::pass(text, next.at) {
-                Layout::NotGrammar(p) => Answer::Refused(Refusal::NotGrammar(p)),
-                Layout::Ended(end) => {
-                    if end < text.len() {
-                        return Answer::Refused(Refusal::NotGrammar(end));
-                    }
-                    Answer::Counts {
-                        records: next.records,
-                        bytes: next.stored,
-                    }
-                }
-            },
+            Step::Value(next) => ended(text, next),
         },
     }
 }
@@ -72,7 +81,8 @@ pub fn measure(text: &[u8]) -> Answer
 
 // Fills the tape and the store from their start: nothing is written before all the room is known; 8, then 9.
 pub fn read(text: &[u8], tape: &mut [u8], store: &mut [u8]) -> Answer
-    ensures { λ a. ⌜ Reads (now (text .entry)) (now (tape .entry)) (now (store .entry)) a (now (tape .exit)) (now (store .exit)) ⌝ }
+    ensures { λ a. ⌜ Reads (now (text .entry)) (now (tape .entry)) (now (store .entry)) a
+        (now (tape .exit)) (now (store .exit)) ⌝ }
 {
     match measure(text) {
         Answer::Refused(why) => Answer::Refused(why),

@@ -33,10 +33,21 @@ walk-requires : tie.Need-walk-requires
 walk-requires c κs = search needs
 
 returns-2 : tie.Need-returns-2
-returns-2 c = measure-ill (c .before .before .before .before .before .before .args .text .now) (omega (arith, c .before .before .before .before .if1 .left)) (c .before .p .given .0 .0) (subst (λ (r : Utf8Answer). Judged (c .before .before .before .before .before .before .args .text .now) r) (c .before .p .given .1) (c .before .before .before .utf8 .ensures))
+returns-2 c =
+    let a = c .before .before .before .before .before .before .args in
+    let if1 = c .before .before .before .before .if1 in
+    measure-ill (a .text .now) (omega (arith, if1 .left)) (c .before .p .given .0 .0)
+    (subst (λ (r : Utf8Answer). Judged (a .text .now) r) (c .before .p .given .1) (c .before .before .before .utf8 .ensures))
 
 returns-3 : tie.Need-returns-3
-returns-3 c = measure-walked (c .before .before .before .before .before .before .before .before .before .before .args .text .now) (omega (arith, c .before .before .before .before .before .before .before .before .if1 .left)) _ (c .before .before .walk .last .1 .0) _ (c .before .before .walk .last .1 .1 .0) (c .before .before .walk .result) (subst (λ (r : Utf8Answer). Judged (c .before .before .before .before .before .before .before .before .before .before .args .text .now) r) (c .before .before .before .before .before .enum-told .given .1) (c .before .before .before .before .before .before .before .utf8 .ensures)) (c .before .before .walk .ensures)
+returns-3 c =
+    let a = c .before .before .before .before .before .before .before .before .before .before .args in
+    let if1 = c .before .before .before .before .before .before .before .before .if1 in
+    let utf8 = c .before .before .before .before .before .before .before .utf8 in
+    let enum-told = c .before .before .before .before .before .enum-told in
+    let walk = c .before .before .walk in
+    measure-walked (a .text .now) (omega (arith, if1 .left)) _ (walk .last .1 .0) _ (walk .last .1 .1 .0) (walk .result)
+    (subst (λ (r : Utf8Answer). Judged (a .text .now) r) (enum-told .given .1) (utf8 .ensures)) (walk .ensures)
 
 pub measure-spec : {M : Type 1} → statement M
 measure-spec =

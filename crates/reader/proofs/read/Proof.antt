@@ -21,22 +21,65 @@ enum-known-records : tie.Need-enum-known-records
 enum-known-records c = search needs
 
 mul-if1 : tie.Need-mul-if1
-mul-if1 c = omega (arith, read-few (c .before .before .before .before .before .before .before .args .text .now) (c .before .before .before .before .before .before .before .args .tape .now) (c .before .before .before .before .before .before .before .args .store .now) (c .before .records .given .0 .0) (c .before .records .given .0 .1 .0) (subst (λ (a : Answer). Measures (c .before .before .before .before .before .before .before .args .text .now) a) (c .before .records .given .1) (c .before .before .before .measure .ensures)), read-short (c .before .before .before .before .before .before .before .args .text .now) (c .before .before .before .before .before .before .before .args .tape .now) (c .before .before .before .before .before .before .before .args .store .now) (c .before .records .given .0 .0) (c .before .records .given .0 .1 .0) (subst (λ (a : Answer). Measures (c .before .before .before .before .before .before .before .args .text .now) a) (c .before .records .given .1) (c .before .before .before .measure .ensures)))
+mul-if1 c =
+    let a' = c .before .before .before .before .before .before .before .args in
+    let measure = c .before .before .before .measure in
+    let records = c .before .records in
+    omega (
+      arith,
+      read-few (a' .text .now) (a' .tape .now) (a' .store .now) (records .given .0 .0) (records .given .0 .1 .0)
+          (subst (λ (a : Answer). Measures (a' .text .now) a) (records .given .1) (measure .ensures)),
+      read-short (a' .text .now)
+          (a' .tape .now) (a' .store .now) (records .given .0 .0) (records .given .0 .1 .0)
+          (subst (λ (a : Answer). Measures (a' .text .now) a) (records .given .1) (measure .ensures)),
+    )
 
 mul-t12 : tie.Need-mul-t12
-mul-t12 c = omega (arith, read-few (c .before .before .before .before .before .before .before .before .args .text .now) (c .before .before .before .before .before .before .before .before .args .tape .now) (c .before .before .before .before .before .before .before .before .args .store .now) (c .before .before .records .given .0 .0) (c .before .before .records .given .0 .1 .0) (subst (λ (a : Answer). Measures (c .before .before .before .before .before .before .before .before .args .text .now) a) (c .before .before .records .given .1) (c .before .before .before .before .measure .ensures)), read-short (c .before .before .before .before .before .before .before .before .args .text .now) (c .before .before .before .before .before .before .before .before .args .tape .now) (c .before .before .before .before .before .before .before .before .args .store .now) (c .before .before .records .given .0 .0) (c .before .before .records .given .0 .1 .0) (subst (λ (a : Answer). Measures (c .before .before .before .before .before .before .before .before .args .text .now) a) (c .before .before .records .given .1) (c .before .before .before .before .measure .ensures)))
+mul-t12 c =
+    let a' = c .before .before .before .before .before .before .before .before .args in
+    let measure = c .before .before .before .before .measure in
+    let records = c .before .before .records in
+    omega (
+      arith,
+      read-few (a' .text .now) (a' .tape .now) (a' .store .now) (records .given .0 .0) (records .given .0 .1 .0)
+          (subst (λ (a : Answer). Measures (a' .text .now) a) (records .given .1) (measure .ensures)),
+      read-short (a' .text .now)
+          (a' .tape .now) (a' .store .now) (records .given .0 .0) (records .given .0 .1 .0)
+          (subst (λ (a : Answer). Measures (a' .text .now) a) (records .given .1) (measure .ensures)),
+    )
 
 returns : tie.Need-returns
-returns c = read-tape-short (c .before .before .before .before .before .before .before .before .args .text .now) (c .before .before .before .before .before .before .before .before .args .tape .now) (c .before .before .before .before .before .before .before .before .args .store .now) (c .before .before .records .given .0 .0) (c .before .before .records .given .0 .1 .0) (subst (λ (a : Answer). Measures (c .before .before .before .before .before .before .before .before .args .text .now) a) (c .before .before .records .given .1) (c .before .before .before .before .measure .ensures)) (omega (arith, c .if1 .taken))
+returns c =
+    let a' = c .before .before .before .before .before .before .before .before .args in
+    let measure = c .before .before .before .before .measure in
+    let records = c .before .before .records in
+    read-tape-short (a' .text .now) (a' .tape .now) (a' .store .now) (records .given .0 .0) (records .given .0 .1 .0)
+    (subst (λ (a : Answer). Measures (a' .text .now) a) (records .given .1) (measure .ensures))
+    (omega (arith, c .if1 .taken))
 
 returns-2 : tie.Need-returns-2
-returns-2 c = read-store-short (c .before .before .before .before .before .before .before .before .before .args .text .now) (c .before .before .before .before .before .before .before .before .before .args .tape .now) (c .before .before .before .before .before .before .before .before .before .args .store .now) (c .before .before .before .records .given .0 .0) (c .before .before .before .records .given .0 .1 .0) (subst (λ (a : Answer). Measures (c .before .before .before .before .before .before .before .before .before .args .text .now) a) (c .before .before .before .records .given .1) (c .before .before .before .before .before .measure .ensures)) (omega (arith, c .before .if1 .left)) (omega (arith, c .if2 .taken))
+returns-2 c =
+    let a' = c .before .before .before .before .before .before .before .before .before .args in
+    let measure = c .before .before .before .before .before .measure in
+    let records = c .before .before .before .records in
+    read-store-short (a' .text .now) (a' .tape .now) (a' .store .now) (records .given .0 .0) (records .given .0 .1 .0)
+    (subst (λ (a : Answer). Measures (a' .text .now) a) (records .given .1) (measure .ensures))
+    (omega (arith, c .before .if1 .left)) (omega (arith, c .if2 .taken))
 
 walk-requires : tie.Need-walk-requires
-walk-requires c κs = read-short (c .before .before .before .before .before .before .before .before .before .before .before .args .text .now) (c .before .before .before .before .before .before .before .before .before .before .before .args .tape .now) (c .before .before .before .before .before .before .before .before .before .before .before .args .store .now) (c .before .before .before .before .before .records .given .0 .0) (c .before .before .before .before .before .records .given .0 .1 .0) (subst (λ (a : Answer). Measures (c .before .before .before .before .before .before .before .before .before .before .before .args .text .now) a) (c .before .before .before .before .before .records .given .1) (c .before .before .before .before .before .before .before .measure .ensures))
+walk-requires c κs =
+    let a' = c .before .before .before .before .before .before .before .before .before .before .before .args in
+    let measure = c .before .before .before .before .before .before .before .measure in
+    let records = c .before .before .before .before .before .records in
+    read-short (a' .text .now) (a' .tape .now) (a' .store .now) (records .given .0 .0) (records .given .0 .1 .0)
+    (subst (λ (a : Answer). Measures (a' .text .now) a) (records .given .1) (measure .ensures))
 
 returns-3 : tie.Need-returns-3
-returns-3 c = read-refused (c .before .before .before .before .before .before .before .args .text .now) (c .before .before .before .before .before .before .before .args .tape .now) (c .before .before .before .before .before .before .before .args .store .now) (c .before .why .given .0 .0) (subst (λ (a : Answer). Measures (c .before .before .before .before .before .before .before .args .text .now) a) (c .before .why .given .1) (c .before .before .before .measure .ensures))
+returns-3 c =
+    let a' = c .before .before .before .before .before .before .before .args in
+    read-refused (a' .text .now) (a' .tape .now) (a' .store .now) (c .before .why .given .0 .0)
+    (subst (λ (a : Answer). Measures (a' .text .now) a) (c .before .why .given .1)
+    (c .before .before .before .measure .ensures))
 
 same-length : tie.Need-same-length
 same-length c = search needs
@@ -45,7 +88,17 @@ same-length-2 : tie.Need-same-length-2
 same-length-2 c = search needs
 
 returns-4 : tie.Need-returns-4
-returns-4 c = read-walked (c .before .before .before .before .before .before .before .before .before .before .before .before .before .before .before .before .args .text .now) (c .before .before .before .before .before .before .before .before .before .before .before .before .before .before .before .before .args .tape .now) (c .before .before .before .before .before .before .before .before .before .before .before .before .before .before .before .before .args .store .now) (c .before .before .before .before .before .before .before .before .before .before .records .given .0 .0) (c .before .before .before .before .before .before .before .before .before .before .records .given .0 .1 .0) (subst (λ (a : Answer). Measures (c .before .before .before .before .before .before .before .before .before .before .before .before .before .before .before .before .args .text .now) a) (c .before .before .before .before .before .before .before .before .before .before .records .given .1) (c .before .before .before .before .before .before .before .before .before .before .before .before .measure .ensures)) (c .before .before .before .before .walk .last .1 .0) (c .before .before .before .before .walk .last .1 .1 .0) (c .before .before .before .before .walk .result) (omega (arith, c .before .before .before .before .before .before .before .before .if1 .left)) (omega (arith, c .before .before .before .before .before .before .before .if2 .left)) (c .before .before .before .before .walk .ensures)
+returns-4 c =
+    let back = c .before .before .before .before .before .before .before .before .before .before .before .before in
+    let a' = back .before .before .before .before .args in
+    let measure = back .measure in
+    let records = c .before .before .before .before .before .before .before .before .before .before .records in
+    let if1 = c .before .before .before .before .before .before .before .before .if1 in
+    let if2 = c .before .before .before .before .before .before .before .if2 in
+    let walk = c .before .before .before .before .walk in
+    read-walked (a' .text .now) (a' .tape .now) (a' .store .now) (records .given .0 .0) (records .given .0 .1 .0)
+    (subst (λ (a : Answer). Measures (a' .text .now) a) (records .given .1) (measure .ensures)) (walk .last .1 .0)
+    (walk .last .1 .1 .0) (walk .result) (omega (arith, if1 .left)) (omega (arith, if2 .left)) (walk .ensures)
 
 pub read-spec : {M : Type 1} → statement M
 read-spec =

@@ -12,7 +12,8 @@ use Rattle.meaning.specs.Limits.{textLimit}
 use Rattle.meaning.specs.Meaning.{Meaning, Meanings, Members}
 use Rattle.meaning.specs.Tape.{records, storeOf, bytes, recordsOf, recordsBytes}
 use Rattle.grammar.specs.Values.{Inside, elements, members}
-use Rattle.machine.specs.Machine.{Base, want, wantKey, got, value, Mode, base, Frame, inside, pair, Conf, at, Bracket, square, curly, bareOf, wanted, shut, classOf, quoteC}
+use Rattle.machine.specs.Machine.{Base, want, got, key, value, base, Frame, inside, pair, Conf, at}
+use Rattle.machine.specs.Machine.{Bracket, square, curly, bareOf, wanted, shut, classOf, quoteC}
 use Rattle.machine.specs.Names.{wordScan}
 use Rattle.machine.specs.Scan.{ended, broke}
 use Rattle.items.specs.Between.Places.{ranAt}
@@ -67,7 +68,8 @@ ScalarSays text p start entry exit (Scanned.Refused why) = Unwanted text p why
 
 -- a word that means this item
 abbrev pub SpeltSays : List ℕ → ℕ → List ℕ → Item → Scanned → Type 0
-SpeltSays text p letters item (Scanned.Item i q) = (ranAt wordScan text letters p ≡ ended tt q) × (q ≤ length text) × (i ≡ item)
+SpeltSays text p letters item (Scanned.Item i q) =
+    (ranAt wordScan text letters p ≡ ended tt q) × (q ≤ length text) × (i ≡ item)
 SpeltSays text p letters item (Scanned.Refused why) = ranAt wordScan text letters p ≡ broke why
 
 -- a quote stands at p
@@ -123,7 +125,8 @@ pub record Moved (text : List ℕ) (c n : Cursor) : Type 0 where
 
 -- an opening bracket
 pub record Opened (text : List ℕ) (c : Cursor) (y : Bracket) (n : Cursor) : Type 0 where
-  pub opens : (d : ℕ) (k : List Frame) → Goes text (at (base want) (suc d) k) (c .at) (at (base (wanted (bareOf y))) d (inside (bareOf y) ∷ k)) (n .at)
+  pub opens : (d : ℕ) (k : List Frame)
+      → Goes text (at (base want) (suc d) k) (c .at) (at (base (wanted (bareOf y))) d (inside (bareOf y) ∷ k)) (n .at)
   pub deep : (k : List Frame) → Refuses text (at (base want) 0 k) (c .at) (TooDeep (c .at))
   pub moved : Moved text c n
 
@@ -147,6 +150,10 @@ closer (members x) = ch "}"
 abbrev pub within : Inside → ℕ → List Frame → Conf
 within y d k = at (base (wanted y)) d (inside y ∷ k)
 
+-- where it has closed
+abbrev pub closed : Inside → ℕ → List Frame → Conf
+closed y d k = at (base (got (value (shut y)))) (suc d) k
+
 -- an element or a member begins
 pub record Begins (text : List ℕ) (c : Cursor) (closing : ℕ) (n : Cursor) : Type 0 where
   pub goes : (s : Base) (d : ℕ) (k : List Frame) → Goes text (at (base s) d k) (c .at) (at (base s) d k) (n .at)
@@ -158,9 +165,12 @@ pub record Begins (text : List ℕ) (c : Cursor) (closing : ℕ) (n : Cursor) : 
   pub stored : n .stored ≡ c .stored
 
 abbrev pub AheadSays : List ℕ → Cursor → ℕ → Ahead → Type 0
-AheadSays text c closing (Ahead.Close n) = ((y : Inside) → closer y ≡ closing → (d : ℕ) (k : List Frame) → Goes text (within y d k) (c .at) (at (base (got (value (shut y)))) (suc d) k) (n .at)) × Moved text c n
+AheadSays text c closing (Ahead.Close n) =
+    ((y : Inside) → closer y ≡ closing → (d : ℕ) (k : List Frame)
+    → Goes text (within y d k) (c .at) (closed y d k) (n .at)) × Moved text c n
 AheadSays text c closing (Ahead.More n) = Begins text c closing n
-AheadSays text c closing (Ahead.Refused why) = (y : Inside) → closer y ≡ closing → (d : ℕ) (k : List Frame) → Refuses text (within y d k) (c .at) why
+AheadSays text c closing (Ahead.Refused why) =
+    (y : Inside) → closer y ≡ closing → (d : ℕ) (k : List Frame) → Refuses text (within y d k) (c .at) why
 
 -- in a frame whose container this byte closes, one more value makes of it what the function says
 pub data Adds : Frame → ℕ → (Meaning → Inside) → Type 0 where
@@ -168,24 +178,34 @@ pub data Adds : Frame → ℕ → (Meaning → Inside) → Type 0 where
   member : {x : Members} {u : List ℕ} → Adds (pair x u) (ch "}") (λ m. members (Members.member x u m))
 
 abbrev pub AfterSays : List ℕ → Cursor → ℕ → After → Type 0
-AfterSays text c closing (After.Comma n) = ((f : Frame) (y : Meaning → Inside) → Adds f closing y → (m : Meaning) (d : ℕ) (k : List Frame) → Goes text (at (base (got (value m))) d (f ∷ k)) (c .at) (within (y m) d k) (n .at)) × Moved text c n
-AfterSays text c closing (After.Close n) = ((f : Frame) (y : Meaning → Inside) → Adds f closing y → (m : Meaning) (d : ℕ) (k : List Frame) → Goes text (at (base (got (value m))) d (f ∷ k)) (c .at) (at (base (got (value (shut (y m))))) (suc d) k) (n .at)) × Moved text c n
-AfterSays text c closing (After.Refused why) = (f : Frame) (y : Meaning → Inside) → Adds f closing y → (m : Meaning) (d : ℕ) (k : List Frame) → Refuses text (at (base (got (value m))) d (f ∷ k)) (c .at) why
+AfterSays text c closing (After.Comma n) =
+    ((f : Frame) (y : Meaning → Inside) → Adds f closing y → (m : Meaning) (d : ℕ) (k : List Frame)
+    → Goes text (at (base (got (value m))) d (f ∷ k)) (c .at) (within (y m) d k) (n .at)) × Moved text c n
+AfterSays text c closing (After.Close n) =
+    ((f : Frame) (y : Meaning → Inside) → Adds f closing y → (m : Meaning) (d : ℕ) (k : List Frame)
+    → Goes text (at (base (got (value m))) d (f ∷ k)) (c .at) (closed (y m) d k) (n .at)) × Moved text c n
+AfterSays text c closing (After.Refused why) =
+    (f : Frame) (y : Meaning → Inside) → Adds f closing y → (m : Meaning) (d : ℕ) (k : List Frame)
+    → Refuses text (at (base (got (value m))) d (f ∷ k)) (c .at) why
 
 -- after a key: a colon, and where its value begins
 pub record Coloned (text : List ℕ) (c n : Cursor) : Type 0 where
-  pub goes : (x : Members) (u : List ℕ) (d : ℕ) (k : List Frame) → Goes text (at (base (got (Rattle.machine.specs.Machine.Got.key u))) d (inside (members x) ∷ k)) (c .at) (at (base want) d (pair x u ∷ k)) (n .at)
+  pub goes : (x : Members) (u : List ℕ) (d : ℕ) (k : List Frame)
+      → Goes text (at (base (got (key u))) d (inside (members x) ∷ k)) (c .at) (at (base want) d (pair x u ∷ k)) (n .at)
   pub bare : Bare text (n .at)
   pub moved : Moved text c n
 
 abbrev pub ColonSays : List ℕ → Cursor → ℕ → Member → Type 0
 ColonSays text c size (Member.Key n v) = Coloned text c v × (n ≡ size)
-ColonSays text c size (Member.Refused why) = (x : Members) (u : List ℕ) (d : ℕ) (k : List Frame) → Refuses text (at (base (got (Rattle.machine.specs.Machine.Got.key u))) d (inside (members x) ∷ k)) (c .at) why
+ColonSays text c size (Member.Refused why) =
+    (x : Members) (u : List ℕ) (d : ℕ) (k : List Frame)
+    → Refuses text (at (base (got (key u))) d (inside (members x) ∷ k)) (c .at) why
 
 -- a key and its colon
 pub record Named (text : List ℕ) (c : Cursor) (entry exit : List ℕ) (n : ℕ) (v : Cursor) : Type 0 where
   pub u : List ℕ
-  pub goes : (x : Members) (d : ℕ) (k : List Frame) → Goes text (within (members x) d k) (c .at) (at (base want) d (pair x u ∷ k)) (v .at)
+  pub goes : (x : Members) (d : ℕ) (k : List Frame)
+      → Goes text (within (members x) d k) (c .at) (at (base want) d (pair x u ∷ k)) (v .at)
   pub counted : n ≡ length u
   pub filled : exit ≡ sets entry (c .stored) u
   pub bare : Bare text (v .at)
@@ -197,18 +217,22 @@ pub record Named (text : List ℕ) (c : Cursor) (entry exit : List ℕ) (n : ℕ
 
 abbrev pub MemberSays : List ℕ → Cursor → List ℕ → List ℕ → Member → Type 0
 MemberSays text c entry exit (Member.Key n v) = Named text c entry exit n v
-MemberSays text c entry exit (Member.Refused why) = (x : Members) (d : ℕ) (k : List Frame) → Refuses text (within (members x) d k) (c .at) why
+MemberSays text c entry exit (Member.Refused why) =
+    (x : Members) (d : ℕ) (k : List Frame) → Refuses text (within (members x) d k) (c .at) why
 
 -- ---- values
 
--- A value has been read, from a state in which `depth` more may open to one in which `top` may: what it means, the records and the store bytes
--- put, and that these are no more than the bytes passed. The tape is filled where it has room for all of the value's records.
-pub record Took (text : List ℕ) (start : List Frame → Conf) (top : ℕ) (c : Cursor) (tape tape' store store' : List ℕ) (n : Cursor) : Type 0 where
+-- A value has been read, from a state in which `depth` more may open to one in which `top` may: what it means, the
+-- records and the store bytes put, and that these are no more than the bytes passed. The tape is filled where it has
+-- room for all of the value's records.
+pub record Took (text : List ℕ) (start : List Frame → Conf) (top : ℕ) (c : Cursor)
+    (tape tape' store store' : List ℕ) (n : Cursor) : Type 0 where
   pub m : Meaning
   pub runs : (k : List Frame) → Goes text (start k) (c .at) (at (base (got (value m))) top k) (n .at)
   pub recorded : n .records ≡ c .records + records m
   pub stored : n .stored ≡ c .stored + bytes m
-  pub taped : n .records * 16 ≤ length tape → tape' ≡ sets tape (c .records * 16) (recordsBytes (recordsOf m (c .records) (c .stored)))
+  pub taped : n .records * 16 ≤ length tape
+      → tape' ≡ sets tape (c .records * 16) (recordsBytes (recordsOf m (c .records) (c .stored)))
   pub filled : store' ≡ sets store (c .stored) (storeOf m)
   pub past : c .at < n .at
   pub few : n .records + c .at ≤ c .records + n .at
@@ -219,7 +243,8 @@ pub record Took (text : List ℕ) (start : List Frame → Conf) (top : ℕ) (c :
 abbrev pub Left : List ℕ → (List Frame → Conf) → (List Frame → Type 0) → ℕ → Refusal → Type 0
 Left text start ok p why = (k : List Frame) → ok k → Refuses text (start k) p why
 
-abbrev pub Says : List ℕ → (List Frame → Conf) → (List Frame → Type 0) → ℕ → Cursor → List ℕ → List ℕ → List ℕ → List ℕ → Step → Type 0
+abbrev pub Says : List ℕ → (List Frame → Conf) → (List Frame → Type 0) → ℕ → Cursor
+    → List ℕ → List ℕ → List ℕ → List ℕ → Step → Type 0
 Says text start ok top c tape tape' store store' (Step.Value n) = Took text start top c tape tape' store store' n
 Says text start ok top c tape tape' store store' (Step.Refused was why) = Left text start ok (c .at) why
 

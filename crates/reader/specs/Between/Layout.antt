@@ -5,21 +5,17 @@ use mathlib.Core.List.{List}
 use Prim.Native.Nat.{ℕ, _≤_, _<_}
 use lib.ListN.{length, getD}
 use Rattle.meaning.specs.declared.Refusal.the-variants.{NotGrammar}
-use Rattle.machine.specs.Machine.{Base, Mode, base, slash, line, block, star, Frame, Conf, at, lineEnd, starN, slashN, plainN, controlN}
+use Rattle.machine.specs.Machine.{Base, Mode, base, Frame, Conf, at}
 use Rattle.machine.specs.Machine as Machine
 use Rattle.items.specs.Between.Places.{Onward}
 use Rattle.reader.specs.Between.Scanning.{Goes, Refuses, Bare}
-use Rattle.reader.specs.declared.layout.Note.{Note}
-use Rattle.reader.specs.declared.layout.Note.the-variants.{LineEnd, Star, Slash, Control, Plain}
 use Rattle.reader.specs.declared.layout.Comment.{Comment}
 use Rattle.reader.specs.declared.layout.Layout.{Layout}
 
-abbrev pub noteIs : Note → Machine.Note
-noteIs LineEnd = lineEnd
-noteIs Star = starN
-noteIs Slash = slashN
-noteIs Control = controlN
-noteIs Plain = plainN
+-- whether P holds
+pub record Tells (P : Type 0) (r : Bool) : Type 0 where
+  pub yes : r ≡ true → P
+  pub no : r ≡ false → P → ⊥
 
 -- whatever is expected after it, the layout from p to q is passed
 abbrev pub Passes : List ℕ → ℕ → ℕ → Type 0
@@ -41,14 +37,10 @@ CommentSays text mode p (Comment.NotGrammar q) = Breaks text mode p q
 
 -- a comment that may begin at p
 abbrev pub MaybeSays : List ℕ → ℕ → Comment → Type 0
-MaybeSays text p Comment.Absent = (Machine.classOf (getD text p 0) ≡ Machine.hashC → ⊥) × (Machine.classOf (getD text p 0) ≡ Machine.slashC → ⊥)
+MaybeSays text p Comment.Absent =
+    (Machine.classOf (getD text p 0) ≡ Machine.hashC → ⊥) × (Machine.classOf (getD text p 0) ≡ Machine.slashC → ⊥)
 MaybeSays text p (Comment.Ended q) = Commented text base p q × (p < q)
 MaybeSays text p (Comment.NotGrammar q) = Breaks text base p q
-
--- whether b is a blank
-pub record BlankSays (b : ℕ) (r : Bool) : Type 0 where
-  pub blank : r ≡ true → Machine.classOf b ≡ Machine.blankC
-  pub other : r ≡ false → Machine.classOf b ≡ Machine.blankC → ⊥
 
 -- blanks alone
 pub record Blanks (text : List ℕ) (p q : ℕ) : Type 0 where

@@ -4,7 +4,8 @@ use mathlib.Core.List.{List}
 use Prim.Native.Nat.{ℕ, _<_}
 use lib.ListN.{length, drop, getD}
 use Rattle.meaning.specs.declared.Refusal.{Refusal}
-use Rattle.machine.specs.Machine.{Frame, Conf, Bracket, classOf, blankC, hashC, slashC, closeC, closeWanted, odd, No, read}
+use Rattle.machine.specs.Machine.{Frame, Conf, Bracket, closeWanted, odd, No, read}
+use Rattle.machine.specs.Machine.{classOf, blankC, hashC, slashC, closeC}
 
 -- from the state c at p the machine comes to what it comes to from the state d at q
 abbrev pub Goes : List ℕ → Conf → ℕ → Conf → ℕ → Type 0

@@ -20,7 +20,9 @@ shared-slice-read-b : tie.Need-shared-slice-read-b
 shared-slice-read-b c = search needs
 
 string-requires : tie.Need-string-requires
-string-requires c κs = (record { inside = c .before .before .before .before .before .pre .inside; quote = rw (c .before .if1 .taken) }, c .before .before .before .before .before .pre .stored)
+string-requires c κs =
+    let pre = c .before .before .before .before .before .pre in
+    (record { inside = pre .inside; quote = rw (c .before .if1 .taken) }, pre .stored)
 
 same-length : tie.Need-same-length
 same-length c = search needs
@@ -29,7 +31,9 @@ returns : tie.Need-returns
 returns c = search needs
 
 string-requires-2 : tie.Need-string-requires-2
-string-requires-2 c κs = (record { inside = c .before .before .before .before .before .before .pre .inside; quote = rw (c .before .if2 .taken) }, c .before .before .before .before .before .before .pre .stored)
+string-requires-2 c κs =
+    let pre = c .before .before .before .before .before .before .pre in
+    (record { inside = pre .inside; quote = rw (c .before .if2 .taken) }, pre .stored)
 
 same-length-2 : tie.Need-same-length-2
 same-length-2 c = search needs
@@ -53,7 +57,13 @@ spelt-requires : tie.Need-spelt-requires
 spelt-requires c κs = search needs
 
 returns-4 : tie.Need-returns-4
-returns-4 c = of-word (c .before .before .before .before .before .before .before .before .before .args .text .now) (c .before .before .before .before .before .before .before .before .before .args .at) (c .before .before .before .before .before .before .before .before .before .args .start) (c .before .before .before .before .before .before .before .before .before .args .store .now) (letters "null") (ch "n") (letters "ull") refl Item.Null Meaning.null Means.null (at-word (c .before .before .before .before .before .before .before .before .before .args .text .now) (c .before .before .before .before .before .before .before .before .before .args .at) (c .before .before .before .before .before .before .before .before .before .args .start) (c .before .before .before .before .before .before .before .before .before .args .store .now) (c .before .before .before .before .before .before .before .before .before .pre .inside) (letters "null") Meaning.null (λ d k. rw (c .before .before .if4 .taken))) (c .spelt .result) (c .spelt .ensures)
+returns-4 c =
+    let a = c .before .before .before .before .before .before .before .before .before .args in
+    let pre = c .before .before .before .before .before .before .before .before .before .pre in
+    of-word (a .text .now) (a .at) (a .start) (a .store .now) (letters "null") (ch "n") (letters "ull") refl Item.Null
+    Meaning.null Means.null
+    (at-word (a .text .now) (a .at) (a .start) (a .store .now) (pre .inside) (letters "null") Meaning.null
+    (λ d k. rw (c .before .before .if4 .taken))) (c .spelt .result) (c .spelt .ensures)
 
 slice-aggregate-spelt-2 : tie.Need-slice-aggregate-spelt-2
 slice-aggregate-spelt-2 c = search needs
@@ -62,7 +72,13 @@ spelt-requires-2 : tie.Need-spelt-requires-2
 spelt-requires-2 c κs = search needs
 
 returns-5 : tie.Need-returns-5
-returns-5 c = of-word (c .before .before .before .before .before .before .before .before .before .before .args .text .now) (c .before .before .before .before .before .before .before .before .before .before .args .at) (c .before .before .before .before .before .before .before .before .before .before .args .start) (c .before .before .before .before .before .before .before .before .before .before .args .store .now) (letters "true") (ch "t") (letters "rue") refl (Item.Bool true) (Meaning.bool true) Means.bool (at-word (c .before .before .before .before .before .before .before .before .before .before .args .text .now) (c .before .before .before .before .before .before .before .before .before .before .args .at) (c .before .before .before .before .before .before .before .before .before .before .args .start) (c .before .before .before .before .before .before .before .before .before .before .args .store .now) (c .before .before .before .before .before .before .before .before .before .before .pre .inside) (letters "true") (Meaning.bool true) (λ d k. rw (c .before .before .if5 .taken))) (c .spelt2 .result) (c .spelt2 .ensures)
+returns-5 c =
+    let a = c .before .before .before .before .before .before .before .before .before .before .args in
+    let pre = c .before .before .before .before .before .before .before .before .before .before .pre in
+    of-word (a .text .now) (a .at) (a .start) (a .store .now) (letters "true") (ch "t") (letters "rue") refl
+    (Item.Bool true) (Meaning.bool true) Means.bool
+    (at-word (a .text .now) (a .at) (a .start) (a .store .now) (pre .inside) (letters "true") (Meaning.bool true)
+    (λ d k. rw (c .before .before .if5 .taken))) (c .spelt2 .result) (c .spelt2 .ensures)
 
 slice-aggregate-spelt-3 : tie.Need-slice-aggregate-spelt-3
 slice-aggregate-spelt-3 c = search needs
@@ -71,13 +87,36 @@ spelt-requires-3 : tie.Need-spelt-requires-3
 spelt-requires-3 c κs = search needs
 
 returns-6 : tie.Need-returns-6
-returns-6 c = of-word (c .before .before .before .before .before .before .before .before .before .before .before .args .text .now) (c .before .before .before .before .before .before .before .before .before .before .before .args .at) (c .before .before .before .before .before .before .before .before .before .before .before .args .start) (c .before .before .before .before .before .before .before .before .before .before .before .args .store .now) (letters "false") (ch "f") (letters "alse") refl (Item.Bool false) (Meaning.bool false) Means.bool (at-word (c .before .before .before .before .before .before .before .before .before .before .before .args .text .now) (c .before .before .before .before .before .before .before .before .before .before .before .args .at) (c .before .before .before .before .before .before .before .before .before .before .before .args .start) (c .before .before .before .before .before .before .before .before .before .before .before .args .store .now) (c .before .before .before .before .before .before .before .before .before .before .before .pre .inside) (letters "false") (Meaning.bool false) (λ d k. rw (c .before .before .if6 .taken))) (c .spelt3 .result) (c .spelt3 .ensures)
+returns-6 c =
+    let a = c .before .before .before .before .before .before .before .before .before .before .before .args in
+    let pre = c .before .before .before .before .before .before .before .before .before .before .before .pre in
+    of-word (a .text .now) (a .at) (a .start) (a .store .now) (letters "false") (ch "f") (letters "alse") refl
+    (Item.Bool false) (Meaning.bool false) Means.bool
+    (at-word (a .text .now) (a .at) (a .start) (a .store .now) (pre .inside) (letters "false") (Meaning.bool false)
+    (λ d k. rw (c .before .before .if6 .taken))) (c .spelt3 .result) (c .spelt3 .ensures)
 
 numeric-requires : tie.Need-numeric-requires
 numeric-requires c κs = search needs
 
 returns-7 : tie.Need-returns-7
-returns-7 c = of-numeric (c .before .before .before .before .before .before .before .before .before .before .args .text .now) (c .before .before .before .before .before .before .before .before .before .before .args .at) (c .before .before .before .before .before .before .before .before .before .before .args .start) (c .before .before .before .before .before .before .before .before .before .before .args .store .now) (c .before .before .before .before .before .before .before .before .before .before .pre) (record { double = c .before .before .before .before .before .before .if1 .left; single = c .before .before .before .before .before .if2 .left; dollar = c .before .before .before .before .if3 .left; n = c .before .before .before .if4 .left; t = c .before .before .if5 .left; f = c .before .if6 .left; square = c .before .before .before .before .before .before .before .before .before .before .pre .no-square; curly = c .before .before .before .before .before .before .before .before .before .before .pre .no-curly }) (c .numeric .result) (c .numeric .ensures)
+returns-7 c =
+    let a = c .before .before .before .before .before .before .before .before .before .before .args in
+    let pre = c .before .before .before .before .before .before .before .before .before .before .pre in
+    let if1 = c .before .before .before .before .before .before .if1 in
+    let if2 = c .before .before .before .before .before .if2 in
+    let if3 = c .before .before .before .before .if3 in
+    of-numeric (a .text .now) (a .at) (a .start) (a .store .now) pre
+    (record {
+      double = if1 .left;
+      single = if2 .left;
+      dollar = if3 .left;
+      n = c .before .before .before .if4 .left;
+      t = c .before .before .if5 .left;
+      f = c .before .if6 .left;
+      square = pre .no-square;
+      curly = pre .no-curly;
+    })
+    (c .numeric .result) (c .numeric .ensures)
 
 pub scalar-spec : {M : Type 1} → statement M
 scalar-spec =

@@ -12,20 +12,30 @@ string-requires c κs = search needs
 enum-known-why : tie.Need-enum-known-why
 enum-known-why c = search needs
 
-enum-known-end : tie.Need-enum-known-end
-enum-known-end c = search needs
+enum-known-n : tie.Need-enum-known-n
+enum-known-n c = search needs
 
 same-length : tie.Need-same-length
 same-length c = search needs
 
 returns : tie.Need-returns
-returns c = string-refused (c .before .before .before .before .before .before .before .before .before .args .text .now) (c .before .before .before .before .before .before .before .before .before .args .at) (c .before .before .before .before .before .before .before .before .before .args .start) (c .before .before .before .before .before .before .before .before .before .args .store .now) (c .before .before .before .before .before .before .before .before .before .pre .0) (c .before .why .given .0 .0) (rw (c .before .why .given .1) at (c .before .before .before .before .before .string .ensures))
+returns c =
+    let a = c .before .before .before .before .before .before .before .before .before .args in
+    let pre = c .before .before .before .before .before .before .before .before .before .pre in
+    let string = c .before .before .before .before .before .string in
+    string-refused (a .text .now) (a .at) (a .start) (a .store .now) (pre .0) (c .before .why .given .0 .0)
+    (rw (c .before .why .given .1) at (string .ensures))
 
 same-length-2 : tie.Need-same-length-2
 same-length-2 c = search needs
 
 returns-2 : tie.Need-returns-2
-returns-2 c = string-whole (c .before .before .before .before .before .before .before .before .before .args .text .now) (c .before .before .before .before .before .before .before .before .before .args .at) (c .before .before .before .before .before .before .before .before .before .args .start) (c .before .before .before .before .before .before .before .before .before .args .store .now) (c .before .before .before .before .before .before .before .before .before .pre .0) _ (c .before .end .given .0 .0) (c .before .end .given .0 .1 .0) (rw (c .before .end .given .1) at (c .before .before .before .before .before .string .ensures))
+returns-2 c =
+    let a = c .before .before .before .before .before .before .before .before .before .args in
+    let pre = c .before .before .before .before .before .before .before .before .before .pre in
+    let string = c .before .before .before .before .before .string in
+    string-whole (a .text .now) (a .at) (a .start) (a .store .now) (pre .0) _ (c .before .n .given .0 .1 .0)
+    (c .before .n .given .0 .0) (rw (c .before .n .given .1) at (string .ensures))
 
 pub string-spec : {M : Type 1} → statement M
 string-spec =
@@ -33,7 +43,7 @@ string-spec =
     (tie.spec
     string-requires
     enum-known-why
-    enum-known-end
+    enum-known-n
     same-length
     returns
     same-length-2

@@ -17,13 +17,21 @@ enum-known-at : tie.Need-enum-known-at
 enum-known-at c = search needs
 
 returns : tie.Need-returns
-returns c = alone-end (c .before .before .before .before .before .before .args .text .now) (c .before .before .before .before .before .before .args .from) (c .before .before .at .given .0 .0) (rw (c .before .before .at .given .1) at (c .before .before .before .before .pass .ensures)) (c .if1 .taken)
+returns c =
+    let a = c .before .before .before .before .before .before .args in
+    let pass = c .before .before .before .before .pass in
+    let at' = c .before .before .at in
+    alone-end (a .text .now) (a .from) (at' .given .0 .0) (rw (at' .given .1) at (pass .ensures)) (c .if1 .taken)
 
 shared-slice-read-if2 : tie.Need-shared-slice-read-if2
 shared-slice-read-if2 c = search needs
 
 returns-2 : tie.Need-returns-2
-returns-2 c = alone (c .before .before .before .before .before .before .before .before .args .text .now) (c .before .before .before .before .before .before .before .before .args .from) (c .before .before .before .before .at .given .0 .0) (rw (c .before .before .before .before .at .given .1) at (c .before .before .before .before .before .before .pass .ensures)) (c .if2 .taken)
+returns-2 c =
+    let a = c .before .before .before .before .before .before .before .before .args in
+    let pass = c .before .before .before .before .before .before .pass in
+    let at' = c .before .before .before .before .at in
+    alone (a .text .now) (a .from) (at' .given .0 .0) (rw (at' .given .1) at (pass .ensures)) (c .if2 .taken)
 
 add-pass : tie.Need-add-pass
 add-pass c = search needs
@@ -38,13 +46,30 @@ enum-known-next : tie.Need-enum-known-next
 enum-known-next c = search needs
 
 returns-3 : tie.Need-returns-3
-returns-3 c = join-breaks (c .before .before .before .before .before .args .text .now) (c .before .before .before .before .before .args .from) (c .before .p .given .0 .0) (rw (c .before .p .given .1) at (c .before .before .before .pass .ensures))
+returns-3 c =
+    let a = c .before .before .before .before .before .args in
+    join-breaks (a .text .now) (a .from) (c .before .p .given .0 .0)
+    (rw (c .before .p .given .1) at (c .before .before .before .pass .ensures))
 
 returns-4 : tie.Need-returns-4
-returns-4 c = plus-breaks (c .before .before .before .before .before .before .before .before .before .before .before .before .args .text .now) (c .before .before .before .before .before .before .before .before .before .before .before .before .args .from) (c .before .before .before .before .before .before .before .before .at .given .0 .0) (rw (c .before .before .before .before .before .before .before .before .at .given .1) at (c .before .before .before .before .before .before .before .before .before .before .pass .ensures)) (c .before .before .before .before .before .before .if1 .left) (c .before .before .before .before .if2 .left) (c .before .p2 .given .0 .0) (rw (c .before .p2 .given .1) at (c .before .before .before .pass2 .ensures))
+returns-4 c =
+    let a = c .before .before .before .before .before .before .before .before .before .before .before .before .args in
+    let pass = c .before .before .before .before .before .before .before .before .before .before .pass in
+    let at' = c .before .before .before .before .before .before .before .before .at in
+    let if1 = c .before .before .before .before .before .before .if1 in
+    let if2 = c .before .before .before .before .if2 in
+    plus-breaks (a .text .now) (a .from) (at' .given .0 .0) (rw (at' .given .1) at (pass .ensures)) (if1 .left) (if2 .left)
+    (c .before .p2 .given .0 .0) (rw (c .before .p2 .given .1) at (c .before .before .before .pass2 .ensures))
 
 returns-5 : tie.Need-returns-5
-returns-5 c = plus-next (c .before .before .before .before .before .before .before .before .before .before .before .before .args .text .now) (c .before .before .before .before .before .before .before .before .before .before .before .before .args .from) (c .before .before .before .before .before .before .before .before .at .given .0 .0) (rw (c .before .before .before .before .before .before .before .before .at .given .1) at (c .before .before .before .before .before .before .before .before .before .before .pass .ensures)) (c .before .before .before .before .before .before .if1 .left) (c .before .before .before .before .if2 .left) (c .before .next .given .0 .0) (rw (c .before .next .given .1) at (c .before .before .before .pass2 .ensures))
+returns-5 c =
+    let a = c .before .before .before .before .before .before .before .before .before .before .before .before .args in
+    let pass = c .before .before .before .before .before .before .before .before .before .before .pass in
+    let at' = c .before .before .before .before .before .before .before .before .at in
+    let if1 = c .before .before .before .before .before .before .if1 in
+    let if2 = c .before .before .before .before .if2 in
+    plus-next (a .text .now) (a .from) (at' .given .0 .0) (rw (at' .given .1) at (pass .ensures)) (if1 .left) (if2 .left)
+    (c .before .next .given .0 .0) (rw (c .before .next .given .1) at (c .before .before .before .pass2 .ensures))
 
 pub after-part-spec : {M : Type 1} → statement M
 after-part-spec =

@@ -1,13 +1,17 @@
 use native.Mathlib.Omega.{arith}
-use Rattle.reader.proofs.JoinedLaws.{part-length, part-refused, part-closed}
 use Prim.Native.Nat.{_+_}
 use Rattle.meaning.specs.declared.Refusal.the-variants.{NotGrammar, BadEscape}
+use Rattle.machine.specs.Strings
+use Rattle.items.specs.Between.PlacedPart.{Ended}
+use Rattle.reader.proofs.JoinedLaws.{part-length, part-refused, part-closed, part-linked}
 use borrow.Author.Needs.{needs}
 use Rattle.reader.proofs.joined.string_part.Statement.{statement}
 use Rattle.reader.proofs.joined.string_part.Tie as tie
 use Rattle.reader.proofs.joined.string_part.Reads as reads
 use Rattle.reader.proofs.joined.string_part.Lts as lts
 use Rattle.items.proofs.string_part.read_part.Reads as read-part-reads
+use Rattle.reader.proofs.joined.after_part.Reads as after-part-reads
+use Rattle.reader.proofs.joined.link_of.Reads as link-of-reads
 
 sub-read-part : tie.Need-sub-read-part
 sub-read-part c = search needs
@@ -25,37 +29,66 @@ enum-known-p : tie.Need-enum-known-p
 enum-known-p c = search needs
 
 add-t17 : tie.Need-add-t17
-add-t17 c = let w = rw (c .before .p .given .1) at (c .before .before .before .before .before .read-part .ensures) in omega (arith, w .1, part-length (c .before .before .before .before .before .before .before .before .before .before .args .text .now) (c .before .before .before .before .before .before .before .before .before .before .args .at))
+add-t17 c =
+    let a = c .before .before .before .before .before .before .before .before .before .before .args in
+    let w = rw (c .before .p .given .1) at (c .before .before .before .before .before .read-part .ensures) in
+    omega (arith, w .1, part-length (a .text .now) (a .at))
 
 enum-known-p-2 : tie.Need-enum-known-p-2
 enum-known-p-2 c = search needs
 
 add-t19 : tie.Need-add-t19
-add-t19 c = let w = rw (c .before .p2 .given .1) at (c .before .before .before .before .before .read-part .ensures) in omega (arith, w .1, part-length (c .before .before .before .before .before .before .before .before .before .before .args .text .now) (c .before .before .before .before .before .before .before .before .before .before .args .at))
+add-t19 c =
+    let a = c .before .before .before .before .before .before .before .before .before .before .args in
+    let w = rw (c .before .p2 .given .1) at (c .before .before .before .before .before .read-part .ensures) in
+    omega (arith, w .1, part-length (a .text .now) (a .at))
 
 enum-known-taken : tie.Need-enum-known-taken
 enum-known-taken c = search needs
 
-add-t21 : tie.Need-add-t21
-add-t21 c = let w = rw (c .before .taken .given .1) at (c .before .before .before .before .before .read-part .ensures) in omega (arith, w .within, part-length (c .before .before .before .before .before .before .before .before .before .before .args .text .now) (c .before .before .before .before .before .before .before .before .before .before .args .at))
+-- a part has been read
+closed : (c : tie.After-known-told3) → (
+    let a = c .before .before .before .before .before .before .before .before .before .before .args in
+    let r = c .before .taken .given .0 in
+    let exit = c .before .before .before .before .before .read-part .last .1 .0 in
+    Ended Strings.scan Strings.begin (a .text .now) (a .at) (a .start) (a .store .now) exit (a .at + r .0) (r .1 .0))
+closed c =
+    let a = c .before .before .before .before .before .before .before .before .before .before .args in
+    let w = rw (c .before .taken .given .1) at (c .before .before .before .before .before .read-part .ensures) in
+    part-closed (a .text .now) (a .at) (a .start) (a .store .now) (omega arith) _ _ _ w
+
+add-after-part : tie.Need-add-after-part
+add-after-part c = omega (arith, closed c .within)
+
+after-part-requires : tie.Need-after-part-requires
+after-part-requires c κs = closed c .within
+
+link-of-requires : tie.Need-link-of-requires
+link-of-requires c κs = search needs
 
 same-length : tie.Need-same-length
 same-length c = search needs
 
 returns : tie.Need-returns
-returns c = part-refused (c .before .before .before .before .before .before .before .before .before .before .args .text .now) (c .before .before .before .before .before .before .before .before .before .before .args .at) (c .before .before .before .before .before .before .before .before .before .before .args .start) (c .before .before .before .before .before .before .before .before .before .before .args .store .now) (omega arith) (λ o. NotGrammar (o + c .before .p .given .0 .0)) ((rw (c .before .p .given .1) at (c .before .before .before .before .before .read-part .ensures)) .0)
+returns c =
+    let a = c .before .before .before .before .before .before .before .before .before .before .args in
+    let w = rw (c .before .p .given .1) at (c .before .before .before .before .before .read-part .ensures) in
+    part-refused (a .text .now) (a .at) (a .start) (a .store .now) (omega arith) _ (λ o. NotGrammar (o + c .before .p .given .0 .0)) (w .0)
 
 same-length-2 : tie.Need-same-length-2
 same-length-2 c = search needs
 
 returns-2 : tie.Need-returns-2
-returns-2 c = part-refused (c .before .before .before .before .before .before .before .before .before .before .args .text .now) (c .before .before .before .before .before .before .before .before .before .before .args .at) (c .before .before .before .before .before .before .before .before .before .before .args .start) (c .before .before .before .before .before .before .before .before .before .before .args .store .now) (omega arith) (λ o. BadEscape (o + c .before .p2 .given .0 .0)) ((rw (c .before .p2 .given .1) at (c .before .before .before .before .before .read-part .ensures)) .0)
+returns-2 c =
+    let a = c .before .before .before .before .before .before .before .before .before .before .args in
+    let w = rw (c .before .p2 .given .1) at (c .before .before .before .before .before .read-part .ensures) in
+    part-refused (a .text .now) (a .at) (a .start) (a .store .now) (omega arith) _ (λ o. BadEscape (o + c .before .p2 .given .0 .0)) (w .0)
 
 same-length-3 : tie.Need-same-length-3
 same-length-3 c = search needs
 
 returns-3 : tie.Need-returns-3
-returns-3 c = part-closed (c .before .before .before .before .before .before .before .before .before .before .args .text .now) (c .before .before .before .before .before .before .before .before .before .before .args .at) (c .before .before .before .before .before .before .before .before .before .before .args .start) (c .before .before .before .before .before .before .before .before .before .before .args .store .now) (omega arith) _ (c .before .taken .given .0 .0) (c .before .taken .given .0 .1 .0) (rw (c .before .taken .given .1) at (c .before .before .before .before .before .read-part .ensures))
+returns-3 c = rw (c .link-of .ensures) (part-linked (closed (c .before .before)) (c .before .after-part .result) (c .before .after-part .ensures))
 
 pub string-part-spec : {M : Type 1} → statement M
 string-part-spec =
@@ -70,7 +103,9 @@ string-part-spec =
     enum-known-p-2
     add-t19
     enum-known-taken
-    add-t21
+    add-after-part
+    after-part-requires
+    link-of-requires
     same-length
     returns
     same-length-2

@@ -12,7 +12,9 @@ use Rattle.items.proofs.identifier.sort_of.Reads as sort-of-reads
 use Rattle.items.proofs.store.copy.Reads as copy-reads
 
 returns : tie.Need-returns
-returns c = key-over (c .before .before .before .args .text .now) (c .before .before .before .args .at) (c .before .before .before .args .start) (c .before .before .before .args .store .now) (c .if1 .taken)
+returns c =
+    let a = c .before .before .before .args in
+    key-over (a .text .now) (a .at) (a .start) (a .store .now) (c .if1 .taken)
 
 shared-slice-read-b : tie.Need-shared-slice-read-b
 shared-slice-read-b c = search needs
@@ -24,7 +26,12 @@ same-length : tie.Need-same-length
 same-length c = search needs
 
 returns-2 : tie.Need-returns-2
-returns-2 c = key-string (c .before .before .before .before .before .before .before .before .before .args .text .now) (c .before .before .before .before .before .before .before .before .before .args .at) (c .before .before .before .before .before .before .before .before .before .args .start) (c .before .before .before .before .before .before .before .before .before .args .store .now) (c .before .before .before .before .before .before .if1 .left) (rw (c .before .before .before .before .if2 .taken)) _ (c .before .before .string .result) (c .before .before .string .ensures)
+returns-2 c =
+    let a = c .before .before .before .before .before .before .before .before .before .args in
+    let if1 = c .before .before .before .before .before .before .if1 in
+    let if2 = c .before .before .before .before .if2 in
+    let string = c .before .before .string in
+    key-string (a .text .now) (a .at) (a .start) (a .store .now) (if1 .left) (rw (if2 .taken)) _ (string .result) (string .ensures)
 
 string-requires-2 : tie.Need-string-requires-2
 string-requires-2 c κs = search needs
@@ -33,7 +40,12 @@ same-length-2 : tie.Need-same-length-2
 same-length-2 c = search needs
 
 returns-3 : tie.Need-returns-3
-returns-3 c = key-string (c .before .before .before .before .before .before .before .before .before .before .args .text .now) (c .before .before .before .before .before .before .before .before .before .before .args .at) (c .before .before .before .before .before .before .before .before .before .before .args .start) (c .before .before .before .before .before .before .before .before .before .before .args .store .now) (c .before .before .before .before .before .before .before .if1 .left) (rw (c .before .before .before .before .if3 .taken)) _ (c .before .before .string2 .result) (c .before .before .string2 .ensures)
+returns-3 c =
+    let a = c .before .before .before .before .before .before .before .before .before .before .args in
+    let if1 = c .before .before .before .before .before .before .before .if1 in
+    let if3 = c .before .before .before .before .if3 in
+    let string2 = c .before .before .string2 in
+    key-string (a .text .now) (a .at) (a .start) (a .store .now) (if1 .left) (rw (if3 .taken)) _ (string2 .result) (string2 .ensures)
 
 sort-of-requires : tie.Need-sort-of-requires
 sort-of-requires c κs = search needs
@@ -60,16 +72,39 @@ sub-t20 : tie.Need-sub-t20
 sub-t20 c = search needs
 
 returns-4 : tie.Need-returns-4
-returns-4 c = key-none (c .before .before .before .before .before .before .before .before .before .args .text .now) (c .before .before .before .before .before .before .before .before .before .args .at) (c .before .before .before .before .before .before .before .before .before .args .start) (c .before .before .before .before .before .before .before .before .before .args .store .now) (c .before .before .before .before .before .before .if1 .left) (c .before .before .before .before .before .before .before .before .before .pre .2) (c .before .before .before .before .if2 .left) (c .before .before .before .if3 .left) (neither-letter (getD (c .before .before .before .before .before .before .before .before .before .args .text .now) (c .before .before .before .before .before .before .before .before .before .args .at) 0) (rw (c .enum-told .given .1) at (c .before .before .sort-of .ensures)))
+returns-4 c =
+    let a = c .before .before .before .before .before .before .before .before .before .args in
+    let pre = c .before .before .before .before .before .before .before .before .before .pre in
+    let if1 = c .before .before .before .before .before .before .if1 in
+    let if2 = c .before .before .before .before .if2 in
+    key-none (a .text .now) (a .at) (a .start) (a .store .now) (if1 .left) (pre .2) (if2 .left)
+    (c .before .before .before .if3 .left)
+    (neither-letter (getD (a .text .now) (a .at) 0) (rw (c .enum-told .given .1) at (c .before .before .sort-of .ensures)))
 
 returns-5 : tie.Need-returns-5
-returns-5 c = key-none (c .before .before .before .before .before .before .before .before .before .args .text .now) (c .before .before .before .before .before .before .before .before .before .args .at) (c .before .before .before .before .before .before .before .before .before .args .start) (c .before .before .before .before .before .before .before .before .before .args .store .now) (c .before .before .before .before .before .before .if1 .left) (c .before .before .before .before .before .before .before .before .before .pre .2) (c .before .before .before .before .if2 .left) (c .before .before .before .if3 .left) (figure-letter (getD (c .before .before .before .before .before .before .before .before .before .args .text .now) (c .before .before .before .before .before .before .before .before .before .args .at) 0) (rw (c .enum-told2 .given .1) at (c .before .before .sort-of .ensures)))
+returns-5 c =
+    let a = c .before .before .before .before .before .before .before .before .before .args in
+    let pre = c .before .before .before .before .before .before .before .before .before .pre in
+    let if1 = c .before .before .before .before .before .before .if1 in
+    let if2 = c .before .before .before .before .if2 in
+    key-none (a .text .now) (a .at) (a .start) (a .store .now) (if1 .left) (pre .2) (if2 .left)
+    (c .before .before .before .if3 .left)
+    (figure-letter (getD (a .text .now) (a .at) 0) (rw (c .enum-told2 .given .1) at (c .before .before .sort-of .ensures)))
 
 same-length-3 : tie.Need-same-length-3
 same-length-3 c = search needs
 
 returns-6 : tie.Need-returns-6
-returns-6 c = key-named (c .before .before .before .before .before .before .before .before .before .before .before .before .before .before .args .text .now) (c .before .before .before .before .before .before .before .before .before .before .before .before .before .before .args .at) (c .before .before .before .before .before .before .before .before .before .before .before .before .before .before .args .start) (c .before .before .before .before .before .before .before .before .before .before .before .before .before .before .args .store .now) (c .before .before .before .before .before .before .before .before .before .before .before .if1 .left) (rw (c .before .before .before .before .before .enum-told3 .given .1) at (c .before .before .before .before .before .before .before .sort-of .ensures)) (c .before .before .before .before .name-end .result) (c .before .before .before .before .name-end .ensures) _ (c .before .before .copy .ensures)
+returns-6 c =
+    let back = c .before .before .before .before .before .before .before .before .before .before .before .before in
+    let a = back .before .before .args in
+    let if1 = c .before .before .before .before .before .before .before .before .before .before .before .if1 in
+    let sort-of = c .before .before .before .before .before .before .before .sort-of in
+    let enum-told3 = c .before .before .before .before .before .enum-told3 in
+    let name-end = c .before .before .before .before .name-end in
+    key-named (a .text .now) (a .at) (a .start) (a .store .now) (if1 .left)
+    (rw (enum-told3 .given .1) at (sort-of .ensures)) (name-end .result) (name-end .ensures) _
+    (c .before .before .copy .ensures)
 
 pub key-spec : {M : Type 1} → statement M
 key-spec =

@@ -29,13 +29,18 @@ enum-told : tie.Need-enum-told Inv-loop μ-loop
 enum-told c = search needs
 
 returns : tie.Need-returns Inv-loop μ-loop
-returns c = let e = rw (c .enum-told .given .1) at (c .before .before .comment-at .ensures) in layout-stop (c .before .before .before .before .loop .inv) (e .0) (e .1)
+returns c =
+    let l = c .before .before .before .before .loop in
+    let e = rw (c .enum-told .given .1) at (c .before .before .comment-at .ensures) in
+    layout-stop (l .inv) (e .0) (e .1)
 
 enum-known-p : tie.Need-enum-known-p Inv-loop μ-loop
 enum-known-p c = search needs
 
 returns-2 : tie.Need-returns-2 Inv-loop μ-loop
-returns-2 c = laid-breaks (c .before .before .before .before .before .loop .inv) (rw (c .before .p .given .1) at (c .before .before .before .comment-at .ensures))
+returns-2 c =
+    let l = c .before .before .before .before .before .loop in
+    laid-breaks (l .inv) (rw (c .before .p .given .1) at (c .before .before .before .comment-at .ensures))
 
 enum-known-p-2 : tie.Need-enum-known-p-2 Inv-loop μ-loop
 enum-known-p-2 c = search needs
@@ -44,10 +49,17 @@ blanks-requires-2 : tie.Need-blanks-requires-2 Inv-loop μ-loop
 blanks-requires-2 c κs = let e = rw (c .before .p2 .given .1) at (c .before .before .before .comment-at .ensures) in e .0 .onward .within
 
 loop-less : tie.Need-loop-less Inv-loop μ-loop
-loop-less c = let e = rw (c .before .before .p2 .given .1) at (c .before .before .before .before .comment-at .ensures) in omega (arith, e .1, e .0 .onward .within, c .blanks2 .ensures .onward .behind)
+loop-less c =
+    let comment-at = c .before .before .before .before .comment-at in
+    let e = rw (c .before .before .p2 .given .1) at (comment-at .ensures) in
+    omega (arith, e .1, e .0 .onward .within, c .blanks2 .ensures .onward .behind)
 
 loop-again : tie.Need-loop-again Inv-loop μ-loop
-loop-again c = let e = rw (c .before .before .p2 .given .1) at (c .before .before .before .before .comment-at .ensures) in laid-more (c .before .before .before .before .before .before .loop .inv) (e .0) (c .blanks2 .ensures)
+loop-again c =
+    let l = c .before .before .before .before .before .before .loop in
+    let comment-at = c .before .before .before .before .comment-at in
+    let e = rw (c .before .before .p2 .given .1) at (comment-at .ensures) in
+    laid-more (l .inv) (e .0) (c .blanks2 .ensures)
 
 returns-3 : tie.Need-returns-3 Inv-loop μ-loop
 returns-3 c = layout-end (c .before .loop .inv) (omega arith)

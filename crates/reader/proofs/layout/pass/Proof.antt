@@ -35,7 +35,14 @@ returns-4 : tie.Need-returns-4
 returns-4 c = search needs
 
 returns-5 : tie.Need-returns-5
-returns-5 c = layout-stop (laying (blanks-stop (none-yet (c .before .before .before .before .before .before .args .from) (c .before .before .before .before .before .before .pre)) (not-blank (getD (c .before .before .before .before .before .before .args .text .now) (c .before .before .before .before .before .before .args .from) 0) (omega arith) (omega arith) (omega arith) (omega arith)))) (not-hash _ (c .before .if3 .left)) (not-slash _ (c .if4 .left))
+returns-5 c =
+    let a = c .before .before .before .before .before .before .args in
+    let pre = c .before .before .before .before .before .before .pre in
+    layout-stop
+    (laying
+    (blanks-stop (none-yet (a .from) pre)
+    (not-blank (getD (a .text .now) (a .from) 0) (omega arith) (omega arith) (omega arith) (omega arith))))
+    (not-hash _ (c .before .if3 .left)) (not-slash _ (c .if4 .left))
 
 pub pass-spec : {M : Type 1} → statement M
 pass-spec =

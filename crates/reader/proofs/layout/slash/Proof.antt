@@ -35,7 +35,9 @@ returns-3 : tie.Need-returns-3
 returns-3 c = says-then (slash-block (omega arith) (c .before .if3 .taken)) (c .block .result) (c .block .ensures)
 
 returns-4 : tie.Need-returns-4
-returns-4 c = slash-breaks (c .before .before .before .before .before .args .text .now) (c .before .before .before .before .before .args .at) (omega arith) (c .before .if2 .left) (c .if3 .left)
+returns-4 c =
+    let a = c .before .before .before .before .before .args in
+    slash-breaks (a .text .now) (a .at) (omega arith) (c .before .if2 .left) (c .if3 .left)
 
 pub slash-spec : {M : Type 1} → statement M
 slash-spec =

@@ -16,7 +16,11 @@ enum-known-at : tie.Need-enum-known-at
 enum-known-at c = search needs
 
 returns : tie.Need-returns
-returns c = after-end (c .before .before .before .before .before .before .args .text .now) (c .before .before .before .before .before .before .args .self) (c .before .before .before .before .before .before .args .closing) (c .before .before .at .given .0 .0) (rw (c .before .before .at .given .1) at (c .before .before .before .before .pass .ensures)) (c .if1 .taken)
+returns c =
+    let a = c .before .before .before .before .before .before .args in
+    let pass = c .before .before .before .before .pass in
+    let at' = c .before .before .at in
+    after-end (a .text .now) (a .self) (a .closing) (at' .given .0 .0) (rw (at' .given .1) at (pass .ensures)) (c .if1 .taken)
 
 shared-slice-read-b : tie.Need-shared-slice-read-b
 shared-slice-read-b c = search needs
@@ -25,19 +29,37 @@ add-t15 : tie.Need-add-t15
 add-t15 c = search needs
 
 returns-2 : tie.Need-returns-2
-returns-2 c = after-comma (c .before .before .before .before .before .before .before .before .args .text .now) (c .before .before .before .before .before .before .before .before .args .self) (c .before .before .before .before .before .before .before .before .args .closing) (c .before .before .before .before .at .given .0 .0) (rw (c .before .before .before .before .at .given .1) at (c .before .before .before .before .before .before .pass .ensures)) (c .before .before .if1 .left) (c .if2 .taken)
+returns-2 c =
+    let a = c .before .before .before .before .before .before .before .before .args in
+    let pass = c .before .before .before .before .before .before .pass in
+    let at' = c .before .before .before .before .at in
+    after-comma (a .text .now) (a .self) (a .closing) (at' .given .0 .0) (rw (at' .given .1) at (pass .ensures))
+    (c .before .before .if1 .left) (c .if2 .taken)
 
 add-t17 : tie.Need-add-t17
 add-t17 c = search needs
 
 returns-3 : tie.Need-returns-3
-returns-3 c = after-close (c .before .before .before .before .before .before .before .before .before .args .text .now) (c .before .before .before .before .before .before .before .before .before .args .self) (c .before .before .before .before .before .before .before .before .before .args .closing) (c .before .before .before .before .before .at .given .0 .0) (rw (c .before .before .before .before .before .at .given .1) at (c .before .before .before .before .before .before .before .pass .ensures)) (c .before .before .before .if1 .left) (c .if3 .taken)
+returns-3 c =
+    let a = c .before .before .before .before .before .before .before .before .before .args in
+    let pass = c .before .before .before .before .before .before .before .pass in
+    let at' = c .before .before .before .before .before .at in
+    after-close (a .text .now) (a .self) (a .closing) (at' .given .0 .0) (rw (at' .given .1) at (pass .ensures))
+    (c .before .before .before .if1 .left) (c .if3 .taken)
 
 returns-4 : tie.Need-returns-4
-returns-4 c = after-broken (c .before .before .before .before .before .args .text .now) (c .before .before .before .before .before .args .self) (c .before .before .before .before .before .args .closing) (c .before .p .given .0 .0) (rw (c .before .p .given .1) at (c .before .before .before .pass .ensures))
+returns-4 c =
+    let a = c .before .before .before .before .before .args in
+    after-broken (a .text .now) (a .self) (a .closing) (c .before .p .given .0 .0)
+    (rw (c .before .p .given .1) at (c .before .before .before .pass .ensures))
 
 returns-5 : tie.Need-returns-5
-returns-5 c = after-wrong (c .before .before .before .before .before .before .before .before .before .args .text .now) (c .before .before .before .before .before .before .before .before .before .args .self) (c .before .before .before .before .before .before .before .before .before .args .closing) (c .before .before .before .before .before .at .given .0 .0) (rw (c .before .before .before .before .before .at .given .1) at (c .before .before .before .before .before .before .before .pass .ensures)) (c .before .before .before .if1 .left) (c .before .if2 .left) (c .if3 .left)
+returns-5 c =
+    let a = c .before .before .before .before .before .before .before .before .before .args in
+    let pass = c .before .before .before .before .before .before .before .pass in
+    let at' = c .before .before .before .before .before .at in
+    after-wrong (a .text .now) (a .self) (a .closing) (at' .given .0 .0) (rw (at' .given .1) at (pass .ensures))
+    (c .before .before .before .if1 .left) (c .before .if2 .left) (c .if3 .left)
 
 pub after-spec : {M : Type 1} → statement M
 after-spec =

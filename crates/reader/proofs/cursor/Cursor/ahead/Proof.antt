@@ -16,7 +16,11 @@ enum-known-at : tie.Need-enum-known-at
 enum-known-at c = search needs
 
 returns : tie.Need-returns
-returns c = ahead-end (c .before .before .before .before .before .before .args .text .now) (c .before .before .before .before .before .before .args .self) (c .before .before .before .before .before .before .args .closing) (c .before .before .at .given .0 .0) (rw (c .before .before .at .given .1) at (c .before .before .before .before .pass .ensures)) (c .if1 .taken)
+returns c =
+    let a = c .before .before .before .before .before .before .args in
+    let pass = c .before .before .before .before .pass in
+    let at' = c .before .before .at in
+    ahead-end (a .text .now) (a .self) (a .closing) (at' .given .0 .0) (rw (at' .given .1) at (pass .ensures)) (c .if1 .taken)
 
 shared-slice-read-if2 : tie.Need-shared-slice-read-if2
 shared-slice-read-if2 c = search needs
@@ -25,13 +29,26 @@ add-t14 : tie.Need-add-t14
 add-t14 c = search needs
 
 returns-2 : tie.Need-returns-2
-returns-2 c = ahead-close (c .before .before .before .before .before .before .before .before .args .text .now) (c .before .before .before .before .before .before .before .before .args .self) (c .before .before .before .before .before .before .before .before .args .closing) (c .before .before .before .before .at .given .0 .0) (rw (c .before .before .before .before .at .given .1) at (c .before .before .before .before .before .before .pass .ensures)) (c .before .before .if1 .left) (c .if2 .taken)
+returns-2 c =
+    let a = c .before .before .before .before .before .before .before .before .args in
+    let pass = c .before .before .before .before .before .before .pass in
+    let at' = c .before .before .before .before .at in
+    ahead-close (a .text .now) (a .self) (a .closing) (at' .given .0 .0) (rw (at' .given .1) at (pass .ensures))
+    (c .before .before .if1 .left) (c .if2 .taken)
 
 returns-3 : tie.Need-returns-3
-returns-3 c = ahead-broken (c .before .before .before .before .before .args .text .now) (c .before .before .before .before .before .args .self) (c .before .before .before .before .before .args .closing) (c .before .p .given .0 .0) (rw (c .before .p .given .1) at (c .before .before .before .pass .ensures))
+returns-3 c =
+    let a = c .before .before .before .before .before .args in
+    ahead-broken (a .text .now) (a .self) (a .closing) (c .before .p .given .0 .0)
+    (rw (c .before .p .given .1) at (c .before .before .before .pass .ensures))
 
 returns-4 : tie.Need-returns-4
-returns-4 c = ahead-more (c .before .before .before .before .before .before .before .before .args .text .now) (c .before .before .before .before .before .before .before .before .args .self) (c .before .before .before .before .before .before .before .before .args .closing) (c .before .before .before .before .at .given .0 .0) (rw (c .before .before .before .before .at .given .1) at (c .before .before .before .before .before .before .pass .ensures)) (c .before .before .if1 .left) (c .if2 .left)
+returns-4 c =
+    let a = c .before .before .before .before .before .before .before .before .args in
+    let pass = c .before .before .before .before .before .before .pass in
+    let at' = c .before .before .before .before .at in
+    ahead-more (a .text .now) (a .self) (a .closing) (at' .given .0 .0) (rw (at' .given .1) at (pass .ensures))
+    (c .before .before .if1 .left) (c .if2 .left)
 
 pub ahead-spec : {M : Type 1} → statement M
 ahead-spec =

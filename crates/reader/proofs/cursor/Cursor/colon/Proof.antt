@@ -16,13 +16,22 @@ enum-known-at : tie.Need-enum-known-at
 enum-known-at c = search needs
 
 returns : tie.Need-returns
-returns c = colon-end (c .before .before .before .before .before .before .args .text .now) (c .before .before .before .before .before .before .args .self) (c .before .before .before .before .before .before .args .n) (c .before .before .at .given .0 .0) (rw (c .before .before .at .given .1) at (c .before .before .before .before .pass .ensures)) (c .if1 .taken)
+returns c =
+    let a = c .before .before .before .before .before .before .args in
+    let pass = c .before .before .before .before .pass in
+    let at' = c .before .before .at in
+    colon-end (a .text .now) (a .self) (a .n) (at' .given .0 .0) (rw (at' .given .1) at (pass .ensures)) (c .if1 .taken)
 
 shared-slice-read-if2 : tie.Need-shared-slice-read-if2
 shared-slice-read-if2 c = search needs
 
 returns-2 : tie.Need-returns-2
-returns-2 c = colon-wrong (c .before .before .before .before .before .before .before .before .args .text .now) (c .before .before .before .before .before .before .before .before .args .self) (c .before .before .before .before .before .before .before .before .args .n) (c .before .before .before .before .at .given .0 .0) (rw (c .before .before .before .before .at .given .1) at (c .before .before .before .before .before .before .pass .ensures)) (c .before .before .if1 .left) (c .if2 .taken)
+returns-2 c =
+    let a = c .before .before .before .before .before .before .before .before .args in
+    let pass = c .before .before .before .before .before .before .pass in
+    let at' = c .before .before .before .before .at in
+    colon-wrong (a .text .now) (a .self) (a .n) (at' .given .0 .0) (rw (at' .given .1) at (pass .ensures))
+    (c .before .before .if1 .left) (c .if2 .taken)
 
 add-pass : tie.Need-add-pass
 add-pass c = search needs
@@ -37,13 +46,31 @@ enum-known-next : tie.Need-enum-known-next
 enum-known-next c = search needs
 
 returns-3 : tie.Need-returns-3
-returns-3 c = colon-broken (c .before .before .before .before .before .args .text .now) (c .before .before .before .before .before .args .self) (c .before .before .before .before .before .args .n) (c .before .p .given .0 .0) (rw (c .before .p .given .1) at (c .before .before .before .pass .ensures))
+returns-3 c =
+    let a = c .before .before .before .before .before .args in
+    colon-broken (a .text .now) (a .self) (a .n) (c .before .p .given .0 .0)
+    (rw (c .before .p .given .1) at (c .before .before .before .pass .ensures))
 
 returns-4 : tie.Need-returns-4
-returns-4 c = colon-breaks (c .before .before .before .before .before .before .before .before .before .before .before .before .args .text .now) (c .before .before .before .before .before .before .before .before .before .before .before .before .args .self) (c .before .before .before .before .before .before .before .before .before .before .before .before .args .n) (c .before .before .before .before .before .before .before .before .at .given .0 .0) (rw (c .before .before .before .before .before .before .before .before .at .given .1) at (c .before .before .before .before .before .before .before .before .before .before .pass .ensures)) (c .before .before .before .before .before .before .if1 .left) (c .before .before .before .before .if2 .left) (c .before .p2 .given .0 .0) (rw (c .before .p2 .given .1) at (c .before .before .before .pass2 .ensures))
+returns-4 c =
+    let a = c .before .before .before .before .before .before .before .before .before .before .before .before .args in
+    let pass = c .before .before .before .before .before .before .before .before .before .before .pass in
+    let at' = c .before .before .before .before .before .before .before .before .at in
+    let if1 = c .before .before .before .before .before .before .if1 in
+    let if2 = c .before .before .before .before .if2 in
+    colon-breaks (a .text .now) (a .self) (a .n) (at' .given .0 .0) (rw (at' .given .1) at (pass .ensures)) (if1 .left)
+    (if2 .left) (c .before .p2 .given .0 .0) (rw (c .before .p2 .given .1) at (c .before .before .before .pass2 .ensures))
 
 returns-5 : tie.Need-returns-5
-returns-5 c = colon-key (c .before .before .before .before .before .before .before .before .before .before .before .before .args .text .now) (c .before .before .before .before .before .before .before .before .before .before .before .before .args .self) (c .before .before .before .before .before .before .before .before .before .before .before .before .args .n) (c .before .before .before .before .before .before .before .before .at .given .0 .0) (rw (c .before .before .before .before .before .before .before .before .at .given .1) at (c .before .before .before .before .before .before .before .before .before .before .pass .ensures)) (c .before .before .before .before .before .before .if1 .left) (c .before .before .before .before .if2 .left) (c .before .next .given .0 .0) (rw (c .before .next .given .1) at (c .before .before .before .pass2 .ensures))
+returns-5 c =
+    let a = c .before .before .before .before .before .before .before .before .before .before .before .before .args in
+    let pass = c .before .before .before .before .before .before .before .before .before .before .pass in
+    let at' = c .before .before .before .before .before .before .before .before .at in
+    let if1 = c .before .before .before .before .before .before .if1 in
+    let if2 = c .before .before .before .before .if2 in
+    colon-key (a .text .now) (a .self) (a .n) (at' .given .0 .0) (rw (at' .given .1) at (pass .ensures)) (if1 .left)
+    (if2 .left) (c .before .next .given .0 .0)
+    (rw (c .before .next .given .1) at (c .before .before .before .pass2 .ensures))
 
 pub colon-spec : {M : Type 1} → statement M
 colon-spec =

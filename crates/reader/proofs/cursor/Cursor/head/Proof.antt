@@ -20,13 +20,17 @@ add-t14 : tie.Need-add-t14
 add-t14 c = search needs
 
 returns-2 : tie.Need-returns-2
-returns-2 c = (opens-array (c .before .before .before .before .before .args .text .now) (c .before .before .before .before .before .args .self) (c .before .before .if1 .left) (c .if2 .taken), refl)
+returns-2 c =
+    let a = c .before .before .before .before .before .args in
+    (opens-array (a .text .now) (a .self) (c .before .before .if1 .left) (c .if2 .taken), refl)
 
 add-t16 : tie.Need-add-t16
 add-t16 c = search needs
 
 returns-3 : tie.Need-returns-3
-returns-3 c = (opens-object (c .before .before .before .before .before .before .args .text .now) (c .before .before .before .before .before .before .args .self) (c .before .before .before .if1 .left) (c .if3 .taken), refl)
+returns-3 c =
+    let a = c .before .before .before .before .before .before .args in
+    (opens-object (a .text .now) (a .self) (c .before .before .before .if1 .left) (c .if3 .taken), refl)
 
 scalar-requires : tie.Need-scalar-requires
 scalar-requires c κs = search needs
@@ -44,7 +48,13 @@ stored-by-requires : tie.Need-stored-by-requires
 stored-by-requires c κs = search needs
 
 add-t24 : tie.Need-add-t24
-add-t24 c = let w = rw (c .before .before .before .before .item .given .1) at (c .before .before .before .before .before .before .before .before .scalar .ensures) in omega (arith, w .room, w .counted, w .within, c .before .stored-by .ensures, c .before .before .before .before .before .before .before .before .before .before .before .before .before .before .before .before .pre .ready .stored)
+add-t24 c =
+    let back = c .before .before .before .before .before .before .before .before .before .before .before .before in
+    let pre = back .before .before .before .before .pre in
+    let scalar = c .before .before .before .before .before .before .before .before .scalar in
+    let item = c .before .before .before .before .item in
+    let w = rw (item .given .1) at (scalar .ensures) in
+    omega (arith, w .room, w .counted, w .within, c .before .stored-by .ensures, pre .ready .stored)
 
 same-length : tie.Need-same-length
 same-length c = search needs
@@ -56,7 +66,13 @@ same-length-2 : tie.Need-same-length-2
 same-length-2 c = search needs
 
 returns-5 : tie.Need-returns-5
-returns-5 c = let w = rw (c .before .before .before .before .item .given .1) at (c .before .before .before .before .before .before .before .before .scalar .ensures) in record { scalar = w; records = refl; stored = ap (λ n. c .before .before .before .before .before .before .before .before .before .before .before .before .before .before .before .before .args .self .stored + n) (c .before .stored-by .ensures) }
+returns-5 c =
+    let back = c .before .before .before .before .before .before .before .before .before .before .before .before in
+    let a = back .before .before .before .before .args in
+    let scalar' = c .before .before .before .before .before .before .before .before .scalar in
+    let item = c .before .before .before .before .item in
+    let w = rw (item .given .1) at (scalar' .ensures) in
+    record { scalar = w; records = refl; stored = ap (λ n. a .self .stored + n) (c .before .stored-by .ensures) }
 
 pub head-spec : {M : Type 1} → statement M
 head-spec =
