@@ -81,7 +81,7 @@ module _ (text : List ℕ) (p start : ℕ) (entry : List ℕ) (h : p ≤ length 
       → Unlinked Strings.scan Strings.begin text p start entry exit (why p)
   part-refused exit why w = in-part (ap (ran Strings.scan p Strings.begin) (sym (part-here text p)) ∙ w p)
 
-  pub part-closed : (exit : List ℕ) (taken n : ℕ) → PartSays (take (length text - p) (drop p text)) start entry exit (Part.Closed taken n)
+  pub part-closed : (exit : List ℕ) (taken n : ℕ) → PartSays (take (length text - p) (drop p text)) start entry exit (Part.Closed n taken)
       → Ended Strings.scan Strings.begin text p start entry exit (p + taken) n
   part-closed exit taken n w =
       let l = part-length text p in

@@ -84,7 +84,7 @@ fn string_part(text: &[u8], at: usize, store: &mut [u8], start: usize) -> Link
     match string_part::read_part(&text[at..], store, start) {
         Part::NotGrammar(p) => Link::Refused(Refusal::NotGrammar(at + p)),
         Part::BadEscape(p) => Link::Refused(Refusal::BadEscape(at + p)),
-        Part::Closed { taken, bytes } => link_of(bytes, after_part(text, at + taken)),
+        Part::Closed { bytes, taken } => link_of(bytes, after_part(text, at + taken)),
     }
 }
 
@@ -96,7 +96,7 @@ fn binary_part(text: &[u8], at: usize, store: &mut [u8], start: usize) -> Link
 {
     match binary_part::read_part(text, at, store, start) {
         Piece::NotGrammar(p) => Link::Refused(Refusal::NotGrammar(p)),
-        Piece::Closed { end, bytes } => link_of(bytes, after_part(text, end)),
+        Piece::Closed { bytes, end } => link_of(bytes, after_part(text, end)),
     }
 }
 

@@ -15,11 +15,11 @@ read-part-requires c κs = search needs
 enum-known-p : tie.Need-enum-known-p
 enum-known-p c = search needs
 
-enum-known-end : tie.Need-enum-known-end
-enum-known-end c = search needs
+enum-known-bytes : tie.Need-enum-known-bytes
+enum-known-bytes c = search needs
 
 after-part-requires : tie.Need-after-part-requires
-after-part-requires c κs = let w = rw (c .before .end .given .1) at (c .before .before .before .before .before .read-part .ensures) in w .within
+after-part-requires c κs = let w = rw (c .before .bytes .given .1) at (c .before .before .before .before .before .read-part .ensures) in w .within
 
 link-of-requires : tie.Need-link-of-requires
 link-of-requires c κs = search needs
@@ -35,7 +35,7 @@ same-length-2 c = search needs
 
 returns-2 : tie.Need-returns-2
 returns-2 c =
-    let w = rw (c .before .before .before .end .given .1) at (c .before .before .before .before .before .before .before .read-part .ensures) in
+    let w = rw (c .before .before .before .bytes .given .1) at (c .before .before .before .before .before .before .before .read-part .ensures) in
     rw (c .link-of .ensures) (part-linked w (c .before .after-part .result) (c .before .after-part .ensures))
 
 pub binary-part-spec : {M : Type 1} → statement M
@@ -44,7 +44,7 @@ binary-part-spec =
     (tie.spec
     read-part-requires
     enum-known-p
-    enum-known-end
+    enum-known-bytes
     after-part-requires
     link-of-requires
     same-length

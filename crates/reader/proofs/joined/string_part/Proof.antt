@@ -43,18 +43,18 @@ add-t19 c =
     let w = rw (c .before .p2 .given .1) at (c .before .before .before .before .before .read-part .ensures) in
     omega (arith, w .1, part-length (a .text .now) (a .at))
 
-enum-known-taken : tie.Need-enum-known-taken
-enum-known-taken c = search needs
+enum-known-bytes : tie.Need-enum-known-bytes
+enum-known-bytes c = search needs
 
 -- a part has been read
 closed : (c : tie.After-known-told3) → (
     let a = c .before .before .before .before .before .before .before .before .before .before .args in
-    let r = c .before .taken .given .0 in
+    let r = c .before .bytes .given .0 in
     let exit = c .before .before .before .before .before .read-part .last .1 .0 in
-    Ended Strings.scan Strings.begin (a .text .now) (a .at) (a .start) (a .store .now) exit (a .at + r .0) (r .1 .0))
+    Ended Strings.scan Strings.begin (a .text .now) (a .at) (a .start) (a .store .now) exit (a .at + r .1 .0) (r .0))
 closed c =
     let a = c .before .before .before .before .before .before .before .before .before .before .args in
-    let w = rw (c .before .taken .given .1) at (c .before .before .before .before .before .read-part .ensures) in
+    let w = rw (c .before .bytes .given .1) at (c .before .before .before .before .before .read-part .ensures) in
     part-closed (a .text .now) (a .at) (a .start) (a .store .now) (omega arith) _ _ _ w
 
 add-after-part : tie.Need-add-after-part
@@ -102,7 +102,7 @@ string-part-spec =
     add-t17
     enum-known-p-2
     add-t19
-    enum-known-taken
+    enum-known-bytes
     add-after-part
     after-part-requires
     link-of-requires
