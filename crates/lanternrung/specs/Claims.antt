@@ -36,9 +36,10 @@ use Rattle.lanternrung.specs.Told.{Utf8Told, DateTold, MeasureTold, Read
 
 -- ---- reading
 
--- unambiguous: the grammar gives no text two meanings
-abbrev pub Unambiguous : Type 0
-Unambiguous = {text : List ℕ} {m n : Meaning} → Text true text m → Text true text n → m ≡ n
+-- unambiguous: the grammar gives no text two meanings; one-refusal: nor two refusals
+pub record OneReading : Type 0 where
+  pub meaning : {text : List ℕ} {m n : Meaning} → Text true text m → Text true text n → m ≡ n
+  pub refusal : {text : List ℕ} {v w : Refusal} → Text-refused text v → Text-refused text w → v ≡ w
 
 -- the answer is done, and not a refusal
 abbrev pub Counted : Answer → Type 0
@@ -79,10 +80,6 @@ pub record Refusals : Type 0 where
       → (a ≡ Answer.Refused why) ↔ Text-refused text why
   pub read : {text tape store : List ℕ} {a : Answer} {tape' store' : List ℕ} {why : Refusal}
       → Reads text tape store a tape' store' → numberOf why ≤ 7 → (a ≡ Answer.Refused why) ↔ Text-refused text why
-
--- one-refusal: two refusals that the grammar gives a text are one
-abbrev pub OneRefusal : Type 0
-OneRefusal = {text : List ℕ} {v w : Refusal} → Text-refused text v → Text-refused text w → v ≡ w
 
 -- bounded: for every accepted text, records and store bytes are each at most its length
 abbrev pub Within : List ℕ → ℕ → ℕ → Type 0
@@ -176,13 +173,13 @@ pub record Untouched : Type 0 where
 
 -- what P allows is one: an answer; an answer and the bytes left in one buffer, or in two
 abbrev pub Single : {A : Type 0} → (A → Type 0) → Type 0
-Single {A} P = {a b : A} → P a → P b → a ≡ b
+Single {A} P = (a b : A) → P a → P b → a ≡ b
 
 abbrev pub Single₁ : {A : Type 0} → (A → List ℕ → Type 0) → Type 0
-Single₁ {A} P = {a b : A} {x y : List ℕ} → P a x → P b y → (a ≡ b) × (x ≡ y)
+Single₁ {A} P = (a b : A) (x y : List ℕ) → P a x → P b y → (a ≡ b) × (x ≡ y)
 
 abbrev pub Single₂ : {A : Type 0} → (A → List ℕ → List ℕ → Type 0) → Type 0
-Single₂ {A} P = {a b : A} {t u s v : List ℕ} → P a t s → P b u v → (a ≡ b) × (t ≡ u) × (s ≡ v)
+Single₂ {A} P = (a b : A) (t u s v : List ℕ) → P a t s → P b u v → (a ≡ b) × (t ≡ u) × (s ≡ v)
 
 -- one-outcome-..: of the outcomes that the promise of a call allows for an input, answer and all final bytes, there is
 -- one

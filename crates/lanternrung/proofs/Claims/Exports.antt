@@ -50,13 +50,13 @@ one-outcome-c-write-json p q = let e = one-outcome-write-json (p .allowed) (q .a
 pub one-outcome-c : OneOutcomeC
 one-outcome-c =
     record {
-      utf8 = λ s p q. one-outcome-c-utf8 p q;
-      date = λ year month day p q. one-outcome-c-date p q;
-      measure = λ text p q. one-outcome-c-measure p q;
-      read = λ text tape store p q. one-outcome-c-read p q;
-      look = λ tape store index p q. one-outcome-c-look p q;
-      write-jaxn = λ tape store out p q. one-outcome-c-write-jaxn p q;
-      write-json = λ tape store out p q. one-outcome-c-write-json p q;
+      utf8 = λ s a b p q. one-outcome-c-utf8 p q;
+      date = λ year month day a b p q. one-outcome-c-date p q;
+      measure = λ text a b p q. one-outcome-c-measure p q;
+      read = λ text tape store a b t u s v p q. one-outcome-c-read p q;
+      look = λ tape store index a b p q. one-outcome-c-look p q;
+      write-jaxn = λ tape store out a b x y p q. one-outcome-c-write-jaxn p q;
+      write-json = λ tape store out a b x y p q. one-outcome-c-write-json p q;
     }
 
 -- ---- where `refused` is 0 the library's answer is done, with these counts; where it is not, each lent buffer is as it was

@@ -58,11 +58,11 @@ one-outcome-write-json = writer.one-outcome-json
 pub one-outcome : OneOutcome
 one-outcome =
     record {
-      utf8 = λ s p q. one-outcome-utf8 p q;
-      date = λ year month day p q. one-outcome-date p q;
-      measure = λ text p q. one-outcome-measure text p q;
-      read = λ text tape store p q. one-outcome-read p q;
-      look = λ tape store index p q. one-outcome-look p q;
-      write-jaxn = λ tape store out p q. one-outcome-write-jaxn p q;
-      write-json = λ tape store out p q. one-outcome-write-json p q;
+      utf8 = λ s a b p q. one-outcome-utf8 p q;
+      date = λ year month day a b p q. one-outcome-date p q;
+      measure = λ text a b p q. one-outcome-measure text p q;
+      read = λ text tape store a b t u s v p q. one-outcome-read p q;
+      look = λ tape store index a b p q. one-outcome-look p q;
+      write-jaxn = λ tape store out a b x y p q. one-outcome-write-jaxn p q;
+      write-json = λ tape store out a b x y p q. one-outcome-write-json p q;
     }

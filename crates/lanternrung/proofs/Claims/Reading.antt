@@ -23,11 +23,11 @@ use Rattle.machine.proofs.Refusals.Whole as machine-refusals
 use Rattle.reader.specs.declared.Answer.{Answer}
 use Rattle.reader.specs.Answers.{tapeBytes, Measures, Reads}
 use Rattle.reader.proofs.Claims as reader
-use Rattle.lanternrung.specs.Claims.{Unambiguous, Counted, Takes, Holds, Accepted, SizesOf, Measured, Refusals, OneRefusal, Within, Bounded}
+use Rattle.lanternrung.specs.Claims.{OneReading, Counted, Takes, Holds, Accepted, SizesOf, Measured, Refusals, Within, Bounded}
 
 -- ---- unambiguous: the grammar gives no text two meanings
 
-pub unambiguous : Unambiguous
+pub unambiguous : {text : List ℕ} {m n : Meaning} → Text true text m → Text true text n → m ≡ n
 unambiguous = machine.unambiguous
 
 -- ---- accepted
@@ -93,8 +93,11 @@ refusals =
     }
 
 -- two refusals that the grammar gives a text are one
-pub one-refusal : OneRefusal
+pub one-refusal : {text : List ℕ} {v w : Refusal} → Text-refused text v → Text-refused text w → v ≡ w
 one-refusal = machine-refusals.one-text-refusal
+
+pub one-reading : OneReading
+one-reading = record { meaning = unambiguous; refusal = one-refusal }
 
 -- ---- bounded: for every accepted text, records and store bytes are each at most its length
 
