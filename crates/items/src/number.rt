@@ -16,7 +16,8 @@ ghost use Rattle.machine.specs.Numeric as Numeric;
 ghost use Rattle.machine.specs.Numeric.{dig};
 ghost use Rattle.items.specs.declared.Item.the-variants as Item;
 ghost use Rattle.items.specs.declared.Scanned.the-variants as Scanned;
-ghost use Rattle.items.specs.Between.NumberOrTime.{Reads, IsDigit, Place, Edge, Holds, Shifted, Digited, Capped, Powered, Ready, From, Settles, PlainSays, EndsSays, Hexed};
+ghost use Rattle.items.specs.Between.NumberOrTime.{Reads, IsDigit, Place, Edge, Holds, Shifted, Digited, Capped};
+ghost use Rattle.items.specs.Between.NumberOrTime.{Powered, Ready, From, Settles, PlainSays, EndsSays, Hexed};
 
 // Ten times a number above this is no coefficient.
 const TENTH: u64 = COEFFICIENT_MOST / 10;

@@ -6,7 +6,8 @@ ghost use Prim.Native.Nat.{ℕ, _+_, _≤_, _<_, _^_};
 ghost use lib.ListN.{length, getD};
 ghost use Rattle.meaning.specs.Letters.{ch};
 ghost use Rattle.machine.specs.Strings.{lineByte};
-ghost use Rattle.items.specs.Between.StringPart.{EscapeSays, Halved, Grown, CharSays, gap, BlockSays, Passed, Earlier, InnerSays, OneSays, ThreeSays, PartSays, Begun, LinesSays};
+ghost use Rattle.items.specs.Between.StringPart.{EscapeSays, Halved, Grown, CharSays, gap, BlockSays, Passed, Earlier};
+ghost use Rattle.items.specs.Between.StringPart.{InnerSays, OneSays, ThreeSays, PartSays, Begun, LinesSays};
 
 // What a part comes to: the store bytes put and the bytes taken; the backslash of the first bad escape; a byte that no
 // rule allows.

@@ -192,7 +192,8 @@ fn local_date_time(q: usize, d: Date, c: Clock, at: usize) -> Scanned
 // The same with an offset.
 fn offset_date_time(q: usize, d: Date, c: Clock, offset: i16, at: usize) -> Scanned
     requires { ⌜ Parted c ⌝ }
-    ensures { λ r. ⌜ Closes at (Numeric.tested q (Numeric.okDate d && clockTest c) (Time.OffsetDateTime d (timeOfDay (c .hour) (c .minute) (c .second) (c .nanos)) offset)) r ⌝ }
+    ensures { λ r. ⌜ Closes at (Numeric.tested q (Numeric.okDate d && clockTest c)
+        (Time.OffsetDateTime d (timeOfDay (c .hour) (c .minute) (c .second) (c .nanos)) offset)) r ⌝ }
 {
     if is_date(d) {
         if is_clock(c) {

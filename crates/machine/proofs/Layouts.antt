@@ -18,7 +18,7 @@ use Rattle.grammar.specs.Comments.{C-begin-line, c-char, C-line, c-no-star, c-n
 use Rattle.machine.specs.Machine
 use Rattle.machine.specs.Machine.{Base, want, wantKey, wantString, wantBinary, got, Mode, base, slash, line, block, star, Frame, Conf, at, fail, step}
 use Rattle.machine.specs.Machine.{read, finish, Verdict, classOf, blankC, noteOf, Note, lineEnd, starN, slashN, plainN, controlN}
-use Rattle.machine.proofs.Tables.{cut-is}
+use Rattle.machine.proofs.Tables.{_&_, cut-is}
 use Rattle.machine.proofs.Runs.{adv}
 
 pub adv-join : (p : ℕ) (a b : List ℕ) → adv p (a ++ b) ≡ adv (adv p a) b
@@ -58,31 +58,10 @@ NoteIs b controlN = (b < 0x20) × (b ≡ ch "\t" → ⊥) × (b ≡ ch "\n" → 
 
 pub note-is : (b : ℕ) → NoteIs b (noteOf b)
 note-is b =
-    cut-is NoteIs 0 Machine.notes plainN b (omega arith) (
-      (λ l u. omega arith),
-      (
-        (λ l u. omega arith),
-        (
-          (λ l u. omega arith),
-          (
-            (λ l u. omega arith),
-            (
-              (λ l u. omega arith),
-              (
-                (λ l u. omega arith),
-                (
-                  (λ l u. omega arith),
-                  (
-                    (λ l u. omega arith),
-                    ((λ l u. omega arith), ((λ l u. omega arith), λ l. omega arith)),
-                  ),
-                ),
-              ),
-            ),
-          ),
-        ),
-      ),
-    )
+    cut-is NoteIs 0 Machine.notes plainN b (omega arith)
+    ((λ l u. omega arith) & (λ l u. omega arith) & (λ l u. omega arith) & (λ l u. omega arith) & (λ l u. omega arith) &
+    (λ l u. omega arith) & (λ l u. omega arith) & (λ l u. omega arith) & (λ l u. omega arith) & (λ l u. omega arith) &
+    (λ l. omega arith))
 
 -- a byte that a comment of each kind takes
 pub data InLine : Note → Type 0 where

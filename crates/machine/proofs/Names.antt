@@ -11,7 +11,7 @@ use Rattle.grammar.specs.Characters as G
 use Rattle.grammar.specs.Keys.{i-begin, i-continue, Identifier}
 use Rattle.machine.specs.Scan.{takes, stops}
 use Rattle.machine.specs.Names.{Class, letter, figure, neither, rows, classOf, St, start, name, begin, onStart, onName, scan, wordScan}
-use Rattle.machine.proofs.Tables.{cut-is, cut-found}
+use Rattle.machine.proofs.Tables.{_&_, cut-is, cut-found}
 use Rattle.machine.proofs.Runs.{PartEnds, Goes, took, halts, OutIs}
 use Rattle.machine.proofs.Strings.Tests.{by-eqb, ends-all}
 use Rattle.machine.proofs.Strings.Ascii.{Ascii}
@@ -63,31 +63,10 @@ ClassIs b neither = Unit {0}
 class-is : (b : ℕ) → ClassIs b (classOf b)
 unfolding classOf
 class-is b =
-    cut-is ClassIs 0 rows neither b (omega arith) (
-      (λ l u. tt),
-      (
-        (λ l u. inr (inr (inl (omega arith)))),
-        (
-          (λ l u. tt),
-          (
-            (λ l u. omega arith),
-            (
-              (λ l u. tt),
-              (
-                (λ l u. inl (omega arith)),
-                (
-                  (λ l u. tt),
-                  (
-                    (λ l u. inr (inr (inr (inl (omega arith))))),
-                    ((λ l u. tt), ((λ l u. inr (inl (omega arith))), (λ l. tt))),
-                  ),
-                ),
-              ),
-            ),
-          ),
-        ),
-      ),
-    )
+    cut-is ClassIs 0 rows neither b (omega arith)
+    ((λ l u. tt) & (λ l u. inr (inr (inl (omega arith)))) & (λ l u. tt) & (λ l u. omega arith) & (λ l u. tt) &
+    (λ l u. inl (omega arith)) & (λ l u. tt) & (λ l u. inr (inr (inr (inl (omega arith))))) & (λ l u. tt) &
+    (λ l u. inr (inl (omega arith))) & (λ l. tt))
 
 -- ---- every identifier is taken
 

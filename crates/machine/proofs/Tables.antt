@@ -8,6 +8,11 @@ use lib.Dec.{leb}
 use borrow.Author.Tests.{leb-true, leb-false, le-leb, lt-leb}
 use Rattle.machine.specs.Table.{cut}
 
+infixr 20 _&_
+-- one row, and the rows after it
+pub _&_ : {A B : Type 0} → A → B → A × B
+a & b = (a, b)
+
 module _ {A : Type 0} where
   -- what every row, and the default, has of its bytes, the byte's class has
   abbrev pub Cuts : (ℕ → A → Type 0) → ℕ → List (ℕ × A) → A → ℕ → Type 0

@@ -27,7 +27,7 @@ use Rattle.reader.specs.declared.cursor.After.{After}
 use Rattle.reader.specs.declared.cursor.Member.{Member}
 use Rattle.reader.specs.declared.joined.Bytes.{Bytes}
 use Rattle.reader.proofs.ScanningLaws.{go, stop, halt}
-use Rattle.reader.proofs.ScanningClassLaws.{ClassIs, class-is}
+use Rattle.machine.proofs.Classes.{ClassIs, class-is}
 
 -- further on, with the same counts
 abbrev pub onTo : Cursor → ℕ → Cursor

@@ -30,7 +30,7 @@ use Rattle.reader.specs.declared.joined.Bytes.{Bytes as Joint}
 use Rattle.items.specs.declared.Item.{Item as Taken}
 use Rattle.items.specs.declared.Scanned.{Scanned}
 use Rattle.reader.proofs.ScanningLaws.{alike, alike-on}
-use Rattle.reader.proofs.ScanningClassLaws.{ClassIs, class-is}
+use Rattle.machine.proofs.Classes.{ClassIs, class-is}
 use Rattle.reader.proofs.KeyLaws.{not-quote}
 use Rattle.reader.proofs.ScanningItemLaws.{lift-done, lift-refused}
 use Rattle.machine.proofs.Lift.{item-ends}

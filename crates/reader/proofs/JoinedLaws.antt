@@ -30,7 +30,7 @@ use Rattle.reader.specs.declared.joined.Join.{Join}
 use Rattle.reader.specs.declared.joined.Link.{Link}
 use Rattle.items.specs.declared.string_part.Part.{Part}
 use Rattle.reader.proofs.ScanningLaws.{go, alike}
-use Rattle.reader.proofs.ScanningClassLaws.{ClassIs, class-is, closing, opening}
+use Rattle.machine.proofs.Classes.{ClassIs, class-is, closing, opening}
 use Rattle.reader.proofs.ScanningItemLaws.{lift-done, lift-refused}
 use Rattle.items.proofs.StoreLaws.{sets-app}
 

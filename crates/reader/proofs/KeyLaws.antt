@@ -22,9 +22,9 @@ use Rattle.reader.specs.Between.Scanning.{Goes, Refuses, Bare, Shut}
 use Rattle.reader.specs.Between.Joined.{Plusless, Joined, BytesSays, stringPart, Keyed, KeySays}
 use Rattle.reader.specs.declared.joined.Bytes.{Bytes}
 use Rattle.reader.proofs.ScanningLaws.{alike, alike-on, stop, halt}
-use Rattle.reader.proofs.ScanningClassLaws.{ClassIs, class-is}
+use Rattle.machine.proofs.Classes.{ClassIs, class-is}
 use Rattle.reader.proofs.ScanningItemLaws.{lift-done}
-use Rattle.machine.proofs.Tables.{cut-is}
+use Rattle.machine.proofs.Tables.{_&_, cut-is}
 use Rattle.items.proofs.PlacesLaws.{run-take, run-stop, end-stop}
 
 -- ---- a string, as a key and as a value
@@ -88,7 +88,8 @@ pub sort-is : (b : ℕ) → SortIs b (Names.classOf b)
 unfolding Names.classOf
 sort-is b =
     cut-is SortIs 0 Names.rows neither b (omega arith)
-    ((λ l u. omega arith), ((λ l u. omega arith), ((λ l u. omega arith), ((λ l u. omega arith), ((λ l u. omega arith), ((λ l u. omega arith), ((λ l u. omega arith), ((λ l u. omega arith), ((λ l u. omega arith), ((λ l u. omega arith), λ l. omega arith))))))))))
+    ((λ l u. omega arith) & (λ l u. omega arith) & (λ l u. omega arith) & (λ l u. omega arith) & (λ l u. omega arith) &
+    (λ l u. omega arith) & (λ l u. omega arith) & (λ l u. omega arith) & (λ l u. omega arith) & (λ l u. omega arith) & (λ l. omega arith))
 
 letter-is : (b : ℕ) (s : Names.Class) → SortIs b s → s ≡ letter → SortIs b letter
 letter-is b s x e = rw e at x

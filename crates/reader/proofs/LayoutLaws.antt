@@ -16,7 +16,7 @@ use Rattle.items.specs.Between.Places.{Onward}
 use Rattle.reader.specs.Between.Scanning.{Goes, Refuses, Bare}
 use Rattle.reader.specs.Between.Layout.{Passes, Commented, Tells, Breaks, Blanks, LayoutEnds, CommentSays, MaybeSays}
 use Rattle.reader.specs.declared.layout.Comment.{Comment}
-use Rattle.reader.proofs.ScanningClassLaws.{NoteIs, note-is}
+use Rattle.machine.proofs.Layouts.{NoteIs, note-is}
 use Rattle.reader.proofs.ScanningLaws.{go, stop, halt, alike, alike-end}
 use Rattle.items.proofs.PlacesLaws.{here, further, then}
 

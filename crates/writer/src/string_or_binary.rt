@@ -193,7 +193,8 @@ pub fn string_len(s: &[u8]) -> usize
 
 // The output from `at` on is lent, and the part of the store that is the string.
 pub fn string_at(out: &mut [u8], at: usize, store: &[u8], start: usize, length: usize) -> usize
-    requires { ⌜ (start + length ≤ lib.ListN.length (now store)) × (at + lib.ListN.length (quoted (take length (drop start (now store)))) ≤ lib.ListN.length (now out)) ⌝ }
+    requires { ⌜ (start + length ≤ lib.ListN.length (now store))
+        × (at + lib.ListN.length (quoted (take length (drop start (now store)))) ≤ lib.ListN.length (now out)) ⌝ }
     ensures { λ r. ⌜ PutAt (quoted (take length (drop start (now (store .entry))))) at (now (out .entry)) (now (out .exit)) r ⌝ }
 {
     let end = start + length;
@@ -225,7 +226,8 @@ pub fn write_binary(out: &mut [u8], s: &[u8]) -> usize
 
 // The output from `at` on is lent, and the part of the store that is the binary.
 pub fn binary_at(out: &mut [u8], at: usize, store: &[u8], start: usize, length: usize) -> usize
-    requires { ⌜ (start + length ≤ lib.ListN.length (now store)) × (at + lib.ListN.length (binaryText (take length (drop start (now store)))) ≤ lib.ListN.length (now out)) ⌝ }
+    requires { ⌜ (start + length ≤ lib.ListN.length (now store))
+        × (at + lib.ListN.length (binaryText (take length (drop start (now store)))) ≤ lib.ListN.length (now out)) ⌝ }
     ensures { λ r. ⌜ PutAt (binaryText (take length (drop start (now (store .entry))))) at (now (out .entry)) (now (out .exit)) r ⌝ }
 {
     let end = start + length;
