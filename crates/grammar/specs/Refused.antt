@@ -62,12 +62,12 @@ pub data Numeric : List ℕ → Type 0 where
   number : {a : List ℕ} {n : N.Number} → Number false a n → Numeric a
   time-value : {a : List ℕ} {t : T.Time} → Time-value false a t → Numeric a
 
--- `Ends x r`: of the bytes r the item x takes none. No rule lets it take the next; a space is taken only with the
+-- `Takes-none x r`: of the bytes r the item x takes none. No rule lets it take the next; a space is taken only with the
 -- byte after it
-pub data Ends : List ℕ → List ℕ → Type 0 where
-  over : {x : List ℕ} → Ends x []
-  byte : {x : List ℕ} {b : ℕ} {r : List ℕ} → ((y : List ℕ) → Numeric (x ++ (b ∷ y)) → ⊥) → Ends x (b ∷ r)
-  space : {x r : List ℕ} → Ends (x ++ letters " ") r → Ends x (ch " " ∷ r)
+pub data Takes-none : List ℕ → List ℕ → Type 0 where
+  over : {x : List ℕ} → Takes-none x []
+  byte : {x : List ℕ} {b : ℕ} {r : List ℕ} → ((y : List ℕ) → Numeric (x ++ (b ∷ y)) → ⊥) → Takes-none x (b ∷ r)
+  space : {x r : List ℕ} → Takes-none (x ++ letters " ") r → Takes-none x (ch " " ∷ r)
 
 pub data Opening : ℕ → Type 0 where
   bracket : Opening (ch "[")
@@ -82,9 +82,9 @@ pub data Item-fault : List ℕ → Refusal → Type 0 where
       → Item-fault (l ++ (mark q ∷ (a ++ (ch "\\" ∷ (b ++ (mark q ∷ r)))))) (BadEscape (length l + 1 + length a))
   -- a time value, and a number, that is one in the bare grammar only: at its first byte
   time : {d : ℕ} {l x r : List ℕ} {t : T.Time} → Left d value l → Time-value false x t
-      → ((u : T.Time) → Time-value true x u → ⊥) → Ends x r → Item-fault (l ++ (x ++ r)) (BadTime (length l))
+      → ((u : T.Time) → Time-value true x u → ⊥) → Takes-none x r → Item-fault (l ++ (x ++ r)) (BadTime (length l))
   number : {d : ℕ} {l x r : List ℕ} {n : N.Number} → Left d value l → Number false x n
-      → ((m : N.Number) → Number true x m → ⊥) → Ends x r → Item-fault (l ++ (x ++ r)) (BadNumber (length l))
+      → ((m : N.Number) → Number true x m → ⊥) → Takes-none x r → Item-fault (l ++ (x ++ r)) (BadNumber (length l))
   -- a bracket where none may open any more
   depth : {b : ℕ} {l : List ℕ} (r : List ℕ) → Left zero value l → Opening b
       → Item-fault (l ++ (b ∷ r)) (TooDeep (length l))

@@ -189,16 +189,10 @@ fn unit(s: &[u8], next: usize, w: u32) -> Char
     ensures { λ r. ⌜ ((at : ℕ) → Halved (now (s .entry)) at next w → CharSays (now (s .entry)) at r) ⌝ }
 {
     if w < 0xD800 {
-        return Char::Whole {
-            character: w,
-            next: next,
-        };
+        return Char::Whole { character: w, next };
     }
     if 0xE000 <= w {
-        return Char::Whole {
-            character: w,
-            next: next,
-        };
+        return Char::Whole { character: w, next };
     }
     if 0xDC00 <= w {
         return Char::BadEscape(next);
@@ -212,10 +206,7 @@ fn character(s: &[u8], at: usize) -> Char
     ensures { λ r. ⌜ CharSays (now (s .entry)) at r ⌝ }
 {
     match escape_at(s, at) {
-        Escape::Code { character: c, next } => Char::Whole {
-            character: c,
-            next: next,
-        },
+        Escape::Code { character: c, next } => Char::Whole { character: c, next },
         Escape::BadEscape(next) => Char::BadEscape(next),
         Escape::NotGrammar(p) => Char::NotGrammar(p),
         Escape::Half { unit: w, next } => unit(s, next, w),

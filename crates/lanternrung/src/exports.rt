@@ -136,18 +136,18 @@ fn plain(kind: u32, set: u32, length: u64, start: u64, end: u64) -> Fields
     Fields {
         refused: 0,
         place: 0,
-        kind: kind,
+        kind,
         flag: set,
         power: 0,
         coefficient: 0,
-        length: length,
-        start: start,
+        length,
+        start,
         year: 0,
         month: 0,
         day: 0,
         offset: 0,
         time: 0,
-        end: end,
+        end,
     }
 }
 
@@ -167,8 +167,8 @@ fn number_fields(n: Number) -> Fields
             place: 0,
             kind: 3,
             flag: flag(minus),
-            power: power,
-            coefficient: coefficient,
+            power,
+            coefficient,
             length: 0,
             start: 0,
             year: 0,
@@ -188,7 +188,7 @@ fn dated(kind: u32, d: Date, clock: u64, offset: i32) -> Fields
     Fields {
         refused: 0,
         place: 0,
-        kind: kind,
+        kind,
         flag: 0,
         power: 0,
         coefficient: 0,
@@ -197,7 +197,7 @@ fn dated(kind: u32, d: Date, clock: u64, offset: i32) -> Fields
         year: d.year as u32,
         month: d.month as u32,
         day: d.day as u32,
-        offset: offset,
+        offset,
         time: clock,
         end: 0,
     }

@@ -73,14 +73,8 @@ fn record_of(item: Item, start: usize) -> Record
         Item::Bool(b) => Record::Bool(b),
         Item::Number(n) => Record::Number(n),
         Item::Time(t) => Record::Time(t),
-        Item::Str(n) => Record::Str {
-            length: n,
-            start: start,
-        },
-        Item::Bin(n) => Record::Bin {
-            length: n,
-            start: start,
-        },
+        Item::Str(n) => Record::Str { length: n, start },
+        Item::Bin(n) => Record::Bin { length: n, start },
     }
 }
 
@@ -215,7 +209,7 @@ impl Cursor {
                     });
                 }
                 Ahead::More(Cursor {
-                    at: at,
+                    at,
                     records: self.records,
                     stored: self.stored,
                 })
@@ -337,16 +331,16 @@ impl Cursor {
         let mut stored = self.stored;
         loop {
             match (Cursor {
-                at: at,
-                records: records,
-                stored: stored,
+                at,
+                records,
+                stored,
             }).ahead(text, b']') {
                 Ahead::Refused(why) => {
                     return Step::Refused(
                         Cursor {
-                            at: at,
-                            records: records,
-                            stored: stored,
+                            at,
+                            records,
+                            stored,
                         },
                         why,
                     );
@@ -390,16 +384,16 @@ impl Cursor {
         let mut stored = self.stored;
         loop {
             match (Cursor {
-                at: at,
-                records: records,
-                stored: stored,
+                at,
+                records,
+                stored,
             }).ahead(text, b'}') {
                 Ahead::Refused(why) => {
                     return Step::Refused(
                         Cursor {
-                            at: at,
-                            records: records,
-                            stored: stored,
+                            at,
+                            records,
+                            stored,
                         },
                         why,
                     );

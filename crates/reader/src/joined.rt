@@ -64,14 +64,8 @@ fn link_of(bytes: usize, follows: Join) -> Link
 {
     match follows {
         Join::NotGrammar(p) => Link::Refused(Refusal::NotGrammar(p)),
-        Join::Last(end) => Link::Last {
-            bytes: bytes,
-            end: end,
-        },
-        Join::Next(at) => Link::Next {
-            bytes: bytes,
-            at: at,
-        },
+        Join::Last(end) => Link::Last { bytes, end },
+        Join::Next(at) => Link::Next { bytes, at },
     }
 }
 
@@ -116,7 +110,7 @@ pub fn string(text: &[u8], from: usize, store: &mut [u8], start: usize) -> Bytes
             Link::Last { bytes, end } => {
                 return Bytes::Whole {
                     bytes: out + bytes - start,
-                    end: end,
+                    end,
                 };
             }
             Link::Next { bytes, at: next } => {
@@ -143,7 +137,7 @@ pub fn binary(text: &[u8], from: usize, store: &mut [u8], start: usize) -> Bytes
             Link::Last { bytes, end } => {
                 return Bytes::Whole {
                     bytes: out + bytes - start,
-                    end: end,
+                    end,
                 };
             }
             Link::Next { bytes, at: next } => {

@@ -33,7 +33,7 @@ pub fn key(text: &[u8], at: usize, store: &mut [u8], start: usize) -> Bytes
             store::copy(text, at, end, store, start);
             Bytes::Whole {
                 bytes: end - at,
-                end: end,
+                end,
             }
         }
     }

@@ -125,7 +125,7 @@ fn bytes_words(mark: u64, length: usize, start: usize) -> Words
     ensures { λ w. ⌜ Holds w mark 0 length start ⌝ }
 {
     Words {
-        mark: mark,
+        mark,
         low: 0,
         mid: length as u64,
         high: start as u64,
@@ -137,7 +137,7 @@ fn end_words(mark: u64, end: usize) -> Words
     ensures { λ w. ⌜ Holds w mark 0 0 end ⌝ }
 {
     Words {
-        mark: mark,
+        mark,
         low: 0,
         mid: 0,
         high: end as u64,
@@ -330,10 +330,10 @@ fn common_record(w: Words) -> Record
         return Record::Object { end: high as usize };
     }
     let r = record_of(Words {
-        mark: mark,
-        low: low,
-        mid: mid,
-        high: high,
+        mark,
+        low,
+        mid,
+        high,
     });
     r
 }
@@ -415,10 +415,10 @@ pub fn words_at(tape: &[u8], at: usize) -> Words
     let mid = little_endian::load4(tape, at + 4);
     let high = little_endian::load8(tape, at + 8);
     Words {
-        mark: mark,
-        low: low,
-        mid: mid,
-        high: high,
+        mark,
+        low,
+        mid,
+        high,
     }
 }
 

@@ -50,10 +50,7 @@ pub fn pass(next: u8, at: usize) -> Turn
     if next == 0 {
         return Turn::No;
     }
-    Turn::Pass {
-        state: next,
-        at: at,
-    }
+    Turn::Pass { state: next, at }
 }
 
 // A string, a key or a binary: it starts where the one before ended.
@@ -83,8 +80,8 @@ pub fn open(next: u8, end: usize, inner: u8, depth: usize) -> Turn
     if depth < DEPTH_LIMIT {
         return Turn::Open {
             after: next,
-            end: end,
-            inner: inner,
+            end,
+            inner,
         };
     }
     Turn::No

@@ -432,11 +432,7 @@ fn sweep(t: &mut [u8], s: &[u8], k: usize) -> Tally
         v += 1;
     }
     t[k] = was;
-    Tally {
-        faults: faults,
-        well: well,
-        good: good,
-    }
+    Tally { faults, well, good }
 }
 
 // A number in five digits, and a space or a line feed.

@@ -39,14 +39,8 @@ pub fn effect_of(r: Record) -> Effect
             start: _,
         } => Effect::Pass(true),
         Record::Time(_) => Effect::Pass(true),
-        Record::Array { end } => Effect::Open {
-            closer: b']',
-            end: end,
-        },
-        Record::Object { end } => Effect::Open {
-            closer: b'}',
-            end: end,
-        },
+        Record::Array { end } => Effect::Open { closer: b']', end },
+        Record::Object { end } => Effect::Open { closer: b'}', end },
     }
 }
 

@@ -39,7 +39,7 @@ fn trimmed(n: u64) -> Trimmed
     while count > 0 {
         if rest % 10 != 0 {
             return Trimmed {
-                count: count,
+                count,
                 digits: rest,
             };
         }

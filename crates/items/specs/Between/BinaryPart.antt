@@ -1,4 +1,5 @@
--- What the functions that read a binary part promise, against the machine's scanner. Assumes nothing.
+-- What the functions that read a binary part (docs/FORMAT.md, 4) promise, against the machine's scanner. Assumes
+-- nothing.
 use mathlib.Core.Path.{_≡_}
 use mathlib.Core.List.{List, [], _∷_, _++_}
 use Prim.Native.Nat.{ℕ, _+_, _≤_, _<_}

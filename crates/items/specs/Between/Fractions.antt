@@ -1,4 +1,4 @@
--- What the reader of a second's fraction promises. Assumes nothing.
+-- What the reader of a second's fraction (docs/FORMAT.md, 6) promises. Assumes nothing.
 use Prim.Native.Nat.{ℕ, _≤_, _<_}
 use mathlib.Core.List.{List}
 use lib.ListN.{length}

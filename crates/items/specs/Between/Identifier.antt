@@ -1,4 +1,5 @@
--- What the functions that read an identifier promise, against the machine's scanner. Assumes nothing.
+-- What the functions that read an identifier (docs/FORMAT.md, 7.2) promise, against the machine's scanner. Assumes
+-- nothing.
 use mathlib.Core.Path.{_≡_}
 use mathlib.Core.List.{List, _++_}
 use Prim.Native.Nat.{ℕ, _-_, _<_}

@@ -1,5 +1,5 @@
--- What the readers of a number or a time value promise: how the machine's scanner goes on from the place and the state
--- that each stands for. Assumes nothing.
+-- What the readers of a number or a time value (docs/FORMAT.md, 5 and 6) promise: how the machine's scanner goes on
+-- from the place and the state that each stands for. Assumes nothing.
 use Prim.Native.Nat.{ℕ, zero, suc, _+_, _*_, _-_, _≤_, _<_, _%_, _^_}
 use mathlib.Core.Path.{_≡_}
 use mathlib.Core.Bool.{Bool, true, false}

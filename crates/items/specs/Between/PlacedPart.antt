@@ -1,4 +1,5 @@
--- A part by itself, at its place in a text: what it means, and what it puts into the store. Assumes nothing.
+-- A part by itself (docs/FORMAT.md, 3 and 4), at its place in a text: what it means, and what it puts into the store.
+-- Assumes nothing.
 use mathlib.Core.Path.{_≡_}
 use mathlib.Core.List.{List}
 use Prim.Native.Nat.{ℕ, _+_, _≤_, _<_}

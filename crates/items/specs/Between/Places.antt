@@ -1,4 +1,4 @@
--- Runs of a scanner over places of a slice. Assumes nothing.
+-- Runs of a scanner over places of a slice: how an item is read (docs/FORMAT.md, 1.3). Assumes nothing.
 use mathlib.Core.Path.{_≡_}
 use Prim.Native.Nat.{ℕ, _+_, _≤_}
 use mathlib.Core.List.{List}

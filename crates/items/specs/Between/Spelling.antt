@@ -1,4 +1,4 @@
--- What the functions that read a word promise, against the machine's scanner. Assumes nothing.
+-- What the functions that read a word (docs/FORMAT.md, 1.2) promise, against the machine's scanner. Assumes nothing.
 use mathlib.Core.Path.{_≡_}
 use mathlib.Core.List.{List}
 use Prim.Native.Nat.{ℕ, _≤_}

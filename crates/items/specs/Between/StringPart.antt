@@ -1,5 +1,5 @@
--- What the functions that read a string part promise, against the machine's scanner. Places count from the opening
--- quote; `base` is any place where the part may stand in a text. Assumes nothing.
+-- What the functions that read a string part (docs/FORMAT.md, 3) promise, against the machine's scanner. Places count
+-- from the opening quote; `base` is any place where the part may stand in a text. Assumes nothing.
 use mathlib.Core.Path.{_≡_}
 use Prim.Native.Nat.{ℕ, zero, suc, _+_, _*_, _-_, _≤_, _<_}
 use mathlib.Core.Bool.{Bool, true, false, cond}

@@ -1,4 +1,4 @@
--- What the program's parts promise each other, on the way to Line. Assumes nothing.
+-- What the program's parts promise each other, on the way to Line (docs/FORMAT.md, 13.1). Assumes nothing.
 use mathlib.Core.List.{List, _++_}
 use Prim.Native.Nat.{ℕ, _≤_}
 use lib.ListN.{length}

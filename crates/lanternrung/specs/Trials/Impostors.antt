@@ -1,5 +1,5 @@
 -- Wrong programs, each a function from what it is given to what it answers and leaves, and each ruled out by its
--- promise (docs/CLAIMS.md). Assumes nothing.
+-- promise (docs/CLAIMS.md; docs/FORMAT.md, 13). Assumes nothing.
 use mathlib.Core.Path.{_≡_}
 use mathlib.Core.Bool.{true}
 use mathlib.Core.List.{List, [], _++_}

@@ -42,38 +42,38 @@ zeros zero v = ([], v, Digits.over)
 zeros (suc n) v = let h = zeros n (10 * v + 0) in (ch "0" ∷ h .0, h .1, Digits.next zero-digit (h .2))
 
 -- a field, and what follows it
-abbrev Ends : (List ℕ → Meaning → Type 0) → Type 0
-Ends R = (a : List ℕ) × (w : Meaning) × R a w
+abbrev Finished : (List ℕ → Meaning → Type 0) → Type 0
+Finished R = (a : List ℕ) × (w : Meaning) × R a w
 
-field-ends : (n v : ℕ) (K : Cont) → ((x : ℕ) → Ends (K x)) → Ends (FieldRest n v K)
+field-ends : (n v : ℕ) (K : Cont) → ((x : ℕ) → Finished (K x)) → Finished (FieldRest n v K)
 field-ends n v K f = let z = zeros n v in let k = f (z .1) in (z .0 ++ k .0, k .1, (z .0, k .0, z .1, refl, z .2, k .2))
 
 clock-ends : (c : When) (h m s n : ℕ) → (w : Meaning) × EndRest false c h m s n [] w
 clock-ends alone h m s n = (Meaning.time (LocalTime (timeOfDay h m s n)), (tt, refl, refl))
 clock-ends (on d) h m s n = (Meaning.time (LocalDateTime d (timeOfDay h m s n)), (tt, tt, inl (refl, refl)))
 
-second-ends : (c : When) (h m s : ℕ) → Ends (Second false c h m s)
+second-ends : (c : When) (h m s : ℕ) → Finished (Second false c h m s)
 second-ends c h m s = let e = clock-ends c h m s 0 in ([], e .0, ([], [], 0, refl, Time-secfrac.absent, e .1))
 
-minute-ends : (c : When) (h m : ℕ) → Ends (SlotRest false (minute c h) m)
+minute-ends : (c : When) (h m : ℕ) → Finished (SlotRest false (minute c h) m)
 minute-ends c h m = let f = field-ends 2 0 (Second false c h m) (second-ends c h m) in (ch ":" ∷ f .0, f .1, (f .0, refl, f .2))
 
-hour-ends : (c : When) (h : ℕ) → Ends (Hour false c h)
+hour-ends : (c : When) (h : ℕ) → Finished (Hour false c h)
 hour-ends c h = let f = field-ends 2 0 (SlotRest false (minute c h)) (minute-ends c h) in (ch ":" ∷ f .0, f .1, (f .0, refl, f .2))
 
-day-ends : (y m d : ℕ) → Ends (SlotRest false (day y m) d)
+day-ends : (y m d : ℕ) → Finished (SlotRest false (day y m) d)
 day-ends y m d = ([], Meaning.time (LocalDate (dated y m d)), inl (tt, inl refl, refl))
 
-month-ends : (y m : ℕ) → Ends (SlotRest false (month y) m)
+month-ends : (y m : ℕ) → Finished (SlotRest false (month y) m)
 month-ends y m = let f = field-ends 2 0 (SlotRest false (day y m)) (day-ends y m) in (ch "-" ∷ f .0, f .1, (f .0, refl, f .2))
 
-year-ends : (y : ℕ) → Ends (Year false y)
+year-ends : (y : ℕ) → Finished (Year false y)
 year-ends y = let f = field-ends 2 0 (SlotRest false (month y)) (month-ends y) in (ch "-" ∷ f .0, f .1, (f .0, refl, f .2))
 
-offset-ends : (d : D.Date) (h m s n : ℕ) (g : Bool) (i x : ℕ) → Ends (SlotRest false (offsetMinute d h m s n g i) x)
+offset-ends : (d : D.Date) (h m s n : ℕ) (g : Bool) (i x : ℕ) → Finished (SlotRest false (offsetMinute d h m s n g i) x)
 offset-ends d h m s n g i x = ([], Meaning.time (OffsetDateTime d (timeOfDay h m s n) (signed g (i * 60 + x))), (refl, tt, tt, tt, tt, refl))
 
-slot-ends : (l : Slot) (x : ℕ) → Ends (SlotRest false l x)
+slot-ends : (l : Slot) (x : ℕ) → Finished (SlotRest false l x)
 slot-ends (month y) x = month-ends y x
 slot-ends (day y m) x = day-ends y m x
 slot-ends (hour d) x = hour-ends (on d) x
@@ -93,13 +93,13 @@ nought-ends g = let f = some-fin g 0 0 0 in (f .0, inl (Sound.whole-none false g
 one-zero : (n : ℕ) → Decimal 1 0 (letters "0") 0
 one-zero n = Digits.next zero-digit Digits.over
 
-nanos-ends : (c : When) (h m s k v : ℕ) → Ends (NanosRest false c h m s k v)
+nanos-ends : (c : When) (h m s k v : ℕ) → Finished (NanosRest false c h m s k v)
 nanos-ends c h m s k v = let e = clock-ends c h m s (v * 10 ^ k) in ([], e .0, ([], [], v * 10 ^ k, refl, Fraction.over, e .1))
 
 bare-zero : (g : Bool) → (w : Meaning) × Bare false g (letters "0") w
 bare-zero g = (_, Bare.number (Unsigned.dec (Dec.whole Int.zero-digit Frac0.absent Exp.absent) (Finite.nought refl)))
 
-pub numeric-finish : (s : St) → Ends (NumericRest false s)
+pub numeric-finish : (s : St) → Finished (NumericRest false s)
 numeric-finish begin = (
   letters "0",
   _,

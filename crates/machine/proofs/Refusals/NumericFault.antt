@@ -12,7 +12,7 @@ use Rattle.meaning.specs.Letters.{letters}
 use Rattle.meaning.specs.Meaning.{Meaning}
 use Rattle.grammar.specs.Numbers.{Number}
 use Rattle.grammar.specs.Times.{Time-value}
-use Rattle.grammar.specs.Refused.{Numeric, Ends, value, Left, Item-fault}
+use Rattle.grammar.specs.Refused.{Numeric, Takes-none, value, Left, Item-fault}
 use Rattle.machine.specs.Scan.{breaks}
 use Rattle.machine.specs.Machine
 use Rattle.machine.specs.Machine.{Frame}
@@ -34,9 +34,9 @@ goes-on b y Steps.stay (GoesTo.goes g f) = subst Takes (sym f) tt
 goes-on {Q = Q} {F = F} b y (Steps.eat {p = p} {a = a} x e) (GoesTo.goes g f) =
     goes-on b y x (subst (λ (v : St). GoesTo scan Q F (suc p) v (a ++ (b ∷ y))) (taken-once scan (sym f ∙ e)) g)
 
-ends-at : {a tail : List ℕ} {b : ℕ} → ((y : List ℕ) → Numeric (a ++ (b ∷ y)) → ⊥) → Next b tail → Ends a tail
-ends-at f (Next.byte t) = Ends.byte f
-ends-at f Next.end = Ends.over
+ends-at : {a tail : List ℕ} {b : ℕ} → ((y : List ℕ) → Numeric (a ++ (b ∷ y)) → ⊥) → Next b tail → Takes-none a tail
+ends-at f (Next.byte t) = Takes-none.byte f
+ends-at f Next.end = Takes-none.over
 
 -- the item, behind f, has come to s and breaks with r before the rest
 module _ (f : List ℕ) (d : ℕ) (left : Left d value f) (s : St) (b : ℕ) (tail : List ℕ) (r : Refusal) where
@@ -68,7 +68,7 @@ module _ (f : List ℕ) (d : ℕ) (left : Left d value f) (s : St) (b : ℕ) (ta
   faults (Taken.trailed {a = c} y) x e n =
       let none : (t : T.Time) → Time-value true c t → ⊥ = λ t z. subst Stops e
       (after-space Any None (value-goes scan tt (time-goes z (length f))) x b (not-taken x e)) in
-      rw (append-assoc c (letters " ") tail) (_, Item-fault.time left (Time-value.local-date y) none (Ends.space (ends-at (untaken x e) n)))
+      rw (append-assoc c (letters " ") tail) (_, Item-fault.time left (Time-value.local-date y) none (Takes-none.space (ends-at (untaken x e) n)))
 
 -- why a number or a time value breaks
 pub numeric-breaks : (p d : ℕ) (k : List Frame) (s : St) (l tail : List ℕ) (b : ℕ) (r : Refusal) → Next b tail

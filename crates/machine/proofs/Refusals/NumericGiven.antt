@@ -20,7 +20,7 @@ use Rattle.meaning.specs.Meaning.{Meaning}
 use Rattle.grammar.specs.Characters.{Digit, Digits, Decimal}
 use Rattle.grammar.specs.Numbers.{Number}
 use Rattle.grammar.specs.Times.{Fraction, Time-secfrac, Time-hour, Time-minute, Local-time, Local-date, Separator, Zulu, Time-offset, Time-value}
-use Rattle.grammar.specs.Refused.{Numeric, Ends, value, Left}
+use Rattle.grammar.specs.Refused.{Numeric, Takes-none, value, Left}
 use Rattle.machine.specs.Scan.{takes, stops, breaks, over}
 use Rattle.machine.specs.Machine
 use Rattle.machine.specs.Machine.{Got, want, base, item, Frame, at, read, lift, onOut, No, reading}
@@ -191,16 +191,16 @@ module _ (p : ℕ) (a : List ℕ) (n : N.Number) (y : Number false a n) (bad : (
   not-taken : (b : ℕ) → (Takes (scan (adv p a) s b) → ⊥) → scan (adv p a) s b ≡ breaks (BadNumber p)
   not-taken b f = sure b (any-byte IsNumber (λ r. r ≡ BadNumber p) (number-out y p) x b f)
 
-  number-walk : {c r : List ℕ} → Ends c r → c ≡ a → (d : ℕ) (k : List Frame) → read (adv p a) (at (item (Machine.numeric s)) d k) r ≡ No (BadNumber p)
-  number-walk Ends.over q d k = breaks-end (adv p a) s d k (BadNumber p) (sure over (end-out scan Runs.EndsItem.end ended))
-  number-walk (Ends.byte {b = b} {r = r} f) q d k =
+  number-walk : {c r : List ℕ} → Takes-none c r → c ≡ a → (d : ℕ) (k : List Frame) → read (adv p a) (at (item (Machine.numeric s)) d k) r ≡ No (BadNumber p)
+  number-walk Takes-none.over q d k = breaks-end (adv p a) s d k (BadNumber p) (sure over (end-out scan Runs.EndsItem.end ended))
+  number-walk (Takes-none.byte {b = b} {r = r} f) q d k =
       let g : (z : List ℕ) → Numeric (a ++ (b ∷ z)) → ⊥ = λ z i. f z (subst (λ (c : List ℕ). Numeric (c ++ (b ∷ z))) (sym q) i) in
       breaks-read (adv p a) s b r d k (BadNumber p) (not-taken b (takes-not p a s b x g))
-  number-walk (Ends.space {r = r} w) q d k =
+  number-walk (Takes-none.space {r = r} w) q d k =
       breaks-read (adv p a) s (ch " ") r d k (BadNumber p) (not-taken (ch " ") (no-space p (adv p a) s (end-out scan Runs.EndsItem.end ended)))
 
 -- 6 is given at the number's first byte
-pub number-given : (d : ℕ) (l x r : List ℕ) (n : N.Number) → Left d value l → Number false x n → ((m : N.Number) → Number true x m → ⊥) → Ends x r
+pub number-given : (d : ℕ) (l x r : List ℕ) (n : N.Number) → Left d value l → Number false x n → ((m : N.Number) → Number true x m → ⊥) → Takes-none x r
     → reading (l ++ (x ++ r)) ≡ No (BadNumber (length l))
 number-given d l x r n h y bad e =
     let (k, s, z, f) = begins-read h (NN.number-begins y) (number-out y (adv 0 l)) r in
@@ -291,12 +291,12 @@ module _ (p : ℕ) (a : List ℕ) (t : T.Time) (y : Time-value false a t) (bad :
     digitless : (b : ℕ) → Runs.NoDigit b → scan here u b ≡ breaks (BadTime p)
     digitless b n = good b (space-digitless IsTime (λ r. r ≡ BadTime p) (time-out y p) x b n)
 
-    spaced-walk : {c r : List ℕ} → Ends c r → c ≡ a ++ letters " " → read here (at (item (Machine.numeric u)) d k) r ≡ No (BadTime p)
-    spaced-walk Ends.over q = breaks-end here u d k (BadTime p) (digitless over (Runs.NoDigit.past (omega arith)))
-    spaced-walk (Ends.byte {b = b} {r = r} f) q =
+    spaced-walk : {c r : List ℕ} → Takes-none c r → c ≡ a ++ letters " " → read here (at (item (Machine.numeric u)) d k) r ≡ No (BadTime p)
+    spaced-walk Takes-none.over q = breaks-end here u d k (BadTime p) (digitless over (Runs.NoDigit.past (omega arith)))
+    spaced-walk (Takes-none.byte {b = b} {r = r} f) q =
         let g : (z : List ℕ) → Numeric ((a ++ letters " ") ++ (b ∷ z)) → ⊥ = λ z i. f z (subst (λ (c : List ℕ). Numeric (c ++ (b ∷ z))) (sym q) i) in
         breaks-read here u b r d k (BadTime p) (good b (after-space IsTime (λ r. r ≡ BadTime p) (time-out y p) x b (takes-not p (a ++ letters " ") u b x g)))
-    spaced-walk (Ends.space {r = r} w) q = breaks-read here u (ch " ") r d k (BadTime p) (digitless (ch " ") (Runs.NoDigit.under (omega arith)))
+    spaced-walk (Takes-none.space {r = r} w) q = breaks-read here u (ch " ") r d k (BadTime p) (digitless (ch " ") (Runs.NoDigit.under (omega arith)))
 
   module _ (s : St) (x : Steps scan p begin a s) (d : ℕ) (k : List Frame) where
     good-now : (b : ℕ) → TimeOut p (scan (adv p a) s b) → scan (adv p a) s b ≡ breaks (BadTime p)
@@ -305,12 +305,12 @@ module _ (p : ℕ) (a : List ℕ) (t : T.Time) (y : Time-value false a t) (bad :
     untaken : (b : ℕ) → (Takes (scan (adv p a) s b) → ⊥) → scan (adv p a) s b ≡ breaks (BadTime p)
     untaken b n = good-now b (any-byte IsTime (λ r. r ≡ BadTime p) (time-out y p) x b n)
 
-    time-walk : {c r : List ℕ} → Ends c r → c ≡ a → read (adv p a) (at (item (Machine.numeric s)) d k) r ≡ No (BadTime p)
-    time-walk Ends.over q = breaks-end (adv p a) s d k (BadTime p) (good-now over (end-out scan Runs.EndsItem.end (goes-end scan x (time-out y p))))
-    time-walk (Ends.byte {b = b} {r = r} f) q =
+    time-walk : {c r : List ℕ} → Takes-none c r → c ≡ a → read (adv p a) (at (item (Machine.numeric s)) d k) r ≡ No (BadTime p)
+    time-walk Takes-none.over q = breaks-end (adv p a) s d k (BadTime p) (good-now over (end-out scan Runs.EndsItem.end (goes-end scan x (time-out y p))))
+    time-walk (Takes-none.byte {b = b} {r = r} f) q =
         let g : (z : List ℕ) → Numeric (a ++ (b ∷ z)) → ⊥ = λ z i. f z (subst (λ (c : List ℕ). Numeric (c ++ (b ∷ z))) (sym q) i) in
         breaks-read (adv p a) s b r d k (BadTime p) (untaken b (takes-not p a s b x g))
-    time-walk (Ends.space {x = c} {r = r} w) q = go (scan (adv p a) s (ch " ")) refl
+    time-walk (Takes-none.space {x = c} {r = r} w) q = go (scan (adv p a) s (ch " ")) refl
       where
         go : (o : Res) → scan (adv p a) s (ch " ") ≡ o → read (adv p a) (at (item (Machine.numeric s)) d k) (ch " " ∷ r) ≡ No (BadTime p)
         go (takes v) e =
@@ -320,7 +320,7 @@ module _ (p : ℕ) (a : List ℕ) (t : T.Time) (y : Time-value false a t) (bad :
         go (breaks z) e = breaks-read (adv p a) s (ch " ") r d k (BadTime p) (untaken (ch " ") (λ t. subst Takes e t))
 
 -- 5 is given at the time value's first byte
-pub time-given : (d : ℕ) (l x r : List ℕ) (t : T.Time) → Left d value l → Time-value false x t → ((u : T.Time) → Time-value true x u → ⊥) → Ends x r
+pub time-given : (d : ℕ) (l x r : List ℕ) (t : T.Time) → Left d value l → Time-value false x t → ((u : T.Time) → Time-value true x u → ⊥) → Takes-none x r
     → reading (l ++ (x ++ r)) ≡ No (BadTime (length l))
 time-given d l x r t h y bad e =
     let (k, s, z, f) = begins-read h (NN.time-begins y) (time-out y (adv 0 l)) r in

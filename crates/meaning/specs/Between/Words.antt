@@ -1,5 +1,5 @@
--- A record's sixteen bytes as four numbers of 2, 2, 4 and 8 bytes, as code reads and writes them; that they are the
--- bytes of `Tape.recordBytes` is proved (`proofs/Records.antt`), not believed. Assumes nothing.
+-- A record's sixteen bytes (docs/FORMAT.md, 11.1) as four numbers of 2, 2, 4 and 8 bytes, as code reads and writes
+-- them; that they are the bytes of `Tape.recordBytes` is proved (`proofs/Records.antt`), not believed. Assumes nothing.
 pub use Rattle.meaning.specs.Look.{FitDate, Fit}
 use mathlib.Core.Bool.{true, false}
 use mathlib.Core.List.{List, _++_}

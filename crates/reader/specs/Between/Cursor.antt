@@ -1,4 +1,4 @@
--- What the cursor's methods promise, by their answer. Assumes nothing.
+-- What the cursor's methods promise, by their answer: values, arrays and objects (docs/FORMAT.md, 7). Assumes nothing.
 use mathlib.Core.Path.{_≡_}
 use mathlib.Core.List.{List, [], _∷_}
 use Prim.Native.Nat.{ℕ, suc, _+_, _*_, _≤_, _<_}

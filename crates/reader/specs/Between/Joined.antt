@@ -1,4 +1,4 @@
--- What the readers of strings, binary and keys promise. Assumes nothing.
+-- What the readers of strings, binary and keys (docs/FORMAT.md, 3.5, 4 and 7.2) promise. Assumes nothing.
 use mathlib.Core.Path.{_≡_}
 use mathlib.Core.List.{List, []}
 use Prim.Native.Nat.{ℕ, _≤_, _<_}

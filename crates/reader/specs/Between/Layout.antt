@@ -1,4 +1,4 @@
--- What the readers of layout promise. Assumes nothing.
+-- What the readers of layout (docs/FORMAT.md, 2) promise. Assumes nothing.
 use mathlib.Core.Path.{_≡_}
 use mathlib.Core.Bool.{Bool, true, false}
 use mathlib.Core.List.{List}

@@ -1,4 +1,4 @@
--- The machine over a text from a place on: what the readers' promises compare. Assumes nothing.
+-- The machine over a text (docs/FORMAT.md, 1.2) from a place on: what the readers' promises compare. Assumes nothing.
 use mathlib.Core.Path.{_≡_}
 use mathlib.Core.List.{List}
 use Prim.Native.Nat.{ℕ, _<_}

@@ -1,4 +1,4 @@
--- What one walk over a text promises `measure` and `read`, and its end the walk. Assumes nothing.
+-- What one walk over a text (docs/FORMAT.md, 1.2) promises `measure` and `read`, and its end the walk. Assumes nothing.
 use mathlib.Core.Path.{_≡_}
 use mathlib.Core.List.{List, []}
 use Prim.Native.Nat.{ℕ, _≤_}

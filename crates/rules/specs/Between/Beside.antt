@@ -1,4 +1,4 @@
--- What the functions over blocks of bytes promise. Assumes nothing.
+-- What the functions over blocks of bytes promise of UTF-8 (docs/FORMAT.md, 1.1). Assumes nothing.
 use mathlib.Core.Path.{_≡_}
 use mathlib.Core.List.{List}
 use Prim.Native.Nat.{ℕ, _+_, _-_, _≤_, _<_}

@@ -1,6 +1,6 @@
--- The first fault of any bytes, and whether three numbers are a date, as functions that compute. That they answer what
--- Rfc3629 and Rfc3339 allow is proved (`judged-is` of proofs/Decided.antt; `date-is`, `is-date` of proofs/Months.antt).
--- Assumes nothing.
+-- The first fault of any bytes, and whether three numbers are a date (docs/FORMAT.md, 1.1 and 6), as functions that
+-- compute. That they answer what Rfc3629 and Rfc3339 allow is proved (`judged-is` of proofs/Decided.antt; `date-is`,
+-- `is-date` of proofs/Months.antt). Assumes nothing.
 use mathlib.Core.Bool.{Bool, true, false, cond}
 use mathlib.Core.List.{List, [], _∷_}
 use Prim.Native.Nat.{ℕ, zero, suc, _+_, _-_, _%_}

@@ -1,4 +1,4 @@
--- What the functions below `utf8` and `date` promise their callers. Assumes nothing.
+-- What the functions below `utf8` and `date` (docs/FORMAT.md, 1.1 and 6) promise their callers. Assumes nothing.
 use mathlib.Core.Bool.{Bool, true, false, cond}
 use mathlib.Core.List.{List}
 use Prim.Native.Nat.{ℕ, _+_, _≤_, _<_}

@@ -1,4 +1,4 @@
--- What a test of fields promises. Assumes nothing.
+-- What a test of a record's fields (docs/FORMAT.md, 11.4) promises. Assumes nothing.
 use mathlib.Core.Bool.{Bool, true, false}
 
 -- true exactly where P holds

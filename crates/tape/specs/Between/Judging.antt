@@ -1,4 +1,4 @@
--- What `judge` may answer: yes exactly for a well-formed tape and store. Assumes nothing.
+-- What `judge` may answer: yes exactly for a well-formed tape and store (docs/FORMAT.md, 11.3). Assumes nothing.
 use mathlib.Core.List.{List}
 use Prim.Native.Nat.{ℕ}
 use Rattle.meaning.specs.Tape.{WellFormed}

@@ -1,4 +1,4 @@
--- What the functions between sixteen bytes and a record promise their callers. Assumes nothing.
+-- What the functions between sixteen bytes and a record (docs/FORMAT.md, 11.1) promise their callers. Assumes nothing.
 use mathlib.Core.Path.{_≡_}
 use mathlib.Core.Bool.{Bool, true, false, cond}
 use mathlib.Core.List.{List}

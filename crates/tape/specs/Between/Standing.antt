@@ -1,4 +1,4 @@
--- What `record_at` promises. Assumes nothing.
+-- What `record_at` promises (docs/FORMAT.md, 11.1). Assumes nothing.
 use mathlib.Core.Path.{_≡_}
 use mathlib.Core.List.{List}
 use Prim.Native.Nat.{ℕ}

@@ -1,5 +1,5 @@
--- What one record does to the judge: its state is 0 nothing yet, 1 the root is complete, 2 in an array, 3 before a key,
--- 4 after a key. Assumes nothing.
+-- What one record does to the judge (docs/FORMAT.md, 11.3): its state is 0 nothing yet, 1 the root is complete, 2 in an
+-- array, 3 before a key, 4 after a key. Assumes nothing.
 use mathlib.Core.Path.{_≡_}
 use mathlib.Core.Bool.{cond}
 use mathlib.Core.List.{List}

@@ -1,4 +1,4 @@
--- Text laid over bytes that stand there: what a writer of one piece promises. Assumes nothing.
+-- Text laid over bytes that stand there: what a writer of one piece (docs/FORMAT.md, 12) promises. Assumes nothing.
 use mathlib.Core.Path.{_≡_}
 use mathlib.Core.List.{List, _++_}
 use Prim.Native.Nat.{ℕ, _+_}

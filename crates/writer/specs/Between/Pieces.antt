@@ -1,4 +1,4 @@
--- What the functions below the piece writers promise their callers. Assumes nothing.
+-- What the functions below the writers of a piece (docs/FORMAT.md, 12) promise their callers. Assumes nothing.
 use mathlib.Core.Path.{_≡_}
 use mathlib.Core.Bool.{Bool, true, false, cond}
 use mathlib.Core.List.{List, [], _∷_, _++_}

@@ -1,4 +1,4 @@
--- What each record of a tape prints where it stands, and its share of the length. Assumes nothing.
+-- What each record of a tape prints where it stands, and its share of the length (docs/FORMAT.md, 12). Assumes nothing.
 use mathlib.Core.Path.{_≡_}
 use mathlib.Core.Bool.{Bool, true, false, cond}
 use mathlib.Core.List.{List, [], _++_}
