@@ -43,8 +43,3 @@ one-value {c = c} {p = p} (nonzero b n r) nought e = absurd (not-nought c (above
 one-value {c = c} {d = d} {p = p} {q = q} (nonzero b n r) (nonzero b′ n′ r′) e =
     let o = once c d (above p) (above q) e n n′ in
     (o .0, above-one p q r r′ (o .1))
-
--- a coefficient doesn't end in the digit 0
-pub no-closing-zero : {c : ℕ} {p : ℤ} → GoodFinite c p → c % 10 ≡ 0 → (c ≡ 0) × (p ≡ pos 0)
-no-closing-zero nought e = (refl, refl)
-no-closing-zero (nonzero b n r) e = absurd (n e)

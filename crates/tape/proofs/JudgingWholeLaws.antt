@@ -151,9 +151,6 @@ record-inside {tape} {store} {i} {r} a = own-inside store (wholeRecords tape) r 
 -- ---- both directions
 
 module _ (tape store : List ℕ) (n : ℕ) (h : length tape ≡ n * 16) where
-  count-is : wholeRecords tape ≡ n
-  count-is = omega arith
-
   pub well-formed-says : (w : WellFormed tape store) → verdict n tape store ≡ says (w .meaning)
   well-formed-says w =
       let m = w .meaning in

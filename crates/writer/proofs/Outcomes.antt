@@ -96,11 +96,6 @@ untouched-text (too-long h s) e = refl
 untouched-text (too-short h k s) e = refl
 untouched-text (written h k s) e = absurd (refused-apart s e)
 
-fits-text : {t o out : List ℕ} {a : Written} {n : ℕ} → Writes t o a out → a ≡ Wrote n → n ≤ length o
-fits-text (too-long h s) e = absurd (wrote-apart s e)
-fits-text (too-short h k s) e = absurd (wrote-apart s e)
-fits-text (written h k s) e = omega (arith, wrote-length s e)
-
 module _ {tape store o : List ℕ} where
   -- a refusal leaves the output as it was
   pub untouched-jaxn : {out : List ℕ} {a : Written} {why : Refusal} → WritesJaxn tape store o a out → a ≡ Refused why → out ≡ o
@@ -111,16 +106,6 @@ module _ {tape store o : List ℕ} where
   untouched-json (WritesJson.ill n s) e = refl
   untouched-json (WritesJson.formless w f s) e = refl
   untouched-json (WritesJson.text w f p) e = untouched-text p e
-
-  -- the length that is answered lies within the output
-  pub fits-jaxn : {out : List ℕ} {a : Written} {n : ℕ} → WritesJaxn tape store o a out → a ≡ Wrote n → n ≤ length o
-  fits-jaxn (WritesJaxn.ill k s) e = absurd (wrote-apart s e)
-  fits-jaxn (WritesJaxn.text w p) e = fits-text p e
-
-  pub fits-json : {out : List ℕ} {a : Written} {n : ℕ} → WritesJson tape store o a out → a ≡ Wrote n → n ≤ length o
-  fits-json (WritesJson.ill k s) e = absurd (wrote-apart s e)
-  fits-json (WritesJson.formless w f s) e = absurd (wrote-apart s e)
-  fits-json (WritesJson.text w f p) e = fits-text p e
 
   -- the text is the canonical text of the one meaning of tape and store
   pub written-jaxn : {out : List ℕ} {a : Written} (w : WellFormed tape store) → WritesJaxn tape store o a out → Writes (canonical (w .meaning)) o a out
