@@ -44,6 +44,7 @@ pub enum Number {
     },
 }
 
+// A date: that there is such a day is tested where it is read.
 pub struct Date {
     pub year: u16,
     pub month: u8,
