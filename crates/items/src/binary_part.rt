@@ -16,14 +16,14 @@ pub enum Piece {
 }
 
 // After a pair: the first digit of the next one, the part's end, or the byte that no rule allows.
-pub enum Pair {
+enum Pair {
     Digit(usize),
     End(usize),
     NotGrammar(usize),
 }
 
 // A byte of the quoted form and the place after it, or the byte that no rule allows.
-pub enum Octet {
+enum Octet {
     Byte { value: u8, next: usize },
     NotGrammar(usize),
 }

@@ -53,15 +53,15 @@ const OVER: Acc = Acc {
 };
 
 // A coefficient that fits, or that is too large to keep.
-pub enum Coef {
+enum Coef {
     Fits(u64),
     Over,
 }
 
 // Digits so far, and the place after them.
-pub struct Run {
-    pub acc: Acc,
-    pub at: usize,
+struct Run {
+    acc: Acc,
+    at: usize,
 }
 
 // Plain digits: their value, and the place after them.
@@ -71,9 +71,9 @@ pub struct Plain {
 }
 
 // An exponent's digits, and the place after them.
-pub struct Power {
-    pub e: usize,
-    pub at: usize,
+struct Power {
+    e: usize,
+    at: usize,
 }
 
 // A hexadecimal number, whether it is 2^64 or more, and the place after it.
@@ -212,7 +212,7 @@ fn finite(g: bool, c: u64, power: i32, at: usize) -> Scanned
 }
 
 // The number whose first byte is at q, with its last digit before `at`: the digits times 10^up / 10^dn.
-pub fn settle(q: usize, g: bool, a: Acc, up: usize, dn: usize, at: usize) -> Scanned
+fn settle(q: usize, g: bool, a: Acc, up: usize, dn: usize, at: usize) -> Scanned
     requires { ⌜ (a .z ≤ textLimit) × (up < 2 ^ 40) × (dn < 2 ^ 40) ⌝ }
     ensures { λ r. ⌜ Settles q g a up dn at r ⌝ }
 {
@@ -301,7 +301,7 @@ fn fraction(s: &[u8], q: usize, g: bool, a: Acc, from: usize) -> Scanned
 }
 
 // After the digits of the whole part.
-pub fn pointed(s: &[u8], q: usize, g: bool, a: Acc, at: usize) -> Scanned
+fn pointed(s: &[u8], q: usize, g: bool, a: Acc, at: usize) -> Scanned
     requires { ⌜ Ready (now s) a 0 at × Edge (now s) at ⌝ }
     ensures { λ r. ⌜ From (now (s .entry)) a at (λ m. Numeric.int q g m) r ⌝ }
 {

@@ -18,15 +18,15 @@ ghost use Rattle.machine.specs.Numeric as Numeric;
 ghost use Rattle.items.specs.Between.NumberOrTime.{NumericSays, Reads, Place, Edge, AtDigit, FewSays, LeadSays, Marks, Plainly, TimelySays};
 
 // Up to four digits with no sign: how many, their value twice, and the place after them.
-pub struct Few {
-    pub n: usize,
-    pub v: u16,
-    pub acc: Acc,
-    pub at: usize,
+struct Few {
+    n: usize,
+    v: u16,
+    acc: Acc,
+    at: usize,
 }
 
 // What digits with no sign begin: a number; a hexadecimal one; an hour or a year, and the place after its mark; nothing.
-pub enum Lead {
+enum Lead {
     Number(Acc, usize),
     Hex(usize),
     Hour { hour: u8, at: usize },
@@ -35,7 +35,7 @@ pub enum Lead {
 }
 
 // What a byte makes of the digits before it.
-pub enum Mark {
+enum Mark {
     Colon,
     Dash,
     X,

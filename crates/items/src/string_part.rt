@@ -18,7 +18,7 @@ pub enum Part {
 }
 
 // What one escape is: half of a pair or a unit of its own; a character; a bad one; or no escape.
-pub enum Escape {
+enum Escape {
     Half { unit: u32, next: usize },
     Code { character: u32, next: usize },
     BadEscape(usize),
@@ -26,14 +26,14 @@ pub enum Escape {
 }
 
 // What the escapes at a backslash come to: a character, a bad one, or a byte that no rule allows.
-pub enum Char {
+enum Char {
     Whole { character: u32, next: usize },
     BadEscape(usize),
     NotGrammar(usize),
 }
 
 // The end of a multiline part: its last three quotes, or what breaks it.
-pub enum Lines {
+enum Lines {
     Last(usize),
     NotGrammar(usize),
 }

@@ -21,7 +21,7 @@ ghost use Rattle.items.specs.Between.Fractions.{FractionSays};
 ghost use Rattle.items.specs.Between.NumberOrTime.{Reads, Closes, Place, TwoSays, ThenSays, whenOf, Parted, clockTest, Zoned, NanosSays};
 
 // A field of two digits and the place after it, or the byte that no rule allows.
-pub enum Field {
+enum Field {
     Got { value: u8, at: usize },
     NotGrammar(usize),
 }
@@ -33,22 +33,22 @@ pub enum When {
 }
 
 // A time of day as it is written: each part is a number of digits, in range or not.
-pub struct Clock {
-    pub hour: u8,
-    pub minute: u8,
-    pub second: u8,
-    pub nanos: u64,
+struct Clock {
+    hour: u8,
+    minute: u8,
+    second: u8,
+    nanos: u64,
 }
 
 // A fraction's digits of which `left` more would count, and the place after them.
-pub struct Nanos {
-    pub v: u64,
-    pub left: usize,
-    pub at: usize,
+struct Nanos {
+    v: u64,
+    left: usize,
+    at: usize,
 }
 
 // A second's fraction in nanoseconds and the place after it, or the byte that no rule allows.
-pub enum Fraction {
+enum Fraction {
     Got { nanos: u64, at: usize },
     NotGrammar(usize),
 }

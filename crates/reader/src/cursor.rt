@@ -37,7 +37,7 @@ pub enum Step {
 }
 
 // What begins where a value is wanted: an item, or an opening bracket.
-pub enum Head {
+enum Head {
     Item(Item, Cursor),
     Array(Cursor),
     Object(Cursor),
@@ -45,21 +45,21 @@ pub enum Head {
 }
 
 // In a container, where an element or a member may stand.
-pub enum Ahead {
+enum Ahead {
     Close(Cursor),
     More(Cursor),
     Refused(Refusal),
 }
 
 // After an element or a member.
-pub enum After {
+enum After {
     Comma(Cursor),
     Close(Cursor),
     Refused(Refusal),
 }
 
 // A key and its colon, with how many store bytes it has; the next cursor stands at the value.
-pub enum Member {
+enum Member {
     Key(usize, Cursor),
     Refused(Refusal),
 }

@@ -17,14 +17,14 @@ use items::string_part::Part;
 use meaning::Refusal;
 
 // What follows a part: the next one's place, after a plus; none, and where the layout ends; or what breaks the layout.
-pub enum Join {
+enum Join {
     Next(usize),
     Last(usize),
     NotGrammar(usize),
 }
 
 // A part of so many bytes and what follows it: the next one's place; none, and where the layout ends; or a refusal.
-pub enum Link {
+enum Link {
     Next { bytes: usize, at: usize },
     Last { bytes: usize, end: usize },
     Refused(Refusal),
@@ -37,7 +37,7 @@ pub enum Bytes {
 }
 
 // After a part.
-pub fn after_part(text: &[u8], from: usize) -> Join
+fn after_part(text: &[u8], from: usize) -> Join
     requires { ⌜ from ≤ length (now text) ⌝ }
     ensures { λ r. ⌜ JoinSays (now (text .entry)) from r ⌝ }
 {

@@ -15,7 +15,7 @@ pub enum Layout {
 }
 
 // What a comment at a place comes to: there is none, its end, or the byte that breaks it.
-pub enum Comment {
+enum Comment {
     Absent,
     Ended(usize),
     NotGrammar(usize),

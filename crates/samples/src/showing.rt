@@ -15,7 +15,7 @@ fn decimal(n: u64) {
 }
 
 // An answer follows.
-pub(crate) fn arrow() {
+fn arrow() {
     word(b" -> ");
 }
 

@@ -5,9 +5,9 @@ ghost use lib.ListN.{length};
 ghost use Rattle.io.specs.Counts.{Counts};
 
 // A byte, and where what follows it begins.
-pub struct Spelled {
-    pub byte: u8,
-    pub next: usize,
+struct Spelled {
+    byte: u8,
+    next: usize,
 }
 
 // Where the byte stands from a place on, or the length.

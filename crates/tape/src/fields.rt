@@ -39,7 +39,7 @@ pub fn good_finite(coefficient: u64, power: i32) -> bool
 }
 
 // Only a finite number has a rule.
-pub fn good_number(n: Number) -> bool
+fn good_number(n: Number) -> bool
     ensures { λ b. ⌜ Decides (GoodNumber n) b ⌝ }
 {
     match n {
@@ -81,7 +81,7 @@ fn good_offset(offset: i16) -> bool
 }
 
 // Each part that the time type has is good.
-pub fn good_time(t: Time) -> bool
+fn good_time(t: Time) -> bool
     ensures { λ b. ⌜ Decides (GoodTime t) b ⌝ }
 {
     match t {

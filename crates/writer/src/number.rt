@@ -26,7 +26,7 @@ pub fn sign_and_size(x: i32) -> Signed
 }
 
 // Minus if set.
-pub fn minus_at(out: &mut [u8], at: usize, minus: bool) -> usize
+fn minus_at(out: &mut [u8], at: usize, minus: bool) -> usize
     requires { ⌜ at + length (minusText minus) ≤ length (now out) ⌝ }
     ensures { λ r. ⌜ PutAt (minusText minus) at (now (out .entry)) (now (out .exit)) r ⌝ }
 {
@@ -71,7 +71,7 @@ fn power_len(power: i32) -> usize
 }
 
 // Into the lent part of the output, from its start.
-pub fn write_number(out: &mut [u8], n: Number) -> usize
+fn write_number(out: &mut [u8], n: Number) -> usize
     requires { ⌜ length (numberText n) ≤ length (now out) ⌝ }
     ensures { λ r. ⌜ Put (numberText n) (now (out .entry)) (now (out .exit)) r ⌝ }
 {

@@ -137,7 +137,7 @@ fn escapes_at(out: &mut [u8], at: usize, s: &[u8]) -> usize
 }
 
 // Into the lent part of the output, from its start: quotes around the escaped bytes.
-pub fn write_string(out: &mut [u8], s: &[u8]) -> usize
+fn write_string(out: &mut [u8], s: &[u8]) -> usize
     requires { ⌜ length (quoted (now s)) ≤ length (now out) ⌝ }
     ensures { λ r. ⌜ Put (quoted (now (s .entry))) (now (out .entry)) (now (out .exit)) r ⌝ }
 {
@@ -216,7 +216,7 @@ fn pairs_at(out: &mut [u8], at: usize, s: &[u8]) -> usize
 }
 
 // Into the lent part of the output, from its start: `$` and lower-case hex.
-pub fn write_binary(out: &mut [u8], s: &[u8]) -> usize
+fn write_binary(out: &mut [u8], s: &[u8]) -> usize
     requires { ⌜ length (binaryText (now s)) ≤ length (now out) ⌝ }
     ensures { λ r. ⌜ Put (binaryText (now (s .entry))) (now (out .entry)) (now (out .exit)) r ⌝ }
 {

@@ -136,7 +136,7 @@ fn offset_len(offset: i16) -> usize
 }
 
 // Into the lent part of the output, from its start.
-pub fn write_time(out: &mut [u8], t: Time) -> usize
+fn write_time(out: &mut [u8], t: Time) -> usize
     requires { ⌜ length (timeText t) ≤ length (now out) ⌝ }
     ensures { λ r. ⌜ Put (timeText t) (now (out .entry)) (now (out .exit)) r ⌝ }
 {
