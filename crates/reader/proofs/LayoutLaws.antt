@@ -14,7 +14,7 @@ use Rattle.machine.specs.Machine.{Base, want, wantKey, wantString, wantBinary, 
 use Rattle.machine.specs.Machine.{Class, classOf, blankC, hashC, slashC, Note, noteOf, lineEnd, starN, slashN, plainN, controlN}
 use Rattle.items.specs.Between.Places.{Onward}
 use Rattle.reader.specs.Between.Scanning.{Goes, Refuses, Bare}
-use Rattle.reader.specs.Between.Layout.{Passes, Commented, Tells, Breaks, Blanks, LayoutEnds, CommentSays, MaybeSays}
+use Rattle.reader.specs.Between.Layout.{Passes, Commented, Breaks, Blanks, LayoutEnds, CommentSays, MaybeSays}
 use Rattle.reader.specs.declared.layout.Comment.{Comment}
 use Rattle.machine.proofs.Layouts.{NoteIs, note-is}
 use Rattle.reader.proofs.ScanningLaws.{go, stop, halt, alike, alike-end}
@@ -42,16 +42,6 @@ on-slash wantKey p d k b e = rw e
 on-slash (wantString z u) p d k b e = rw e
 on-slash (wantBinary u) p d k b e = rw e
 on-slash (got g) p d k b e = rw e
-
--- what is told of one byte
-pub tells-yes : {P : Type 0} → P → Tells P true
-tells-yes h = record { yes = λ e. h; no = λ e. let z : _≡_ {A = ℕ} 0 1 = cc in absurd (omega arith) }
-
-pub tells-no : {P : Type 0} → (P → ⊥) → Tells P false
-tells-no h = record { yes = λ e. let z : _≡_ {A = ℕ} 0 1 = cc in absurd (omega arith); no = λ e. h }
-
-pub tells-both : {P : Type 0} (f : Bool) → P → Tells ((f ≡ true) × P) f
-tells-both f h = record { yes = λ e. (e, h); no = λ e x. let i = x .0 in let z : _≡_ {A = ℕ} 0 1 = cc in omega arith }
 
 -- on the way
 pub record Passing (text : List ℕ) (p q : ℕ) : Type 0 where

@@ -4,9 +4,10 @@ ghost use mathlib.Core.Bool.{true};
 ghost use Prim.Native.Nat.{_≤_, _<_};
 ghost use lib.Dec.{eqb};
 ghost use lib.ListN.{length};
+ghost use Rattle.rules.specs.Between.Tests.{Decides};
 ghost use Rattle.meaning.specs.Letters.{ch};
 ghost use Rattle.machine.specs.Machine.{classOf, blankC, noteOf, lineEnd, slashN, controlN, line, block, slash};
-ghost use Rattle.reader.specs.Between.Layout.{Tells, CommentSays, MaybeSays, Blanks, LayoutSays};
+ghost use Rattle.reader.specs.Between.Layout.{CommentSays, MaybeSays, Blanks, LayoutSays};
 
 // Where the layout from a place on ends, or the byte that breaks it.
 pub enum Layout {
@@ -23,7 +24,7 @@ enum Comment {
 
 // Whether a byte ends a line comment.
 fn is_line_end(b: u8) -> bool
-    ensures { λ r. ⌜ Tells (noteOf b ≡ lineEnd) r ⌝ }
+    ensures { λ r. ⌜ Decides (noteOf b ≡ lineEnd) r ⌝ }
 {
     if b == b'\n' {
         return true;
@@ -36,7 +37,7 @@ fn is_line_end(b: u8) -> bool
 
 // Whether no comment may hold a byte: those below U+0020 but tab, LF and CR.
 fn is_control(b: u8) -> bool
-    ensures { λ r. ⌜ Tells (noteOf b ≡ controlN) r ⌝ }
+    ensures { λ r. ⌜ Decides (noteOf b ≡ controlN) r ⌝ }
 {
     if b >= 0x20 {
         return false;
@@ -55,7 +56,7 @@ fn is_control(b: u8) -> bool
 
 // Whether a byte closes a block comment: a slash, after a star.
 fn closes(last: u8, b: u8) -> bool
-    ensures { λ r. ⌜ Tells ((eqb last (ch "*") ≡ true) × (noteOf b ≡ slashN)) r ⌝ }
+    ensures { λ r. ⌜ Decides ((eqb last (ch "*") ≡ true) × (noteOf b ≡ slashN)) r ⌝ }
 {
     if b == b'/' {
         return last == b'*';
@@ -138,7 +139,7 @@ fn comment_at(text: &[u8], at: usize) -> Comment
 
 // Whether a byte is a space, tab, LF or CR. Most are above all of them.
 fn is_blank(b: u8) -> bool
-    ensures { λ r. ⌜ Tells (classOf b ≡ blankC) r ⌝ }
+    ensures { λ r. ⌜ Decides (classOf b ≡ blankC) r ⌝ }
 {
     if b > b' ' {
         return false;

@@ -1,5 +1,7 @@
 -- Tests that antt computes at each number below a bound.
 pub mod Computed
+-- What a test promises: used, and made.
+pub mod TestsLaws
 -- UTF-8: characters join, split at an ASCII byte, and are told apart by their first byte.
 pub mod Characters
 -- A character's number and its bytes: RFC 3629's sections 3 and 4 agree.

@@ -12,7 +12,8 @@ use Rattle.rules.specs.Rfc3339.{Leap, fourth, fourth-hundred, Days, janu
 use Rattle.rules.specs.Rfc3339.{september, october, november, december, Date, Dated, done}
 use Rattle.rules.specs.Rfc3339
 use Rattle.rules.specs.Between.Decided.{table, isLeap, daysOf, isDate}
-use Rattle.rules.specs.Between.Posts.{IsLeap, leap, common, Lasts, month, no-month}
+use Rattle.rules.specs.Between.Posts.{Lasts, month, no-month}
+use Rattle.rules.specs.Between.Tests.{Decides, holds, fails}
 use Rattle.rules.specs.declared.DateAnswer.{DateAnswer}
 use Rattle.rules.specs.declared.DateAnswer.the-variants.{Done, NoDate}
 
@@ -26,18 +27,18 @@ no-hundred : (y : ℕ) → y % 100 ≡ 0 → (y % 400 ≡ 0 → ⊥) → Leap y 
 no-hundred y e f (fourth g h) = h e
 no-hundred y e f (fourth-hundred g h) = f h
 
-pub leap-fourth : (y : ℕ) → y % 4 ≡ 0 → (y % 100 ≡ 0 → ⊥) → IsLeap y (not (eqb (y % 100) 0))
-leap-fourth y e f = rw (ne-eqb (y % 100) 0 f) (leap (fourth e f))
+pub leap-fourth : (y : ℕ) → y % 4 ≡ 0 → (y % 100 ≡ 0 → ⊥) → Decides (Leap y) (not (eqb (y % 100) 0))
+leap-fourth y e f = rw (ne-eqb (y % 100) 0 f) (holds (fourth e f))
 
-pub leap-hundred : (y : ℕ) → y % 4 ≡ 0 → y % 100 ≡ 0 → IsLeap y (eqb (y % 400) 0)
+pub leap-hundred : (y : ℕ) → y % 4 ≡ 0 → y % 100 ≡ 0 → Decides (Leap y) (eqb (y % 400) 0)
 leap-hundred y e h = go (ℕ-discrete (y % 400) 0)
   where
-    go : Dec (y % 400 ≡ 0) → IsLeap y (eqb (y % 400) 0)
-    go (yes q) = rw (eq-eqb (y % 400) 0 q) (leap (fourth-hundred e q))
-    go (no q) = rw (ne-eqb (y % 400) 0 q) (common (no-hundred y h q))
+    go : Dec (y % 400 ≡ 0) → Decides (Leap y) (eqb (y % 400) 0)
+    go (yes q) = rw (eq-eqb (y % 400) 0 q) (holds (fourth-hundred e q))
+    go (no q) = rw (ne-eqb (y % 400) 0 q) (fails (no-hundred y h q))
 
-pub leap-none : (y : ℕ) → (y % 4 ≡ 0 → ⊥) → IsLeap y (eqb (y % 4) 0)
-leap-none y f = rw (ne-eqb (y % 4) 0 f) (common (no-leap y f))
+pub leap-none : (y : ℕ) → (y % 4 ≡ 0 → ⊥) → Decides (Leap y) (eqb (y % 4) 0)
+leap-none y f = rw (ne-eqb (y % 4) 0 f) (fails (no-leap y f))
 
 -- ---- the days of a month
 
@@ -59,11 +60,11 @@ is-month december = omega arith
 pub past-december : (y m : ℕ) → 12 < m → Lasts y m 0
 past-december y m h = no-month (λ n x. omega (arith, is-month x))
 
-february : (y : ℕ) (l : Bool) → IsLeap y l → Lasts y 2 (cond l 29 28)
-february y true (leap x) = month (february-leap x)
-february y false (common f) = month (february-normal f)
+february : (y : ℕ) (l : Bool) → Decides (Leap y) l → Lasts y 2 (cond l 29 28)
+february y true (holds x) = month (february-leap x)
+february y false (fails f) = month (february-normal f)
 
-pub february-is : (y m : ℕ) {k l : Bool} → m ≡ 2 → k ≡ l → IsLeap y k → Lasts y m (cond l 29 28)
+pub february-is : (y m : ℕ) {k l : Bool} → m ≡ 2 → k ≡ l → Decides (Leap y) k → Lasts y m (cond l 29 28)
 february-is y m {k} {l} e f i = rw (e, ← f) (february y k i)
 
 -- each row but February's
@@ -85,12 +86,12 @@ row y (suc (suc (suc (suc (suc (suc (suc (suc (suc (suc (suc (suc (suc m))))))))
 
 -- ---- one answer
 
-days-are : {y m n : ℕ} {l : Bool} → IsLeap y l → Days y m n → n ≡ daysOf l m
+days-are : {y m n : ℕ} {l : Bool} → Decides (Leap y) l → Days y m n → n ≡ daysOf l m
 days-are i january = refl
-days-are (leap x) (february-normal f) = absurd (f x)
-days-are (common g) (february-normal f) = refl
-days-are (leap y) (february-leap x) = refl
-days-are (common g) (february-leap x) = absurd (g x)
+days-are (holds x) (february-normal f) = absurd (f x)
+days-are (fails g) (february-normal f) = refl
+days-are (holds y) (february-leap x) = refl
+days-are (fails g) (february-leap x) = absurd (g x)
 days-are i march = refl
 days-are i april = refl
 days-are i may = refl
@@ -102,13 +103,13 @@ days-are i october = refl
 days-are i november = refl
 days-are i december = refl
 
-pub leap-is : (y : ℕ) → IsLeap y (isLeap y)
+pub leap-is : (y : ℕ) → Decides (Leap y) (isLeap y)
 unfolding isLeap
 leap-is y = go (ℕ-discrete (y % 4) 0) (ℕ-discrete (y % 100) 0)
   where
-    go : Dec (y % 4 ≡ 0) → Dec (y % 100 ≡ 0) → IsLeap y (cond (eqb (y % 4) 0) (cond (eqb (y % 100) 0) (eqb (y % 400) 0) true) false)
-    go (no f) q = rw (ne-eqb (y % 4) 0 f) (common (no-leap y f))
-    go (yes e) (no f) = rw (eq-eqb (y % 4) 0 e, ne-eqb (y % 100) 0 f) (leap (fourth e f))
+    go : Dec (y % 4 ≡ 0) → Dec (y % 100 ≡ 0) → Decides (Leap y) (cond (eqb (y % 4) 0) (cond (eqb (y % 100) 0) (eqb (y % 400) 0) true) false)
+    go (no f) q = rw (ne-eqb (y % 4) 0 f) (fails (no-leap y f))
+    go (yes e) (no f) = rw (eq-eqb (y % 4) 0 e, ne-eqb (y % 100) 0 f) (holds (fourth e f))
     go (yes e) (yes f) = rw (eq-eqb (y % 4) 0 e, eq-eqb (y % 100) 0 f) (leap-hundred y e f)
 
 pub same-days : {y m a b : ℕ} → Days y m a → Days y m b → a ≡ b

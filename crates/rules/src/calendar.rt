@@ -1,11 +1,13 @@
 // Leap years and the days of a month.
-ghost use Rattle.rules.specs.Between.Posts.{IsLeap, Lasts};
+ghost use Rattle.rules.specs.Between.Posts.{Lasts};
+ghost use Rattle.rules.specs.Between.Tests.{Decides};
+ghost use Rattle.rules.specs.Rfc3339.{Leap};
 
 const DAYS: [u64; 13] = [0, 31, 28, 31, 30, 31, 30, 31, 31, 30, 31, 30, 31];
 
 // Whether a year is a leap year: a multiple of 4, and of 400 where it is one of 100.
 fn is_leap(year: u64) -> bool
-    ensures { λ r. ⌜ IsLeap year r ⌝ }
+    ensures { λ r. ⌜ Decides (Leap year) r ⌝ }
 {
     year % 4 == 0 && (year % 100 != 0 || year % 400 == 0)
 }

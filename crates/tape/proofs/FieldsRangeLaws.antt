@@ -21,8 +21,8 @@ use Rattle.meaning.specs.Limits.{coefficientLimit, powerLimit}
 use Rattle.meaning.specs.Good.{GoodFinite, nought, nonzero}
 use Rattle.meaning.specs.Look.{Inside, Utf8Inside}
 use Rattle.meaning.proofs.Fitting.{finite-power}
-use Rattle.tape.specs.Between.Fields.{Decides, holds, fails}
-use Rattle.tape.proofs.FieldsLaws.{by-test, decides-as}
+use Rattle.rules.specs.Between.Tests.{Decides, holds, fails}
+use Rattle.rules.proofs.TestsLaws.{by-test, decides-as}
 
 -- ---- numbers
 

@@ -1,7 +1,5 @@
 -- Two's complement.
 pub mod LittleEndianSignLaws
--- What a test promises, used and made.
-pub mod FieldsLaws
 -- The rules of a record's own fields, as their tests say them.
 pub mod FieldsRangeLaws
 -- Put: where there is room, and where there is none; one piece after the other.

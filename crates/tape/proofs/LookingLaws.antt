@@ -19,10 +19,10 @@ use Rattle.tape.specs.declared.Words.{Words}
 use Rattle.tape.specs.declared.Shape.{Shape}
 use Rattle.tape.specs.declared.Looked.{Looked}
 use Rattle.tape.specs.Between.Shapes.{Worded, Loaded, onlyRecord, Shaped, shaped, junk, wordsAt}
-use Rattle.tape.specs.Between.Fields.{Decides}
+use Rattle.rules.specs.Between.Tests.{Decides}
 use Rattle.tape.specs.Paper.{lookSaid}
 use Rattle.tape.specs.Looking.{Looks, found, past-end, not-one}
-use Rattle.tape.proofs.FieldsLaws.{held, failed}
+use Rattle.rules.proofs.TestsLaws.{held, failed}
 use Rattle.tape.proofs.ShapesLaws.{only}
 
 -- ---- four numbers that were loaded

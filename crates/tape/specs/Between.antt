@@ -5,5 +5,4 @@ pub mod Standing
 pub mod Judging
 -- What the functions below them promise their callers.
 pub mod Shapes
-pub mod Fields
 pub mod Turns

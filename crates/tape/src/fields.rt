@@ -4,7 +4,7 @@ ghost use lib.IntN.{natAbs};
 ghost use Rattle.meaning.specs.Limits.{day, offsetLimit};
 ghost use Rattle.meaning.specs.Good.{GoodFinite, GoodNumber, GoodDate, GoodTime};
 ghost use Rattle.meaning.specs.Look.{Inside, Utf8Inside, Ends, OwnFields};
-ghost use Rattle.tape.specs.Between.Fields.{Decides};
+ghost use Rattle.rules.specs.Between.Tests.{Decides};
 use meaning::DAY;
 use meaning::Date;
 use meaning::Number;

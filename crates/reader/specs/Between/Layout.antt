@@ -1,6 +1,5 @@
 -- What the readers of layout (docs/FORMAT.md, 2) promise. Assumes nothing.
 use mathlib.Core.Path.{_≡_}
-use mathlib.Core.Bool.{Bool, true, false}
 use mathlib.Core.List.{List}
 use Prim.Native.Nat.{ℕ, _≤_, _<_}
 use lib.ListN.{length, getD}
@@ -11,11 +10,6 @@ use Rattle.items.specs.Between.Places.{Onward}
 use Rattle.reader.specs.Between.Scanning.{Goes, Refuses, Bare}
 use Rattle.reader.specs.declared.layout.Comment.{Comment}
 use Rattle.reader.specs.declared.layout.Layout.{Layout}
-
--- whether P holds
-pub record Tells (P : Type 0) (r : Bool) : Type 0 where
-  pub yes : r ≡ true → P
-  pub no : r ≡ false → P → ⊥
 
 -- whatever is expected after it, the layout from p to q is passed
 abbrev pub Passes : List ℕ → ℕ → ℕ → Type 0

@@ -1,11 +1,11 @@
 -- What the functions below `utf8` and `date` (docs/FORMAT.md, 1.1 and 6) promise their callers. Assumes nothing.
-use mathlib.Core.Bool.{Bool, true, false, cond}
+use mathlib.Core.Bool.{cond}
 use mathlib.Core.List.{List}
 use Prim.Native.Nat.{ℕ, _+_, _≤_, _<_}
 use lib.Dec.{eqb}
 use lib.ListN.{length, getD, take, drop}
 use Rattle.rules.specs.Rfc3629.{Char, NoChar, Octets}
-use Rattle.rules.specs.Rfc3339.{Leap, Days}
+use Rattle.rules.specs.Rfc3339.{Days}
 
 -- each of the n bytes at the place `at` is at most r
 pub record AtMost (s : List ℕ) (at n r : ℕ) : Type 0 where
@@ -43,11 +43,6 @@ lowOf a = cond (eqb a 0xE0) 0xA0 (cond (eqb a 0xF0) 0x90 0x80)
 
 unfoldable pub highOf : ℕ → ℕ
 highOf a = cond (eqb a 0xED) 0x9F (cond (eqb a 0xF4) 0x8F 0xBF)
-
--- a test of a leap year
-pub data IsLeap (y : ℕ) : Bool → Type 0 where
-  leap : Leap y → IsLeap y true
-  common : (Leap y → ⊥) → IsLeap y false
 
 -- the days of the month, or 0 where the number is no month
 pub data Lasts (y m : ℕ) : ℕ → Type 0 where

@@ -2,6 +2,7 @@
 use native.Mathlib.Omega.{arith}
 use Prim.Native.Nat.{_-_}
 use lib.ListN.{length}
+use Rattle.rules.proofs.TestsLaws.{held, failed}
 use Rattle.reader.proofs.LayoutLaws.{Passing, none-yet, one-more, blanks-stop, blanks-end}
 use Rattle.reader.proofs.layout.blanks.Statement.{statement}
 use Rattle.reader.proofs.layout.blanks.Tie as tie
@@ -28,10 +29,10 @@ loop-less : tie.Need-loop-less Inv-loop μ-loop
 loop-less c = let o = c .before .before .before .before .loop .inv .onward in omega arith
 
 loop-again : tie.Need-loop-again Inv-loop μ-loop
-loop-again c = one-more (c .before .before .before .before .loop .inv) (omega arith) (c .before .is-blank .ensures .yes (c .if1 .taken))
+loop-again c = one-more (c .before .before .before .before .loop .inv) (omega arith) (held (c .before .is-blank .ensures) (c .if1 .taken))
 
 returns : tie.Need-returns Inv-loop μ-loop
-returns c = blanks-stop (c .before .before .before .before .loop .inv) (c .before .is-blank .ensures .no (c .if1 .left))
+returns c = blanks-stop (c .before .before .before .before .loop .inv) (failed (c .before .is-blank .ensures) (c .if1 .left))
 
 returns-2 : tie.Need-returns-2 Inv-loop μ-loop
 returns-2 c = blanks-end (c .before .loop .inv) (omega arith)

@@ -4,6 +4,7 @@ use lib.Dec.{eqb}
 use lib.ListN.{length, getD}
 use Rattle.meaning.specs.Letters.{ch}
 use Rattle.machine.specs.Machine.{block}
+use Rattle.rules.proofs.TestsLaws.{held, failed}
 use Rattle.reader.proofs.LayoutLaws.{Noting, noting, note-more, note-ends, note-breaks, note-unended}
 use Rattle.reader.proofs.LayoutLaws.{blocked, block-leads, slash-closes, control-breaks, block-open}
 use Rattle.reader.proofs.layout.block.Statement.{statement}
@@ -35,7 +36,7 @@ returns : tie.Need-returns Inv-loop μ-loop
 returns c =
     let text = c .before .before .before .before .before .before .args .text .now in
     let l = c .before .before .before .before .loop in
-    let e = c .before .closes .ensures .yes (c .if1 .taken) in
+    let e = held (c .before .closes .ensures) (c .if1 .taken) in
     note-ends (l .inv) (omega arith) (slash-closes text (l .at) (eqb (l .last) (ch "*")) (e .0) (e .1))
 
 is-control-requires : tie.Need-is-control-requires Inv-loop μ-loop
@@ -45,7 +46,7 @@ returns-2 : tie.Need-returns-2 Inv-loop μ-loop
 returns-2 c =
     let text = c .before .before .before .before .before .before .before .before .args .text .now in
     let l = c .before .before .before .before .before .before .loop in
-    note-breaks (l .inv) (omega arith) (control-breaks text (l .at) (eqb (l .last) (ch "*")) (c .before .is-control .ensures .yes (c .if2 .taken)))
+    note-breaks (l .inv) (omega arith) (control-breaks text (l .at) (eqb (l .last) (ch "*")) (held (c .before .is-control .ensures) (c .if2 .taken)))
 
 add-at : tie.Need-add-at Inv-loop μ-loop
 add-at c = omega arith
@@ -57,8 +58,8 @@ loop-again : tie.Need-loop-again Inv-loop μ-loop
 loop-again c =
     let text = c .before .before .before .before .before .before .before .before .args .text .now in
     let l = c .before .before .before .before .before .before .loop in
-    let unclosed = c .before .before .before .closes .ensures .no (c .before .before .if1 .left) in
-    let leads = block-leads text (l .at) (eqb (l .last) (ch "*")) unclosed (c .before .is-control .ensures .no (c .if2 .left)) in
+    let unclosed = failed (c .before .before .before .closes .ensures) (c .before .before .if1 .left) in
+    let leads = block-leads text (l .at) (eqb (l .last) (ch "*")) unclosed (failed (c .before .is-control .ensures) (c .if2 .left)) in
     note-more (l .inv) (blocked (eqb (getD text (l .at) 0) (ch "*"))) (omega arith) leads
 
 returns-3 : tie.Need-returns-3 Inv-loop μ-loop

@@ -3,6 +3,7 @@ use Prim.Native.Nat.{_-_}
 use mathlib.Core.Path.{refl}
 use lib.ListN.{length}
 use Rattle.machine.specs.Machine.{line}
+use Rattle.rules.proofs.TestsLaws.{held, failed}
 use Rattle.reader.proofs.LayoutLaws.{Noting, noting, note-more, note-ends, note-over, note-breaks, line-leads}
 use Rattle.reader.proofs.layout.line.Statement.{statement}
 use Rattle.reader.proofs.layout.line.Tie as tie
@@ -31,7 +32,7 @@ add-t10 c = omega arith
 
 returns : tie.Need-returns Inv-loop μ-loop
 returns c =
-    let e = c .before .is-line-end .ensures .yes (c .if1 .taken) in
+    let e = held (c .before .is-line-end .ensures) (c .if1 .taken) in
     note-ends (c .before .before .before .before .loop .inv) (omega arith) (λ s d k. rw e)
 
 is-control-requires : tie.Need-is-control-requires Inv-loop μ-loop
@@ -39,7 +40,7 @@ is-control-requires c κs = tt
 
 returns-2 : tie.Need-returns-2 Inv-loop μ-loop
 returns-2 c =
-    let e = c .before .is-control .ensures .yes (c .if2 .taken) in
+    let e = held (c .before .is-control .ensures) (c .if2 .taken) in
     note-breaks (c .before .before .before .before .before .before .loop .inv) (omega arith) (λ s d k. rw e)
 
 add-at : tie.Need-add-at Inv-loop μ-loop
@@ -52,8 +53,8 @@ loop-again : tie.Need-loop-again Inv-loop μ-loop
 loop-again c =
     let text = c .before .before .before .before .before .before .before .before .args .text .now in
     let l = c .before .before .before .before .before .before .loop in
-    let other = c .before .before .before .is-line-end .ensures .no (c .before .before .if1 .left) in
-    note-more (l .inv) line (omega arith) (line-leads text (l .at) other (c .before .is-control .ensures .no (c .if2 .left)))
+    let other = failed (c .before .before .before .is-line-end .ensures) (c .before .before .if1 .left) in
+    note-more (l .inv) line (omega arith) (line-leads text (l .at) other (failed (c .before .is-control .ensures) (c .if2 .left)))
 
 returns-3 : tie.Need-returns-3 Inv-loop μ-loop
 returns-3 c = note-over (c .before .loop .inv) (omega arith) (λ s d k. refl)

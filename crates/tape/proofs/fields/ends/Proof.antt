@@ -1,7 +1,7 @@
 -- `fields::ends`: both bounds. Assumes nothing.
 use native.Mathlib.Omega.{arith}
-use Rattle.tape.specs.Between.Fields.{fails}
-use Rattle.tape.proofs.FieldsLaws.{at-most-test, both-test}
+use Rattle.rules.specs.Between.Tests.{fails}
+use Rattle.rules.proofs.TestsLaws.{at-most-test, both-test}
 use Rattle.tape.proofs.fields.ends.Statement.{statement}
 use Rattle.tape.proofs.fields.ends.Tie as tie
 

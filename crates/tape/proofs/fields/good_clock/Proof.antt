@@ -1,5 +1,5 @@
 -- `fields::good_clock`: one bound. Assumes nothing.
-use Rattle.tape.proofs.FieldsLaws.{less-test}
+use Rattle.rules.proofs.TestsLaws.{less-test}
 use Rattle.tape.proofs.fields.good_clock.Statement.{statement}
 use Rattle.tape.proofs.fields.good_clock.Tie as tie
 

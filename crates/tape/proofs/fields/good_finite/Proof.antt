@@ -1,7 +1,7 @@
 -- `fields::good_finite`: each rule of a coefficient and a power. Assumes nothing.
 use mir.Syntax.{w32}
 use Rattle.meaning.proofs.Fitting.{finite-power}
-use Rattle.tape.specs.Between.Fields.{fails}
+use Rattle.rules.specs.Between.Tests.{fails}
 use Rattle.tape.proofs.FieldsRangeLaws.{too-low-bits, in-range-bits, zero-good, ends-in-zero-bad, nonzero-good}
 use Rattle.tape.proofs.fields.good_finite.Statement.{statement}
 use Rattle.tape.proofs.fields.good_finite.Tie as tie

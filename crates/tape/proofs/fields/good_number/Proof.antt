@@ -1,7 +1,7 @@
 -- `fields::good_number`: by cases. Assumes nothing.
 use mir.Syntax.{w32}
 use mir.ValLaws.{toZ-ofZ}
-use Rattle.tape.specs.Between.Fields.{holds}
+use Rattle.rules.specs.Between.Tests.{holds}
 use borrow.Author.Needs.{needs}
 use Rattle.tape.proofs.fields.good_number.Statement.{statement}
 use Rattle.tape.proofs.fields.good_number.Tie as tie

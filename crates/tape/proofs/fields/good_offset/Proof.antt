@@ -1,6 +1,6 @@
 -- `fields::good_offset`: both bounds. Assumes nothing.
 use mir.Syntax.{w16}
-use Rattle.tape.specs.Between.Fields.{fails}
+use Rattle.rules.specs.Between.Tests.{fails}
 use Rattle.tape.proofs.FieldsRangeLaws.{too-low-bits, in-range-bits}
 use Rattle.tape.proofs.fields.good_offset.Statement.{statement}
 use Rattle.tape.proofs.fields.good_offset.Tie as tie

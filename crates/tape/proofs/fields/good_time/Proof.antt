@@ -6,8 +6,8 @@ use lib.IntN.{natAbs}
 use mir.Syntax.{w16}
 use mir.ValLaws.{toZ-ofZ}
 use Rattle.meaning.specs.Limits.{day, offsetLimit}
-use Rattle.tape.specs.Between.Fields.{Decides}
-use Rattle.tape.proofs.FieldsLaws.{held, decides-as, fails-too, both-test}
+use Rattle.rules.specs.Between.Tests.{Decides}
+use Rattle.rules.proofs.TestsLaws.{held, decides-as, fails-too, both-test}
 use borrow.Author.Needs.{needs}
 use Rattle.tape.proofs.fields.good_time.Statement.{statement}
 use Rattle.tape.proofs.fields.good_time.Tie as tie

@@ -1,6 +1,6 @@
 -- `fields::inside`: the sum is never made. Assumes nothing.
 use native.Mathlib.Omega.{arith}
-use Rattle.tape.specs.Between.Fields.{fails}
+use Rattle.rules.specs.Between.Tests.{fails}
 use Rattle.tape.proofs.FieldsRangeLaws.{inside-test}
 use Rattle.tape.proofs.fields.inside.Statement.{statement}
 use Rattle.tape.proofs.fields.inside.Tie as tie

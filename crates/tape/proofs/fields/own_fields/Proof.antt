@@ -1,5 +1,5 @@
 -- `fields::own_fields`: by cases. Assumes nothing.
-use Rattle.tape.specs.Between.Fields.{holds}
+use Rattle.rules.specs.Between.Tests.{holds}
 use borrow.Author.Needs.{needs}
 use Rattle.tape.proofs.fields.own_fields.Statement.{statement}
 use Rattle.tape.proofs.fields.own_fields.Tie as tie

@@ -1,7 +1,7 @@
 -- `fields::utf8_inside`: inside first, then UTF-8. Assumes nothing.
 use native.Mathlib.Omega.{arith}
-use Rattle.tape.specs.Between.Fields.{fails}
-use Rattle.tape.proofs.FieldsLaws.{held, failed}
+use Rattle.rules.specs.Between.Tests.{fails}
+use Rattle.rules.proofs.TestsLaws.{held, failed}
 use Rattle.tape.proofs.FieldsRangeLaws.{part-of, is-utf8, is-not-utf8}
 use borrow.Author.Needs.{needs}
 use Rattle.tape.proofs.fields.utf8_inside.Statement.{statement}

@@ -1,6 +1,6 @@
 -- `step::container`: the unnamed bytes, then the end. Assumes nothing.
 use Rattle.tape.specs.Between.Turns.{passes, fails}
-use Rattle.tape.proofs.FieldsLaws.{held, failed}
+use Rattle.rules.proofs.TestsLaws.{held, failed}
 use borrow.Author.Needs.{needs}
 use Rattle.tape.proofs.step.container.Statement.{statement}
 use Rattle.tape.proofs.step.container.Tie as tie

@@ -2,7 +2,7 @@
 use native.Mathlib.Omega.{arith}
 use mir.Syntax.{w32}
 use Rattle.tape.specs.Between.Turns.{passes, fails}
-use Rattle.tape.proofs.FieldsLaws.{held, failed}
+use Rattle.rules.proofs.TestsLaws.{held, failed}
 use Rattle.tape.proofs.LittleEndianSignLaws.{read-back}
 use borrow.Author.Needs.{needs}
 use Rattle.tape.proofs.step.number.Statement.{statement}

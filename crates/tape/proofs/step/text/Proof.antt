@@ -1,7 +1,7 @@
 -- `step::text`: the unnamed bytes, then the fields. Assumes nothing.
 use native.Mathlib.Omega.{arith}
 use Rattle.tape.specs.Between.Turns.{passes, fails}
-use Rattle.tape.proofs.FieldsLaws.{held, failed}
+use Rattle.rules.proofs.TestsLaws.{held, failed}
 use borrow.Author.Needs.{needs}
 use Rattle.tape.proofs.step.text.Statement.{statement}
 use Rattle.tape.proofs.step.text.Tie as tie

@@ -5,7 +5,7 @@ use Prim.Native.Nat.{ℕ, _≤_, _<_}
 use lib.Dec.{ltb, leb}
 use borrow.Author.Tests.{ltb-true, ltb-false, leb-true, leb-false}
 use native.Mathlib.Omega.{arith}
-use Rattle.tape.specs.Between.Fields.{Decides, holds, fails}
+use Rattle.rules.specs.Between.Tests.{Decides, holds, fails}
 
 pub by-test : {P : Type 0} (b : Bool) → (b ≡ true → P) → (b ≡ false → P → ⊥) → Decides P b
 by-test true f g = holds (f refl)
@@ -37,3 +37,7 @@ at-most-test a b = by-test (leb a b) (λ e. leb-true a b e) (λ e p. omega (arit
 
 pub both-test : {P R : Type 0} {b : Bool} → P → Decides R b → Decides (P × R) b
 both-test p d = decides-as (λ r. (p, r)) (λ q. q .1) d
+
+pub true-test : {P : Type 0} (b : Bool) → P → Decides ((b ≡ true) × P) b
+true-test true p = holds (refl, p)
+true-test false p = fails (λ x. let e = x .0 in let z : _≡_ {A = ℕ} 0 1 = cc in omega arith)

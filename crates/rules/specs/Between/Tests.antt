@@ -1,4 +1,5 @@
--- What a test of a record's fields (docs/FORMAT.md, 11.4) promises. Assumes nothing.
+-- What a test promises: of a leap year (docs/FORMAT.md, 6) here, of layout, letters and fields in the crates above.
+-- Assumes nothing.
 use mathlib.Core.Bool.{Bool, true, false}
 
 -- true exactly where P holds
