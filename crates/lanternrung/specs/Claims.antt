@@ -58,7 +58,7 @@ pub record Holds (m : Meaning) (tape store : List ℕ) (a : Answer) (tape' store
   pub taped : tape' ≡ laid (tapeOf m) tape
   pub stored : store' ≡ laid (storeOf m) store
 
--- accepted: of what `read` may answer and leave
+-- of what `read` answers and leaves: done exactly where it takes the text, and then holds its meaning
 pub record Accepted (text tape store : List ℕ) (a : Answer) (tape' store' : List ℕ) : Type 0 where
   pub exactly : Counted a ↔ ((m : Meaning) × Takes text tape store m)
   pub then : (m : Meaning) → Takes text tape store m → Holds m tape store a tape' store'
@@ -69,10 +69,16 @@ pub record SizesOf (m : Meaning) (a : Answer) : Type 0 where
   pub tape-size : length (tapeOf m) ≡ records m * 16
   pub store-size : length (storeOf m) ≡ bytes m
 
--- measured: of what `measure` may answer
+-- of what `measure` answers
 pub record Measured (text : List ℕ) (a : Answer) : Type 0 where
   pub exactly : Counted a ↔ ((m : Meaning) × Text true text m)
   pub then : (m : Meaning) → Text true text m → SizesOf m a
+
+-- accepted, measured: this is so of all that the two calls may answer and leave
+pub record IsRead : Type 0 where
+  pub read : {text tape store : List ℕ} {a : Answer} {tape' store' : List ℕ} → Reads text tape store a tape' store'
+      → Accepted text tape store a tape' store'
+  pub measure : {text : List ℕ} {a : Answer} → Measures text a → Measured text a
 
 -- refusals: which of 1 to 7 is given, and where; by `read` whatever is lent
 pub record Refusals : Type 0 where

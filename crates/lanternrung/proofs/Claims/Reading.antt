@@ -23,7 +23,7 @@ use Rattle.machine.proofs.Refusals.Whole as machine-refusals
 use Rattle.reader.specs.declared.Answer.{Answer}
 use Rattle.reader.specs.Answers.{tapeBytes, Measures, Reads}
 use Rattle.reader.proofs.Claims as reader
-use Rattle.lanternrung.specs.Claims.{OneReading, Counted, Takes, Holds, Accepted, SizesOf, Measured, Refusals, Within, Bounded}
+use Rattle.lanternrung.specs.Claims.{OneReading, Counted, Takes, Holds, Accepted, SizesOf, Measured, IsRead, Refusals, Within, Bounded}
 
 -- ---- unambiguous: the grammar gives no text two meanings
 
@@ -67,6 +67,9 @@ measured {text} {a} p = record { exactly = (only, λ w. (records (w .0), bytes (
           tape-length m;
       store-size = refl;
     }
+
+pub is-read : IsRead
+is-read = record { read = accepted; measure = measured }
 
 -- ---- refusals: which of 1 to 7 is given, and where
 
