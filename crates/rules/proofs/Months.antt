@@ -6,12 +6,11 @@ use Prim.Native.Nat.{ℕ, zero, suc, _+_, _%_, _≤_, _<_}
 use native.Mathlib.Decide.{ℕ-discrete, decLe}
 use native.Mathlib.Omega.{arith}
 use lib.Dec.{eqb, leb}
-use lib.ListN.{getD, List·getD-eq-default}
-use borrow.Author.Tests.{eq-eqb, ne-eqb, le-leb, leb-true}
+use borrow.Author.Tests.{eq-eqb, ne-eqb, le-leb, lt-leb, leb-true}
 use Rattle.rules.specs.Rfc3339.{Leap, fourth, fourth-hundred, Days, january, february-normal, february-leap, march, april, may, june, july, august}
 use Rattle.rules.specs.Rfc3339.{september, october, november, december, Date, Dated, done}
 use Rattle.rules.specs.Rfc3339
-use Rattle.rules.specs.Between.Decided.{table, isLeap, daysOf, isDate}
+use Rattle.rules.specs.Between.Decided.{isLeap, longOrShort, daysOf, isDate}
 use Rattle.rules.specs.Between.Posts.{Lasts, month, no-month}
 use Rattle.rules.specs.Between.Tests.{Decides, holds, fails}
 use Rattle.rules.specs.declared.DateAnswer.{DateAnswer}
@@ -67,22 +66,25 @@ february y false (fails f) = month (february-normal f)
 pub february-is : (y m : ℕ) {k l : Bool} → m ≡ 2 → k ≡ l → Decides (Leap y) k → Lasts y m (cond l 29 28)
 february-is y m {k} {l} e f i = rw (e, ← f) (february y k i)
 
--- each row but February's
-pub row : (y m : ℕ) → m ≤ 12 → (m ≡ 2 → ⊥) → Lasts y m (getD table m 0)
-row y zero h f = no-month (λ n x. omega (arith, is-month x))
-row y (suc zero) h f = month january
-row y (suc (suc zero)) h f = absurd (f refl)
-row y (suc (suc (suc zero))) h f = month march
-row y (suc (suc (suc (suc zero)))) h f = month april
-row y (suc (suc (suc (suc (suc zero))))) h f = month may
-row y (suc (suc (suc (suc (suc (suc zero)))))) h f = month june
-row y (suc (suc (suc (suc (suc (suc (suc zero))))))) h f = month july
-row y (suc (suc (suc (suc (suc (suc (suc (suc zero)))))))) h f = month august
-row y (suc (suc (suc (suc (suc (suc (suc (suc (suc zero))))))))) h f = month september
-row y (suc (suc (suc (suc (suc (suc (suc (suc (suc (suc zero)))))))))) h f = month october
-row y (suc (suc (suc (suc (suc (suc (suc (suc (suc (suc (suc zero))))))))))) h f = month november
-row y (suc (suc (suc (suc (suc (suc (suc (suc (suc (suc (suc (suc zero)))))))))))) h f = month december
-row y (suc (suc (suc (suc (suc (suc (suc (suc (suc (suc (suc (suc (suc m))))))))))))) h f = absurd (omega arith)
+pub before-january : (y m : ℕ) → m < 1 → Lasts y m 0
+before-january y m h = no-month (λ n x. omega (arith, is-month x))
+
+-- each month but February
+pub by-rule : (y m : ℕ) → 1 ≤ m → m ≤ 12 → (m ≡ 2 → ⊥) → Lasts y m (longOrShort m)
+by-rule y zero l h f = absurd (omega arith)
+by-rule y (suc zero) l h f = month january
+by-rule y (suc (suc zero)) l h f = absurd (f refl)
+by-rule y (suc (suc (suc zero))) l h f = month march
+by-rule y (suc (suc (suc (suc zero)))) l h f = month april
+by-rule y (suc (suc (suc (suc (suc zero))))) l h f = month may
+by-rule y (suc (suc (suc (suc (suc (suc zero)))))) l h f = month june
+by-rule y (suc (suc (suc (suc (suc (suc (suc zero))))))) l h f = month july
+by-rule y (suc (suc (suc (suc (suc (suc (suc (suc zero)))))))) l h f = month august
+by-rule y (suc (suc (suc (suc (suc (suc (suc (suc (suc zero))))))))) l h f = month september
+by-rule y (suc (suc (suc (suc (suc (suc (suc (suc (suc (suc zero)))))))))) l h f = month october
+by-rule y (suc (suc (suc (suc (suc (suc (suc (suc (suc (suc (suc zero))))))))))) l h f = month november
+by-rule y (suc (suc (suc (suc (suc (suc (suc (suc (suc (suc (suc (suc zero)))))))))))) l h f = month december
+by-rule y (suc (suc (suc (suc (suc (suc (suc (suc (suc (suc (suc (suc (suc m))))))))))))) l h f = absurd (omega arith)
 
 -- ---- one answer
 
@@ -135,13 +137,14 @@ is-days : {y m n : ℕ} → Lasts y m n → 0 < n → Days y m n
 is-days (month x) h = x
 is-days (no-month f) h = absurd (omega arith)
 
-days-stand : (y m : ℕ) → Lasts y m (daysOf (isLeap y) m)
-days-stand y m = go (ℕ-discrete m 2) (decLe m 12)
+pub days-stand : (y m : ℕ) → Lasts y m (daysOf (isLeap y) m)
+days-stand y m = go (ℕ-discrete m 2) (decLe 1 m) (decLe m 12)
   where
-    go : Dec (m ≡ 2) → Dec (m ≤ 12) → Lasts y m (daysOf (isLeap y) m)
-    go (yes e) q = rw (eq-eqb m 2 e) (february-is y m e refl (leap-is y))
-    go (no f) (yes h) = rw (ne-eqb m 2 f) (row y m h f)
-    go (no f) (no h) = rw (ne-eqb m 2 f, List·getD-eq-default table 0 {n = m} (omega arith)) (past-december y m (omega arith))
+    go : Dec (m ≡ 2) → Dec (1 ≤ m) → Dec (m ≤ 12) → Lasts y m (daysOf (isLeap y) m)
+    go (yes e) q p = rw (eq-eqb m 2 e) (february-is y m e refl (leap-is y))
+    go (no f) (no l) p = rw (ne-eqb m 2 f, lt-leb 1 m (omega arith)) (before-january y m (omega arith))
+    go (no f) (yes l) (no h) = rw (ne-eqb m 2 f, le-leb 1 m l, lt-leb m 12 (omega arith)) (past-december y m (omega arith))
+    go (no f) (yes l) (yes h) = rw (ne-eqb m 2 f, le-leb 1 m l, le-leb m 12 h) (by-rule y m l h f)
 
 both : (a b : Bool) → cond a b false ≡ true → (a ≡ true) × (b ≡ true)
 both true b e = (refl, e)

@@ -3,7 +3,7 @@
 -- `is-date` of proofs/Months.antt). Assumes nothing.
 use mathlib.Core.Bool.{Bool, true, false, cond}
 use mathlib.Core.List.{List, [], _∷_}
-use Prim.Native.Nat.{ℕ, zero, suc, _+_, _-_, _%_}
+use Prim.Native.Nat.{ℕ, zero, suc, _+_, _-_, _/_, _%_}
 use lib.Count.{leadingZeros}
 use lib.Dec.{eqb, leb, ltb}
 use lib.ListN.{length, getD}
@@ -52,13 +52,13 @@ judged s = faultFrom (length s) s 0
 unfoldable pub isLeap : ℕ → Bool
 isLeap y = cond (eqb (y % 4) 0) (cond (eqb (y % 100) 0) (eqb (y % 400) 0) true) false
 
--- the list of the code
-abbrev pub table : List ℕ
-table = 0 ∷ 31 ∷ 28 ∷ 31 ∷ 30 ∷ 31 ∷ 30 ∷ 31 ∷ 31 ∷ 30 ∷ 31 ∷ 30 ∷ 31 ∷ []
+-- the days of a month other than February: up to July the odd months have 31, from August on the even ones
+abbrev pub longOrShort : ℕ → ℕ
+longOrShort m = 30 + (m + m / 8) % 2
 
--- the days of a month, in a leap year or not
+-- the days of a month, in a leap year or not; 0 where the number is no month
 abbrev pub daysOf : Bool → ℕ → ℕ
-daysOf leap m = cond (eqb m 2) (cond leap 29 28) (getD table m 0)
+daysOf leap m = cond (eqb m 2) (cond leap 29 28) (cond (leb 1 m) (cond (leb m 12) (longOrShort m) 0) 0)
 
 unfoldable pub isDate : ℕ → ℕ → ℕ → Bool
 isDate y m d = cond (leb y 9999) (cond (leb 1 d) (leb d (daysOf (isLeap y) m)) false) false

@@ -1,5 +1,6 @@
--- February by the kind of year, every other month by its row. Assumes nothing.
-use Rattle.rules.proofs.Months.{past-december, february-is, row}
+-- February by the kind of year, every other month by the list. Assumes nothing.
+use Rattle.rules.proofs.CalendarLaws.{by-list}
+use Rattle.rules.proofs.Months.{past-december, february-is}
 use borrow.Author.Needs.{needs}
 use Rattle.rules.proofs.calendar.days.Statement.{statement}
 use Rattle.rules.proofs.calendar.days.Tie as tie
@@ -26,7 +27,7 @@ array-read-result : tie.Need-array-read-result
 array-read-result c = search needs
 
 returns-4 : tie.Need-returns-4
-returns-4 c = row _ _ (c .before .if1 .left) (c .if2 .left)
+returns-4 c = by-list _ _ (c .before .if1 .left) (c .if2 .left)
 
 pub days-spec : {M : Type 1} → statement M
 days-spec =
