@@ -241,10 +241,12 @@ secfrac (Time-secfrac.given f) = ascii (lit≤ tt) (fraction f)
 
 separator : {b : ℕ} → Separator b → b ≤ 0x7F
 separator Separator.letter = lit≤ tt
+separator Separator.small-letter = lit≤ tt
 separator Separator.space = lit≤ tt
 
 zulu : {b : ℕ} → Zulu b → b ≤ 0x7F
 zulu Zulu.letter = lit≤ tt
+zulu Zulu.small-letter = lit≤ tt
 
 plus-minus : {b : ℕ} {g : Bool} → Plus-minus b g → b ≤ 0x7F
 plus-minus Plus-minus.plus = lit≤ tt

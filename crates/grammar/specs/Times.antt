@@ -46,14 +46,16 @@ pub data Local-date (k : Bool) : List ℕ → D.Date → Type 0 where
       → Checked k (Calendar.Date y m d)
       → Local-date k (a ++ (ch "-" ∷ (b ++ (ch "-" ∷ c)))) (record { year = y; month = m; day = d })
 
--- ( "T" / " " )
+-- ( "T" / " " ); a letter between quotes stands for both its cases (RFC 5234, 2.3)
 pub data Separator : ℕ → Type 0 where
   letter : Separator (ch "T")
+  small-letter : Separator (ch "t")
   space : Separator (ch " ")
 
--- "Z"
+-- "Z", so too
 pub data Zulu : ℕ → Type 0 where
   letter : Zulu (ch "Z")
+  small-letter : Zulu (ch "z")
 
 -- ( plus / minus ) before n minutes
 abbrev pub signed : Bool → ℕ → ℤ

@@ -153,10 +153,21 @@ vectors =
     -- 13. After `T` there is no way back.
     ∷ text "2021-03-04Tx" (refused 3 11)
     ∷ text "2021-03-04T" (refused 3 11)
-    -- 14. Small letters.
-    ∷ text "2021-03-04t05:06:07" (refused 3 10)
+    -- 14. Small letters: t and z wherever T and Z may stand, and nothing else.
+    ∷ text "2021-03-04t05:06:07" (means "2021-03-04T05:06:07")
     ∷ text "2021-13-04t05:06:07" (refused 5 0)
-    ∷ text "2021-03-04T05:06:07z" (refused 3 19)
+    ∷ text "2021-03-04T05:06:07z" (means "2021-03-04T05:06:07Z")
+    ∷ text "2021-03-04t05:06:07.5z" (means "2021-03-04T05:06:07.5Z")
+    ∷ text "2021-03-04 05:06:07z" (means "2021-03-04T05:06:07Z")
+    ∷ text "2021-03-04t05:06:07zz" (refused 3 20)
+    ∷ text "2021-03-04tx" (refused 3 11)
+    ∷ text "2021-03-04t" (refused 3 11)
+    ∷ text "2021-03-04 t05:06:07" (refused 3 11)
+    ∷ text "2021-13-04t" (refused 3 11)
+    ∷ text "2021-13-04z" (refused 5 0)
+    ∷ text "2021-03-04z" (refused 3 10)
+    ∷ text "05:06:07z" (refused 3 8)
+    ∷ text "\"\\U0041\"" (refused 3 2)
     -- 15. Offset fields are judged as hour and minute, not as a sum.
     ∷ text "2021-03-04T05:06:07+24:00" (refused 5 0)
     ∷ text "2021-03-04T05:06:07+22:60" (refused 5 0)

@@ -152,23 +152,23 @@ hexTable b = row (ch "0") (ch "9") (value (b - ch "0")) ∷ row (ch "A") (ch "F"
 abbrev pub hexOf : ℕ → HexB
 hexOf b = pick (hexTable b) noHex b
 
--- after a date: the letter T, a space
+-- after a date: the letter T in either case, a space
 pub data Day : Type 0 where
   letterD spaceD otherD : Day
 
 abbrev pub dayTable : List (Row Day)
-dayTable = one (ch "T") letterD ∷ one (ch " ") spaceD ∷ []
+dayTable = one (ch "T") letterD ∷ one (ch "t") letterD ∷ one (ch " ") spaceD ∷ []
 
 abbrev pub dayOf : ℕ → Day
 dayOf = pick dayTable otherD
 
--- after a second: among others the letter Z
+-- after a second: among others the letter Z in either case
 pub data Sec : Type 0 where
   digitS pointS zuluS plusS minusS otherS : Sec
 
 abbrev pub secTable : List (Row Sec)
-secTable = row (ch "0") (ch "9") digitS ∷ one (ch ".") pointS ∷ one (ch "Z") zuluS ∷ one (ch "+") plusS ∷
-    one (ch "-") minusS ∷ []
+secTable = row (ch "0") (ch "9") digitS ∷ one (ch ".") pointS ∷ one (ch "Z") zuluS ∷ one (ch "z") zuluS ∷
+    one (ch "+") plusS ∷ one (ch "-") minusS ∷ []
 
 abbrev pub secOf : ℕ → Sec
 secOf = pick secTable otherS

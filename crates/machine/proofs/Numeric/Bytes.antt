@@ -185,10 +185,12 @@ date-plain (Local-date.local-date y m d x) = each-join (decimal-plain y) (all-mo
 
 separator-plain : {b : ℕ} → Separator b → In 0 0x7F b
 separator-plain Separator.letter = plain-byte (ch "T") (omega arith)
+separator-plain Separator.small-letter = plain-byte (ch "t") (omega arith)
 separator-plain Separator.space = plain-byte (ch " ") (omega arith)
 
 zulu-plain : {b : ℕ} → Zulu b → In 0 0x7F b
 zulu-plain Zulu.letter = plain-byte (ch "Z") (omega arith)
+zulu-plain Zulu.small-letter = plain-byte (ch "z") (omega arith)
 
 plus-minus-plain : {b : ℕ} {g : Bool} → Plus-minus b g → In 0 0x7F b
 plus-minus-plain Plus-minus.plus = plain-byte (ch "+") (omega arith)

@@ -148,6 +148,7 @@ sep-run : {x y mo d h m s n : ℕ} {a b c f z : List ℕ} {Q : Res → Type 0} �
     → (q : ℕ) → ((st : St) → Clocked q (on (dated y mo d)) h m s n st → (p : ℕ) → Run Q p st z) → (p : ℕ)
     → Run Q p (field q (day y mo) zero d) (x ∷ (a ++ (ch ":" ∷ (b ++ (ch ":" ∷ (c ++ (f ++ z)))))))
 sep-run {y = y} {mo = mo} {d = d} Separator.letter i j o u q k p = took (hour-run q (dated y mo d) i j o u k (suc p)) refl
+sep-run {y = y} {mo = mo} {d = d} Separator.small-letter i j o u q k p = took (hour-run q (dated y mo d) i j o u k (suc p)) refl
 sep-run {y = y} {mo = mo} {d = d} Separator.space (Digits.next {b = b} (Digit.digit v) i) j o u q k p =
     took (took (hour-run q (dated y mo d) i j o u k (suc (suc p))) (rw (dg-digit b v))) refl
 

@@ -161,17 +161,20 @@ hex-class b = pick-is HexIs (S.hexTable b) S.noHex b (
 )
 
 pub data DayIs : ℕ → S.Day → Type 0 where
-  letter : {b : ℕ} → Separator b → DayIs b S.letterD
+  letter : {b : ℕ} → Separator b → (b ≡ ch " " → ⊥) → DayIs b S.letterD
   space : DayIs (ch " ") S.spaceD
   other : {b : ℕ} → DayIs b S.otherD
 
 pub day-class : (b : ℕ) → DayIs b (S.dayOf b)
 day-class b =
     pick-is DayIs S.dayTable S.otherD b (
-      (λ i. let e : b ≡ ch "T" = omega arith in rw e (DayIs.letter Separator.letter)),
+      (λ i. let e : b ≡ ch "T" = omega arith in rw e (DayIs.letter Separator.letter (λ j. omega arith))),
       (
-        (λ i. let e : b ≡ ch " " = omega arith in rw e DayIs.space),
-        DayIs.other,
+        (λ i. let e : b ≡ ch "t" = omega arith in rw e (DayIs.letter Separator.small-letter (λ j. omega arith))),
+        (
+          (λ i. let e : b ≡ ch " " = omega arith in rw e DayIs.space),
+          DayIs.other,
+        ),
       ),
     )
 
@@ -192,10 +195,13 @@ sec-class b =
         (
           (λ i. let e : b ≡ ch "Z" = omega arith in rw e (SecIs.zIs Zulu.letter)),
           (
-            (λ i. let e : b ≡ ch "+" = omega arith in rw e SecIs.plus),
+            (λ i. let e : b ≡ ch "z" = omega arith in rw e (SecIs.zIs Zulu.small-letter)),
             (
-              (λ i. let e : b ≡ ch "-" = omega arith in rw e SecIs.minus),
-              SecIs.other,
+              (λ i. let e : b ≡ ch "+" = omega arith in rw e SecIs.plus),
+              (
+                (λ i. let e : b ≡ ch "-" = omega arith in rw e SecIs.minus),
+                SecIs.other,
+              ),
             ),
           ),
         ),
@@ -226,6 +232,7 @@ hex-is {b} (Hexdig.lower i) = found (S.hexTable b) S.noHex b _ (inr ((λ j. omeg
 
 pub zulu-is : {b : ℕ} → Zulu b → S.secOf b ≡ S.zuluS
 zulu-is Zulu.letter = refl
+zulu-is Zulu.small-letter = refl
 
 pub dg-none : {b : ℕ} → NoDigit b → S.dgOf b ≡ S.other
 dg-none {b} (NoDigit.under l) = found S.dgTable S.other b S.other (inr ((λ i. omega arith), refl))

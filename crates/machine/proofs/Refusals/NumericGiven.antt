@@ -247,6 +247,7 @@ date-ended (Local-date.local-date {a = a} {b = b} y m d x) = more a (more (ch "-
 
 offset-ended : {k : Bool} {a : List ℕ} {o : ℤ} → Time-offset k a o → Ended a
 offset-ended (Time-offset.zulu Zulu.letter) = ([], ch "Z", refl, λ e. omega arith)
+offset-ended (Time-offset.zulu Zulu.small-letter) = ([], ch "z", refl, λ e. omega arith)
 offset-ended (Time-offset.numoffset {x = x} {a = a} p h (Time-minute.sixtieth m i)) = more (x ∷ a) (more (ch ":" ∷ []) (two-ended m))
 
 time-ended : {k : Bool} {a : List ℕ} {t : T.Time} → Time-value k a t → Ended a
