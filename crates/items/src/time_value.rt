@@ -10,6 +10,7 @@ use rules::DateAnswer;
 ghost use mathlib.Core.Path.{_≡_};
 ghost use mathlib.Core.Bool.{_&&_};
 ghost use Prim.Native.Nat.{_+_, _*_, _^_, _<_};
+ghost use Rattle.rules.specs.Between.Tests.{Decides};
 ghost use Rattle.meaning.specs.Clock.{timeOfDay};
 ghost use Rattle.meaning.specs.declared.Time.the-variants as Time;
 ghost use Rattle.grammar.specs.Times.{signed};
@@ -250,6 +251,20 @@ fn offset(s: &[u8], q: usize, d: Date, c: Clock, minus: bool, i: usize) -> Scann
     }
 }
 
+// The letter between a date and a time of day. The grammar quotes it, so either case will do.
+fn is_letter_t(b: u8) -> bool
+    ensures { λ r. ⌜ Decides (Numeric.dayOf b ≡ Numeric.letterD) r ⌝ }
+{
+    b == b'T' || b == b't'
+}
+
+// The letter that says that there is no offset, in either case too.
+fn is_letter_z(b: u8) -> bool
+    ensures { λ r. ⌜ Decides (Numeric.secOf b ≡ Numeric.zuluS) r ⌝ }
+{
+    b == b'Z' || b == b'z'
+}
+
 // After a date and a time of day.
 fn zone(s: &[u8], q: usize, d: Date, c: Clock, at: usize) -> Scanned
     requires { ⌜ Place (now s) at × Parted c ⌝ }
@@ -259,7 +274,7 @@ fn zone(s: &[u8], q: usize, d: Date, c: Clock, at: usize) -> Scanned
         return local_date_time(q, d, c, at);
     }
     let b = s[at];
-    if b == b'Z' {
+    if is_letter_z(b) {
         return offset_date_time(q, d, c, 0, at + 1);
     }
     if b == b'+' {
@@ -420,7 +435,7 @@ fn spaced(s: &[u8], q: usize, d: Date, i: usize) -> Scanned
     clock_at(s, q, d, i)
 }
 
-// After a date: it goes on with a time after T, or after one space followed by a digit.
+// After a date: it goes on with a time after the letter T, or after one space followed by a digit.
 fn dated(s: &[u8], q: usize, d: Date, at: usize) -> Scanned
     requires { ⌜ Place (now s) at ⌝ }
     ensures { λ r. ⌜ Reads (now (s .entry)) at (field q (Numeric.day (d .year) (d .month)) 0 (d .day)) r ⌝ }
@@ -429,7 +444,7 @@ fn dated(s: &[u8], q: usize, d: Date, at: usize) -> Scanned
         return date_done(q, d, at);
     }
     let b = s[at];
-    if b == b'T' {
+    if is_letter_t(b) {
         return clock_at(s, q, d, at + 1);
     }
     if b == b' ' {

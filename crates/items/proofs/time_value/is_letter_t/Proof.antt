@@ -1,0 +1,15 @@
+-- The capital letter, and else the small one. Assumes nothing.
+use mathlib.Core.Path.{refl}
+use Rattle.rules.specs.Between.Tests.{holds}
+use Rattle.items.proofs.TimeValueLaws.{t-test}
+use Rattle.items.proofs.time_value.is_letter_t.Statement.{statement}
+use Rattle.items.proofs.time_value.is_letter_t.Tie as tie
+
+returns : tie.Need-returns
+returns c = rw (c .if1 .taken) (holds refl)
+
+returns-2 : tie.Need-returns-2
+returns-2 c = t-test _ (c .if1 .left)
+
+pub is-letter-t-spec : {M : Type 1} → statement M
+is-letter-t-spec = tie.close (tie.spec returns returns-2)
