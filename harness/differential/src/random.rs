@@ -101,7 +101,9 @@ const PIECES: &[&[u8]] = &[
     b"\t",
     b"2021-03-04",
     b"T",
+    b"t",
     b"Z",
+    b"z",
     b"05:06:07",
     b"a",
     b"_",
@@ -120,7 +122,7 @@ const PIECES: &[&[u8]] = &[
 ];
 
 /// The bytes that mean something to some rule.
-const SIGNS: &[u8] = b"\"'\\/*#$+-:,.[]{}\n\r 019TZeExu";
+const SIGNS: &[u8] = b"\"'\\/*#$+-:,.[]{}\n\r 019TtZzeExu";
 
 fn damage(r: &mut Random, text: &mut Vec<u8>) {
     let at = r.below(text.len() + 1);
@@ -273,7 +275,7 @@ fn time(r: &mut Random, out: &mut Vec<u8>) {
         if r.one_in(3) {
             return out.extend(text.bytes());
         }
-        text += r.pick(&["T", " "]);
+        text += r.pick(&["T", "t", " "]);
     }
     let minute = r.pick(&["00", "59", "30", "07", "60"]);
     text += &format!("{}:{minute}:{}", r.pick(&["00", "23", "12", "05", "24"]), r.pick(&["00", "59", "01", "60"]));
@@ -283,7 +285,7 @@ fn time(r: &mut Random, out: &mut Vec<u8>) {
     }
     if dated && r.one_in(2) {
         text +=
-            r.pick(&["Z", "+00:00", "-00:00", "+23:59", "-23:59", "-00:01", "+01:30", "+24:00", "-12:60", "+22:60"]);
+            r.pick(&["Z", "z", "+00:00", "-00:00", "+23:59", "-23:59", "-00:01", "+01:30", "+24:00", "-12:60", "+22:60"]);
     }
     out.extend(text.bytes());
 }

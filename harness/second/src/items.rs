@@ -183,12 +183,17 @@ fn short_escape() -> Rx {
     b"\"'\\/0bfnrtv".iter().map(|&b| byte(b)).reduce(|a, b| a | b).expect("not empty")
 }
 
-// ---- Date and time; capital T and Z by 01
+// ---- Date and time
 
 fn time_value() -> Rx {
-    let time_offset = byte(b'Z') | sign() + times(2, digit()) + byte(b':') + times(2, digit());
-    let separator = byte(b'T') | space_before_digit();
+    let time_offset = quoted(b'Z') | sign() + times(2, digit()) + byte(b':') + times(2, digit());
+    let separator = quoted(b'T') | space_before_digit();
     local_time() | local_date() + opt(separator + local_time() + opt(time_offset))
+}
+
+/// RFC 5234, 2.3: a letter between quotes stands for both its cases (02, ticket 1).
+fn quoted(letter: u8) -> Rx {
+    byte(letter) | byte(letter.to_ascii_lowercase())
 }
 
 fn local_time() -> Rx {

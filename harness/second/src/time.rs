@@ -16,7 +16,7 @@ pub fn meaning(lexeme: &[u8]) -> Option<Value> {
         return Some(Value::LocalDate(date));
     }
     let rest = &text[11..];
-    match rest.find(['Z', '+', '-']) {
+    match rest.find(['Z', 'z', '+', '-']) {
         None => Some(Value::LocalDateTime(date, time_of_day(rest)?)),
         Some(at) => Some(Value::OffsetDateTime(date, time_of_day(&rest[..at])?, offset(&rest[at..])?)),
     }
@@ -52,7 +52,7 @@ fn time_of_day(text: &str) -> Option<u64> {
 
 /// An offset in minutes: its hour and minute are judged as those of a time are.
 fn offset(text: &str) -> Option<i16> {
-    if text == "Z" {
+    if text == "Z" || text == "z" {
         return Some(0);
     }
     let (hour, minute) = text[1..].split_once(':').expect("hh:mm");

@@ -42,7 +42,7 @@ fn run(cases: Vec<Case>, answer: fn(&[u8]) -> Vec<u8>, count: usize) {
 
 #[test]
 fn readings() {
-    run(cases::readings(), outcome, 156);
+    run(cases::readings(), outcome, 166);
 }
 
 #[test]
