@@ -251,14 +251,14 @@ fn offset(s: &[u8], q: usize, d: Date, c: Clock, minus: bool, i: usize) -> Scann
     }
 }
 
-// The letter between a date and a time of day. The grammar quotes it, so either case will do.
+// Whether a byte is the letter T, which leads from a date to a time of day: the grammar quotes it, so in either case.
 fn is_letter_t(b: u8) -> bool
     ensures { λ r. ⌜ Decides (Numeric.dayOf b ≡ Numeric.letterD) r ⌝ }
 {
     b == b'T' || b == b't'
 }
 
-// The letter that says that there is no offset, in either case too.
+// Whether a byte is the letter Z, an offset of 0, in either case too.
 fn is_letter_z(b: u8) -> bool
     ensures { λ r. ⌜ Decides (Numeric.secOf b ≡ Numeric.zuluS) r ⌝ }
 {
