@@ -47,6 +47,7 @@ pub fn times(mut each: impl FnMut(&[u8])) {
             each(format!("{n:02}:{m:02}:00").as_bytes());
             each(format!("[00:{n:02}:{m:02}.5]").as_bytes());
             each(format!("2000-02-29 {n:02}:{m:02}:59").as_bytes());
+            each(format!("2000-02-29t{n:02}:{m:02}:59z").as_bytes());
             each(format!("2000-02-29T00:00:00+{n:02}:{m:02}").as_bytes());
             each(format!("2000-02-29T00:00:00.{n:02}{m:02}-{n:02}:{m:02}").as_bytes());
             each(format!("12:34:56.0000{n:02}{m:02}{n:02}").as_bytes());
