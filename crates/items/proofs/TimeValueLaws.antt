@@ -3,6 +3,7 @@ use Prim.Native.Nat.{ℕ, zero, suc, _+_, _*_, _-_, _≤_, _<_, _^_}
 use mathlib.Core.Path.{_≡_, refl, sym, _∙_, ap, subst}
 use mathlib.Core.Bool.{Bool, true, false, _&&_}
 use mathlib.Core.List.{List}
+use mathlib.Core.Logic.{_⊎_, inl, inr, ⊎-elim}
 use native.Mathlib.Omega.{arith}
 use native.Mathlib.Nat.{zero-add, pow-suc, mul-le-mul-right, pow-le-pow-right, mul-assoc}
 use lib.Dec.{eqb, leb}
@@ -236,47 +237,29 @@ module _ (s : List ℕ) (q : ℕ) (d : Date) (c : Clock) (g : Bool) (h i : ℕ) 
         same-test true b c y z = rw (y, z)
         same-test false b c y z = refl
 
--- ---- the letters
-
--- neither case of the letter T
-not-t : {b : ℕ} → (b ≡ ch "T" → ⊥) → (b ≡ ch "t" → ⊥) → S.dayOf b ≡ S.letterD → ⊥
-not-t {b} x y e = go (day-class b) e x y
-  where
-    go : {b : ℕ} {k : S.Day} → DayIs b k → k ≡ S.letterD → (b ≡ ch "T" → ⊥) → (b ≡ ch "t" → ⊥) → ⊥
-    go (DayIs.letter G.Separator.letter n) e x y = x refl
-    go (DayIs.letter G.Separator.small-letter n) e x y = y refl
-    go (DayIs.letter G.Separator.space n) e x y = n refl
-    go DayIs.space e x y = let z : _≡_ {A = ℕ} 0 1 = cc in omega arith
-    go DayIs.other e x y = let z : _≡_ {A = ℕ} 0 1 = cc in omega arith
-
--- neither case of the letter Z
-not-z : {b : ℕ} → (b ≡ ch "Z" → ⊥) → (b ≡ ch "z" → ⊥) → secOf b ≡ S.zuluS → ⊥
-not-z {b} x y e = go (sec-class b) e x y
-  where
-    go : {b : ℕ} {k : S.Sec} → SecIs b k → k ≡ S.zuluS → (b ≡ ch "Z" → ⊥) → (b ≡ ch "z" → ⊥) → ⊥
-    go (SecIs.zIs G.Zulu.letter) e x y = x refl
-    go (SecIs.zIs G.Zulu.small-letter) e x y = y refl
-    go (SecIs.digit i) e x y = let z : _≡_ {A = ℕ} 0 1 = cc in omega arith
-    go SecIs.point e x y = let z : _≡_ {A = ℕ} 0 1 = cc in omega arith
-    go SecIs.plus e x y = let z : _≡_ {A = ℕ} 0 1 = cc in omega arith
-    go SecIs.minus e x y = let z : _≡_ {A = ℕ} 0 1 = cc in omega arith
-    go SecIs.other e x y = let z : _≡_ {A = ℕ} 0 1 = cc in omega arith
+-- ---- the letters, each in two cases
 
 -- the second half of a test whose first half has failed
-pub t-test : (b : ℕ) → (b ≡ ch "T" → ⊥) → Decides (S.dayOf b ≡ S.letterD) (eqb b (ch "t"))
-t-test b x = by-test (eqb b (ch "t")) (λ e. rw (eqb-true b (ch "t") e)) (λ e. not-t x (eqb-false b (ch "t") e))
+pub second-case : (b x y : ℕ) → (b ≡ x → ⊥) → Decides ((b ≡ x) ⊎ (b ≡ y)) (eqb b y)
+second-case b x y f = by-test (eqb b y) (λ e. inr (eqb-true b y e)) (λ e. ⊎-elim f (eqb-false b y e))
 
-pub z-test : (b : ℕ) → (b ≡ ch "Z" → ⊥) → Decides (secOf b ≡ S.zuluS) (eqb b (ch "z"))
-z-test b x = by-test (eqb b (ch "z")) (λ e. rw (eqb-true b (ch "z") e)) (λ e. not-z x (eqb-false b (ch "z") e))
+zulu-class : {b : ℕ} → (b ≡ ch "Z") ⊎ (b ≡ ch "z") → secOf b ≡ S.zuluS
+zulu-class (inl e) = rw e
+zulu-class (inr e) = rw e
+
+letter-class : {b : ℕ} → (b ≡ ch "T") ⊎ (b ≡ ch "t") → S.dayOf b ≡ S.letterD
+letter-class (inl e) = rw e
+letter-class (inr e) = rw e
 
 -- ---- after a clock
 
 module _ (q : ℕ) (d : Date) (h m s n : ℕ) where
-  zone-other : {b : ℕ} {k : S.Sec} → SecIs b k → (k ≡ S.zuluS → ⊥) → (b ≡ ch "+" → ⊥) → (b ≡ ch "-" → ⊥) → onZone q (S.on d) h m s n k
+  zone-other : {b : ℕ} {k : S.Sec} → SecIs b k → ((b ≡ ch "Z") ⊎ (b ≡ ch "z") → ⊥) → (b ≡ ch "+" → ⊥) → (b ≡ ch "-" → ⊥) → onZone q (S.on d) h m s n k
       ≡ clockDone q (S.on d) h m s n
   zone-other (SecIs.digit i) x y z = refl
   zone-other SecIs.point x y z = refl
-  zone-other (SecIs.zIs i) x y z = absurd (x refl)
+  zone-other (SecIs.zIs G.Zulu.letter) x y z = absurd (x (inl refl))
+  zone-other (SecIs.zIs G.Zulu.small-letter) x y z = absurd (x (inr refl))
   zone-other SecIs.plus x y z = absurd (y refl)
   zone-other SecIs.minus x y z = absurd (z refl)
   zone-other SecIs.other x y z = refl
@@ -289,19 +272,20 @@ module _ (s : List ℕ) (q : ℕ) (d : Date) (c : Clock) (at : ℕ) (r : Scanned
   zone-end h x st e = halts _ (e ∙ rw (byte-out s at h)) x
 
   module _ (h : at < length s) where
-    pub zone-none : (secOf (getD s at 0) ≡ S.zuluS → ⊥) → (getD s at 0 ≡ ch "+" → ⊥) → (getD s at 0 ≡ ch "-" → ⊥) → Stamped → Zoned s q (S.on d) c at r
+    pub zone-none : ((getD s at 0 ≡ ch "Z") ⊎ (getD s at 0 ≡ ch "z") → ⊥) → (getD s at 0 ≡ ch "+" → ⊥) → (getD s at 0 ≡ ch "-" → ⊥) → Stamped
+        → Zoned s q (S.on d) c at r
     zone-none x y z k st e =
         let p = byte-in s at h in
-        halts _ (e ∙ zone-other q d (c .hour) (c .minute) (c .second) (c .nanos) (sec-class (byteAt s at)) (λ j. x (ap secOf (sym p) ∙ j)) (λ j. y (sym p ∙ j))
+        halts _ (e ∙ zone-other q d (c .hour) (c .minute) (c .second) (c .nanos) (sec-class (byteAt s at)) (λ j. x (rw p at j)) (λ j. y (sym p ∙ j))
         (λ j. z (sym p ∙ j))) k
 
     zone-takes : (t : St) (st : St) → scan at st (byteAt s at) ≡ takes t → Reads s (at + 1) t r → Reads s at st r
     zone-takes t st e k = took t h (ap (scan at st) (sym (byte-in s at h)) ∙ e) k
 
-    pub zone-zulu : secOf (getD s at 0) ≡ S.zuluS → (o : ℤ) → o ≡ pos 0 → Closes (at + 1)
+    pub zone-zulu : (getD s at 0 ≡ ch "Z") ⊎ (getD s at 0 ≡ ch "z") → (o : ℤ) → o ≡ pos 0 → Closes (at + 1)
         (tested q (okDate d && clockTest c) (OffsetDateTime d (timeOfDay (c .hour) (c .minute) (c .second) (c .nanos)) o)) r → Zoned s q (S.on d) c at r
     zone-zulu b o v x st e =
-        zone-takes (zulu q d (c .hour) (c .minute) (c .second) (c .nanos)) st (e ∙ rw (byte-in s at h, b)) (halts _ refl (rw v at x))
+        zone-takes (zulu q d (c .hour) (c .minute) (c .second) (c .nanos)) st (e ∙ rw (byte-in s at h, zulu-class b)) (halts _ refl (rw v at x))
 
     pub zone-plus : getD s at 0 ≡ ch "+" → Reads s (at + 1) (field q (S.offsetHour d (c .hour) (c .minute) (c .second) (c .nanos) false) 2 0) r
         → Zoned s q (S.on d) c at r
@@ -486,16 +470,18 @@ module _ (s : List ℕ) (q : ℕ) (d : Date) (i : ℕ) (r : Scanned) where
   day-end h k = halts (dateDone q d) (rw (byte-out s i h)) k
 
   module _ (h : i < length s) where
-    pub day-letter : S.dayOf (getD s i 0) ≡ S.letterD → Reads s (i + 1) (field q (S.hour d) 2 0) r → Reads s i dayAt r
-    day-letter e k = took (field q (S.hour d) 2 0) h (rw e) k
+    pub day-letter : (getD s i 0 ≡ ch "T") ⊎ (getD s i 0 ≡ ch "t") → Reads s (i + 1) (field q (S.hour d) 2 0) r → Reads s i dayAt r
+    day-letter e k = took (field q (S.hour d) 2 0) h (rw (letter-class e)) k
 
     pub day-space : getD s i 0 ≡ ch " " → Reads s (i + 1) (spaced q d) r → Reads s i dayAt r
     day-space e k = took (spaced q d) h (rw e) k
 
-    day-is : {b : ℕ} {k : S.Day} → DayIs b k → (k ≡ S.letterD → ⊥) → (b ≡ ch " " → ⊥) → S.onDay q d k ≡ dateDone q d
-    day-is (DayIs.letter i n) x y = absurd (x refl)
+    day-is : {b : ℕ} {k : S.Day} → DayIs b k → ((b ≡ ch "T") ⊎ (b ≡ ch "t") → ⊥) → (b ≡ ch " " → ⊥) → S.onDay q d k ≡ dateDone q d
+    day-is (DayIs.letter G.Separator.letter) x y = absurd (x (inl refl))
+    day-is (DayIs.letter G.Separator.small-letter) x y = absurd (x (inr refl))
+    day-is (DayIs.letter G.Separator.space) x y = absurd (y refl)
     day-is DayIs.space x y = absurd (y refl)
     day-is DayIs.other x y = refl
 
-    pub day-other : (S.dayOf (getD s i 0) ≡ S.letterD → ⊥) → (getD s i 0 ≡ ch " " → ⊥) → Closes i (dateDone q d) r → Reads s i dayAt r
-    day-other x y k = let p = byte-in s i h in halts (dateDone q d) (day-is (day-class (byteAt s i)) (λ j. x (ap S.dayOf (sym p) ∙ j)) (λ j. y (sym p ∙ j))) k
+    pub day-other : ((getD s i 0 ≡ ch "T") ⊎ (getD s i 0 ≡ ch "t") → ⊥) → (getD s i 0 ≡ ch " " → ⊥) → Closes i (dateDone q d) r → Reads s i dayAt r
+    day-other x y k = let p = byte-in s i h in halts (dateDone q d) (day-is (day-class (byteAt s i)) (λ j. x (rw p at j)) (λ j. y (sym p ∙ j))) k

@@ -9,6 +9,7 @@ use meaning::Time;
 use rules::DateAnswer;
 ghost use mathlib.Core.Path.{_≡_};
 ghost use mathlib.Core.Bool.{_&&_};
+ghost use mathlib.Core.Logic.{_⊎_};
 ghost use Prim.Native.Nat.{_+_, _*_, _^_, _<_};
 ghost use Rattle.rules.specs.Between.Tests.{Decides};
 ghost use Rattle.meaning.specs.Clock.{timeOfDay};
@@ -251,18 +252,11 @@ fn offset(s: &[u8], q: usize, d: Date, c: Clock, minus: bool, i: usize) -> Scann
     }
 }
 
-// Whether a byte is the letter T, which leads from a date to a time of day: the grammar quotes it, so in either case.
-fn is_letter_t(b: u8) -> bool
-    ensures { λ r. ⌜ Decides (Numeric.dayOf b ≡ Numeric.letterD) r ⌝ }
+// Whether a byte is a letter that the grammar quotes: it is taken in either case.
+fn is_letter(b: u8, capital: u8, small: u8) -> bool
+    ensures { λ r. ⌜ Decides ((b ≡ capital) ⊎ (b ≡ small)) r ⌝ }
 {
-    b == b'T' || b == b't'
-}
-
-// Whether a byte is the letter Z, an offset of 0, in either case too.
-fn is_letter_z(b: u8) -> bool
-    ensures { λ r. ⌜ Decides (Numeric.secOf b ≡ Numeric.zuluS) r ⌝ }
-{
-    b == b'Z' || b == b'z'
+    b == capital || b == small
 }
 
 // After a date and a time of day.
@@ -274,7 +268,7 @@ fn zone(s: &[u8], q: usize, d: Date, c: Clock, at: usize) -> Scanned
         return local_date_time(q, d, c, at);
     }
     let b = s[at];
-    if is_letter_z(b) {
+    if is_letter(b, b'Z', b'z') {
         return offset_date_time(q, d, c, 0, at + 1);
     }
     if b == b'+' {
@@ -444,7 +438,7 @@ fn dated(s: &[u8], q: usize, d: Date, at: usize) -> Scanned
         return date_done(q, d, at);
     }
     let b = s[at];
-    if is_letter_t(b) {
+    if is_letter(b, b'T', b't') {
         return clock_at(s, q, d, at + 1);
     }
     if b == b' ' {

@@ -297,7 +297,7 @@ module _ (ck : Bool) where
       nanos-step j v {b} SecIs.other = nanos-zone j v (SecIs.other {b = b})
 
     day-step : (d : D.Date) {b : ℕ} {k : S.Day} → DayIs b k → From (DateRest ck d) b (S.onDay q d k)
-    day-step d {b} (DayIs.letter x n) = λ a w k. inr (b, a, refl, x, k)
+    day-step d {b} (DayIs.letter x) = λ a w k. inr (b, a, refl, x, k)
     day-step d DayIs.space = go
       where
         go : (a : List ℕ) (w : Meaning) → SpacedRest ck d a w → DateRest ck d (ch " " ∷ a) w

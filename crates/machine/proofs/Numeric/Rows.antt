@@ -161,16 +161,16 @@ hex-class b = pick-is HexIs (S.hexTable b) S.noHex b (
 )
 
 pub data DayIs : ℕ → S.Day → Type 0 where
-  letter : {b : ℕ} → Separator b → (b ≡ ch " " → ⊥) → DayIs b S.letterD
+  letter : {b : ℕ} → Separator b → DayIs b S.letterD
   space : DayIs (ch " ") S.spaceD
   other : {b : ℕ} → DayIs b S.otherD
 
 pub day-class : (b : ℕ) → DayIs b (S.dayOf b)
 day-class b =
     pick-is DayIs S.dayTable S.otherD b (
-      (λ i. let e : b ≡ ch "T" = omega arith in rw e (DayIs.letter Separator.letter (λ j. omega arith))),
+      (λ i. let e : b ≡ ch "T" = omega arith in rw e (DayIs.letter Separator.letter)),
       (
-        (λ i. let e : b ≡ ch "t" = omega arith in rw e (DayIs.letter Separator.small-letter (λ j. omega arith))),
+        (λ i. let e : b ≡ ch "t" = omega arith in rw e (DayIs.letter Separator.small-letter)),
         (
           (λ i. let e : b ≡ ch " " = omega arith in rw e DayIs.space),
           DayIs.other,

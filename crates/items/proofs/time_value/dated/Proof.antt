@@ -16,8 +16,8 @@ returns c = day-end (c .before .before .before .args .s .now) (c .before .before
 shared-slice-read-b : tie.Need-shared-slice-read-b
 shared-slice-read-b c = search needs
 
-is-letter-t-requires : tie.Need-is-letter-t-requires
-is-letter-t-requires c κs = search needs
+is-letter-requires : tie.Need-is-letter-requires
+is-letter-requires c κs = search needs
 
 add-clock-at : tie.Need-add-clock-at
 add-clock-at c = search needs
@@ -28,7 +28,7 @@ clock-at-requires c κs = search needs
 returns-2 : tie.Need-returns-2
 returns-2 c = day-letter (c .before .before .before .before .before .before .args .s .now) (c .before .before .before .before .before .before .args .q)
     (c .before .before .before .before .before .before .args .d) (c .before .before .before .before .before .before .args .at) _ (omega arith)
-    (held (c .before .before .is-letter-t .ensures) (c .before .if2 .taken)) (c .clock-at .ensures)
+    (held (c .before .before .is-letter .ensures) (c .before .if2 .taken)) (c .clock-at .ensures)
 
 add-spaced : tie.Need-add-spaced
 add-spaced c = search needs
@@ -48,7 +48,7 @@ returns-4 : tie.Need-returns-4
 returns-4 c = day-other (c .before .before .before .before .before .before .before .args .s .now)
     (c .before .before .before .before .before .before .before .args .q) (c .before .before .before .before .before .before .before .args .d)
     (c .before .before .before .before .before .before .before .args .at) _ (omega arith)
-    (failed (c .before .before .before .is-letter-t .ensures) (c .before .before .if2 .left)) (c .before .if3 .left) (c .date-done2 .ensures)
+    (failed (c .before .before .before .is-letter .ensures) (c .before .before .if2 .left)) (c .before .if3 .left) (c .date-done2 .ensures)
 
 pub dated-spec : {M : Type 1} → statement M
 dated-spec =
@@ -57,7 +57,7 @@ dated-spec =
     date-done-requires
     returns
     shared-slice-read-b
-    is-letter-t-requires
+    is-letter-requires
     add-clock-at
     clock-at-requires
     returns-2

@@ -17,8 +17,8 @@ returns c = zone-end (c .before .before .before .args .s .now) (c .before .befor
 shared-slice-read-b : tie.Need-shared-slice-read-b
 shared-slice-read-b c = search needs
 
-is-letter-z-requires : tie.Need-is-letter-z-requires
-is-letter-z-requires c κs = search needs
+is-letter-requires : tie.Need-is-letter-requires
+is-letter-requires c κs = search needs
 
 add-offset-date-time : tie.Need-add-offset-date-time
 add-offset-date-time c = search needs
@@ -29,7 +29,7 @@ offset-date-time-requires c κs = search needs
 returns-2 : tie.Need-returns-2
 returns-2 c = zone-zulu (c .before .before .before .before .before .before .args .s .now) (c .before .before .before .before .before .before .args .q)
     (c .before .before .before .before .before .before .args .d) (c .before .before .before .before .before .before .args .c)
-    (c .before .before .before .before .before .before .args .at) _ (omega arith) (held (c .before .before .is-letter-z .ensures) (c .before .if2 .taken)) _
+    (c .before .before .before .before .before .before .args .at) _ (omega arith) (held (c .before .before .is-letter .ensures) (c .before .if2 .taken)) _
     refl (c .offset-date-time .ensures)
 
 add-offset : tie.Need-add-offset
@@ -63,7 +63,7 @@ returns-5 : tie.Need-returns-5
 returns-5 c = zone-none (c .before .before .before .before .before .before .before .before .args .s .now)
     (c .before .before .before .before .before .before .before .before .args .q) (c .before .before .before .before .before .before .before .before .args .d)
     (c .before .before .before .before .before .before .before .before .args .c) (c .before .before .before .before .before .before .before .before .args .at) _
-    (omega arith) (failed (c .before .before .before .before .is-letter-z .ensures) (c .before .before .before .if2 .left)) (c .before .before .if3 .left)
+    (omega arith) (failed (c .before .before .before .before .is-letter .ensures) (c .before .before .before .if2 .left)) (c .before .before .if3 .left)
     (c .before .if4 .left) (c .local-date-time2 .ensures)
 
 pub zone-spec : {M : Type 1} → statement M
@@ -73,7 +73,7 @@ zone-spec =
     local-date-time-requires
     returns
     shared-slice-read-b
-    is-letter-z-requires
+    is-letter-requires
     add-offset-date-time
     offset-date-time-requires
     returns-2
