@@ -18,7 +18,9 @@ use Rattle.meaning.specs.declared.Record.{Record}
 use Rattle.meaning.specs.Limits.{coefficientLimit, powerLimit, recordLimit, storeLimit}
 use Rattle.meaning.specs.Meaning.{Meaning, Meanings, Members, null, bool, number, string, binary, time, array, object, none, more, bare, member}
 use Rattle.meaning.specs.Good.{GoodFinite, nought, nonzero, GoodNumber, GoodDate, GoodTime, Bytes, GoodParts, GoodElements, GoodMembers}
-use Rattle.meaning.specs.Tape.{records, elementsRecords, membersRecords, storeOf, elementsStore, membersStore, recordsOf, elementsOf, membersOf}
+use Rattle.meaning.specs.Tape.{records, elementsRecords, membersRecords, storeOf, elementsStore, membersStore}
+use Rattle.meaning.specs.Tape.{recordsOf, elementsOf, membersOf}
+use Rattle.meaning.proofs.Sizes.{elements-few, members-few}
 use Rattle.meaning.specs.Between.Words.{FitDate, Fit}
 use Rattle.meaning.proofs.Bytes.{bytes-append}
 use Rattle.meaning.proofs.Records.{Fits, fits-append}
@@ -100,8 +102,8 @@ mutual
   records-fit (string s) i at p h g = ((omega arith, omega arith), tt)
   records-fit (binary s) i at p h g = ((omega arith, omega arith), tt)
   records-fit (time t) i at p h g = (time-fits t p, tt)
-  records-fit (array ms) i at p h g = (omega arith, elements-fit ms (i + 1) at p (omega arith) g)
-  records-fit (object ms) i at p h g = (omega arith, members-fit ms (i + 1) at p (omega arith) g)
+  records-fit (array ms) i at p h g = (omega (arith, elements-few ms), elements-fit ms (i + 1) at p (omega arith) g)
+  records-fit (object ms) i at p h g = (omega (arith, members-few ms), members-fit ms (i + 1) at p (omega arith) g)
 
   pub elements-fit : (ms : Meanings) (i at : ℕ) → GoodElements ms → i + elementsRecords ms ≤ recordLimit → at + length (elementsStore ms) ≤ storeLimit
       → Fits (elementsOf ms i at)

@@ -82,8 +82,8 @@ module _ (store : List ℕ) where
   push c (Record.Key size from) = key (part size from) c
   push c (Record.Bin size from) = put (binary (part size from)) (slot c)
   push c (Record.Time t) = put (time t) (slot c)
-  push c (Record.Array e) = elements e none (slot c)
-  push c (Record.Object e) = members e bare (slot c)
+  push c (Record.Array n e) = elements e none (slot c)
+  push c (Record.Object n e) = members e bare (slot c)
 
   run : List Record → ℕ → Conf → Conf
   run [] i c = settle i c

@@ -39,8 +39,8 @@ record-length (Record.Time (LocalDate d)) = refl
 record-length (Record.Time (LocalTime t)) = refl
 record-length (Record.Time (LocalDateTime d t)) = refl
 record-length (Record.Time (OffsetDateTime d t offset)) = refl
-record-length (Record.Array end) = refl
-record-length (Record.Object end) = refl
+record-length (Record.Array count end) = refl
+record-length (Record.Object count end) = refl
 
 pub record-bytes : (r : Record) → Bytes (recordBytes r)
 unfolding recordBytes le
@@ -57,8 +57,8 @@ record-bytes (Record.Time (LocalDate d)) = omega arith
 record-bytes (Record.Time (LocalTime t)) = omega arith
 record-bytes (Record.Time (LocalDateTime d t)) = omega arith
 record-bytes (Record.Time (OffsetDateTime d t offset)) = omega arith
-record-bytes (Record.Array end) = omega arith
-record-bytes (Record.Object end) = omega arith
+record-bytes (Record.Array count end) = omega arith
+record-bytes (Record.Object count end) = omega arith
 
 -- ---- four numbers
 
@@ -88,8 +88,8 @@ record-words (Record.Time (LocalDateTime d t)) f =
 record-words (Record.Time (OffsetDateTime d t offset)) f =
     ap (λ (l : List ℕ). letters "od" ++ (le 2 (d .year) ++ (l ++ le 8 t)))
     (month-day (d .month) (d .day) (ofZ w16 offset) (f .0 .1) (f .0 .2))
-record-words (Record.Array end) f = refl
-record-words (Record.Object end) f = refl
+record-words (Record.Array count end) f = refl
+record-words (Record.Object count end) f = refl
 
 -- each of the four fits its place
 pub record Small (a b c d : ℕ) : Type 0 where
@@ -117,8 +117,8 @@ record-small (Record.Time (LocalDate d)) f = omega arith
 record-small (Record.Time (LocalTime t)) f = omega arith
 record-small (Record.Time (LocalDateTime d t)) f = omega arith
 record-small (Record.Time (OffsetDateTime d t offset)) f = omega (arith, ofZ-fits w16 offset (f .2) .fits)
-record-small (Record.Array end) f = omega arith
-record-small (Record.Object end) f = omega arith
+record-small (Record.Array count end) f = omega arith
+record-small (Record.Object count end) f = omega arith
 
 -- ---- four numbers, wherever they stand
 
@@ -185,8 +185,8 @@ decode a b c d =
     (cond (eqb a (mark "l" "t")) (Record.Time (LocalTime d))
     (cond (eqb a (mark "d" "t")) (Record.Time (LocalDateTime date d))
     (cond (eqb a (mark "o" "d")) (Record.Time (OffsetDateTime date d (toZ w16 (c / 65536))))
-    (cond (eqb a (mark "a" "r")) (Record.Array d)
-    (cond (eqb a (mark "o" "b")) (Record.Object d)
+    (cond (eqb a (mark "a" "r")) (Record.Array c d)
+    (cond (eqb a (mark "o" "b")) (Record.Object c d)
     Record.Null)))))))))))
 
 date-back : (d : Date) (o : ℕ) → FitDate d → record { year = d .year; month = monthDay d o % 256; day = monthDay d o / 256 % 256 } ≡ d
@@ -216,8 +216,8 @@ decode-words (Record.Time (OffsetDateTime d t offset)) f =
     let o = ofZ w16 offset in
     let e : monthDay d o / 65536 ≡ o = omega arith in
     ap₂ (λ (x : Date) (z : ℤ). Record.Time (OffsetDateTime x t z)) (date-back d o (f .0)) (ap (toZ w16) e ∙ toZ-ofZ w16 offset (f .2))
-decode-words (Record.Array end) f = refl
-decode-words (Record.Object end) f = refl
+decode-words (Record.Array count end) f = refl
+decode-words (Record.Object count end) f = refl
 
 -- what stands at the start of these bytes, if it is a record's
 start : (r : Record) (rest : List ℕ) → Fit r

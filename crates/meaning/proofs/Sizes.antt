@@ -9,7 +9,8 @@ use borrow.Author.Tests.{leb-true, leb-false}
 use Rattle.meaning.specs.Limits.{depthLimit}
 use Rattle.meaning.specs.Meaning.{Meaning, Meanings, Members, null, bool, number, string, binary, time, array, object, none, more, bare, member}
 use Rattle.meaning.specs.Good.{most}
-use Rattle.meaning.specs.Tape.{records, elementsRecords, membersRecords, elementsStore, membersStore, recordsOf, elementsOf, membersOf}
+use Rattle.meaning.specs.Tape.{records, elementsRecords, membersRecords, elementsCount, membersCount, elementsStore, membersStore}
+use Rattle.meaning.specs.Tape.{recordsOf, elementsOf, membersOf}
 
 -- room for the depth in any counter of the code
 pub depth-limit-small : depthLimit < 2 ^ 16
@@ -51,6 +52,17 @@ some-record (binary s) = omega arith
 some-record (time t) = omega arith
 some-record (array ms) = omega arith
 some-record (object ms) = omega arith
+
+-- no more elements or members than records
+pub elements-few : (ms : Meanings) → elementsCount ms ≤ elementsRecords ms
+unfolding elementsCount records
+elements-few none = omega arith
+elements-few (more ms m) = omega (arith, elements-few ms, some-record m)
+
+pub members-few : (ms : Members) → membersCount ms ≤ membersRecords ms
+unfolding membersCount records
+members-few bare = omega arith
+members-few (member ms k m) = omega (arith, members-few ms)
 
 mutual
   unfolding recordsOf records

@@ -10,6 +10,7 @@ use native.Mathlib.Omega.{arith}
 use Rattle.rules.specs.Rfc3339.{Days}
 use Rattle.meaning.proofs.Quotes.{ascii-octets}
 use Rattle.meaning.specs.Limits.{depthLimit, coefficientLimit, powerLimit}
+use Rattle.meaning.specs.declared.Number.{Number}
 use Rattle.meaning.specs.declared.Number.the-variants.{Finite, NotANumber, Infinite}
 use Rattle.meaning.specs.declared.Date.{Date}
 use Rattle.meaning.specs.declared.Time.the-variants.{LocalDate, LocalTime, LocalDateTime, OffsetDateTime}
@@ -19,7 +20,7 @@ use Rattle.meaning.specs.Bytes.{le}
 use Rattle.meaning.specs.Clock.{timeOfDay}
 use Rattle.meaning.specs.Meaning.{Meaning, null, bool, number, string, binary, time, array, object, none, more, bare, member}
 use Rattle.meaning.specs.Good.{GoodFinite, nonzero, GoodDate, most, depth, Good}
-use Rattle.meaning.specs.Tape.{records, storeOf, bytes, recordsOf, recordBytes}
+use Rattle.meaning.specs.Tape.{records, elementsCount, membersCount, storeOf, bytes, recordsOf, recordBytes}
 use Rattle.meaning.specs.Canonical.{decimalIn, decimal, fixed, trimmed, escaped, escapes, quoted, hexPairs, binaryText, powerText, numberText, dateText}
 use Rattle.meaning.specs.Canonical.{fractionText, clockText, offsetText, timeText, canonical}
 use Rattle.meaning.specs.Json.{firstWithout, noJson}
@@ -119,8 +120,8 @@ marks =
     ∷ puts (Record.Time (LocalDateTime march 1)) "dtå\u{7}\u{3}\u{4}\0\0\u{1}\0\0\0\0\0\0\0"
     ∷ puts (Record.Time (OffsetDateTime march 1 (pos 90))) "odå\u{7}\u{3}\u{4}Z\0\u{1}\0\0\0\0\0\0\0"
     ∷ puts (Record.Time (OffsetDateTime march 1 (negsuc 89))) "odå\u{7}\u{3}\u{4}¦ÿ\u{1}\0\0\0\0\0\0\0"
-    ∷ puts (Record.Array 258) "ar\0\0\0\0\0\0\u{2}\u{1}\0\0\0\0\0\0"
-    ∷ puts (Record.Object 258) "ob\0\0\0\0\0\0\u{2}\u{1}\0\0\0\0\0\0"
+    ∷ puts (Record.Array 0x04030201 258) "ar\0\0\u{1}\u{2}\u{3}\u{4}\u{2}\u{1}\0\0\0\0\0\0"
+    ∷ puts (Record.Object 3 258) "ob\0\0\u{3}\0\0\0\u{2}\u{1}\0\0\0\0\0\0"
     ∷ []
 
 pub marks-hold : gots marks ≡ wants marks
@@ -153,13 +154,22 @@ sample-good =
       shallow = omega arith;
     }
 
+abbrev one : Number
+one = Finite false 1 (pos 0)
+
 pub sample-records : recordsOf sample 0 0
-    ≡ Record.Object 11
+    ≡ Record.Object 4 11
     ∷ Record.Key 3 0 ∷ Record.Number (Finite false 31 (pos 0))
     ∷ Record.Key 3 3 ∷ Record.Number NotANumber
     ∷ Record.Key 2 6 ∷ Record.Time (OffsetDateTime march 18367500000000 (pos 0))
-    ∷ Record.Key 1 8 ∷ Record.Array 11
+    ∷ Record.Key 1 8 ∷ Record.Array 2 11
     ∷ Record.Number (Finite false 5 (negsuc 0)) ∷ Record.Number (Finite false 12505 (negsuc 0))
     ∷ []
-unfolding recordsOf records storeOf
+unfolding recordsOf records storeOf elementsCount membersCount
 sample-records = refl
+
+-- `[1,[],{a:1}]`: members are counted, and only what is directly inside
+pub counts : recordsOf (array (more (more (more none (number one)) (array none)) (object (member bare (letters "a") (number one))))) 0 0
+    ≡ Record.Array 3 6 ∷ Record.Number one ∷ Record.Array 0 3 ∷ Record.Object 1 6 ∷ Record.Key 1 0 ∷ Record.Number one ∷ []
+unfolding recordsOf records storeOf elementsCount membersCount
+counts = refl

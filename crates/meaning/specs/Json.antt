@@ -20,8 +20,8 @@ jsonForm (Record.Str size start) = true
 jsonForm (Record.Key size start) = true
 jsonForm (Record.Bin size start) = false
 jsonForm (Record.Time t) = false
-jsonForm (Record.Array end) = true
-jsonForm (Record.Object end) = true
+jsonForm (Record.Array count end) = true
+jsonForm (Record.Object count end) = true
 
 -- the index of the first such record, where the first of these has this index
 unfoldable pub firstWithout : List Record → ℕ → Option ℕ

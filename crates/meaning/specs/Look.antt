@@ -34,8 +34,8 @@ OwnFields (Record.Str size start) index whole store = Utf8Inside size start stor
 OwnFields (Record.Key size start) index whole store = Utf8Inside size start store
 OwnFields (Record.Bin size start) index whole store = Inside size start store
 OwnFields (Record.Time t) index whole store = GoodTime t
-OwnFields (Record.Array end) index whole store = Ends end index whole
-OwnFields (Record.Object end) index whole store = Ends end index whole
+OwnFields (Record.Array count end) index whole store = Ends end index whole
+OwnFields (Record.Object count end) index whole store = Ends end index whole
 
 -- the number of whole records
 abbrev pub wholeRecords : List ℕ → ℕ
@@ -58,8 +58,8 @@ Fit (Record.Time (LocalDate d)) = FitDate d
 Fit (Record.Time (LocalTime t)) = t < 2 ^ 64
 Fit (Record.Time (LocalDateTime d t)) = FitDate d × (t < 2 ^ 64)
 Fit (Record.Time (OffsetDateTime d t offset)) = FitDate d × (t < 2 ^ 64) × SFits w16 offset
-Fit (Record.Array end) = end < 2 ^ 64
-Fit (Record.Object end) = end < 2 ^ 64
+Fit (Record.Array count end) = (count < 2 ^ 32) × (end < 2 ^ 64)
+Fit (Record.Object count end) = (count < 2 ^ 32) × (end < 2 ^ 64)
 
 -- The record r at this index: the sixteen bytes are its mark and fields, with unnamed bytes zero; each field fits its
 -- place, and is as it must be.

@@ -37,6 +37,15 @@ unfoldable mutual
   membersRecords bare = 0
   membersRecords (member ms k m) = membersRecords ms + 1 + records m
 
+-- How many elements or members are directly inside.
+unfoldable pub elementsCount : Meanings → ℕ
+elementsCount none = 0
+elementsCount (more ms m) = elementsCount ms + 1
+
+unfoldable pub membersCount : Members → ℕ
+membersCount bare = 0
+membersCount (member ms k m) = membersCount ms + 1
+
 -- The store holds strings, keys and binary in tape order without gaps.
 unfoldable mutual
   pub storeOf : Meaning → List ℕ
@@ -74,8 +83,10 @@ unfoldable mutual
   recordsOf (string s) index start = Record.Str (length s) start ∷ []
   recordsOf (binary s) index start = Record.Bin (length s) start ∷ []
   recordsOf (time t) index start = Record.Time t ∷ []
-  recordsOf (array ms) index start = Record.Array (endOf index (elementsRecords ms)) ∷ elementsOf ms (index + 1) start
-  recordsOf (object ms) index start = Record.Object (endOf index (membersRecords ms)) ∷ membersOf ms (index + 1) start
+  recordsOf (array ms) index start =
+      Record.Array (elementsCount ms) (endOf index (elementsRecords ms)) ∷ elementsOf ms (index + 1) start
+  recordsOf (object ms) index start =
+      Record.Object (membersCount ms) (endOf index (membersRecords ms)) ∷ membersOf ms (index + 1) start
 
   pub elementsOf : Meanings → ℕ → ℕ → List Record
   elementsOf none index start = []
@@ -96,9 +107,10 @@ stringFields size start = unnamed 2 ++ le 4 size ++ le 8 start
 abbrev pub dateFields : Date → List ℕ
 dateFields d = le 2 (d .year) ++ le 1 (d .month) ++ le 1 (d .day)
 
--- 8-15 index just after the last record inside, or after its own if empty
-abbrev pub containerFields : ℕ → List ℕ
-containerFields end = unnamed 6 ++ le 8 end
+-- 4-7 number of elements or members directly inside; 8-15 index just after the last record inside, or after its own if
+-- empty
+abbrev pub containerFields : ℕ → ℕ → List ℕ
+containerFields count end = unnamed 2 ++ le 4 count ++ le 8 end
 
 -- One record: a two-byte mark before its fields; numbers little-endian, signed ones two's complement; unnamed bytes
 -- zero.
@@ -124,8 +136,8 @@ recordBytes (Record.Time (LocalTime t)) = letters "lt" ++ unnamed 6 ++ le 8 t
 recordBytes (Record.Time (LocalDateTime d t)) = letters "dt" ++ dateFields d ++ unnamed 2 ++ le 8 t
 -- as `dt`, and 6-7 offset
 recordBytes (Record.Time (OffsetDateTime d t offset)) = letters "od" ++ dateFields d ++ le 2 (ofZ w16 offset) ++ le 8 t
-recordBytes (Record.Array end) = letters "ar" ++ containerFields end
-recordBytes (Record.Object end) = letters "ob" ++ containerFields end
+recordBytes (Record.Array count end) = letters "ar" ++ containerFields count end
+recordBytes (Record.Object count end) = letters "ob" ++ containerFields count end
 
 -- one after the other
 unfoldable pub recordsBytes : List Record → List ℕ

@@ -77,7 +77,8 @@ pub enum Refusal {
     NoSuchRecord(usize),
 }
 
-// One record of the tape. A string's start is its place in the store, an end the index just after the last record inside.
+// One record of the tape. A string's start is its place in the store, a count how many elements or members are directly inside,
+// an end the index just after the last record inside.
 pub enum Record {
     Null,
     Bool(bool),
@@ -86,6 +87,6 @@ pub enum Record {
     Key { length: usize, start: usize },
     Bin { length: usize, start: usize },
     Time(Time),
-    Array { end: usize },
-    Object { end: usize },
+    Array { count: usize, end: usize },
+    Object { count: usize, end: usize },
 }

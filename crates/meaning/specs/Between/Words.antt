@@ -37,8 +37,8 @@ markOf (Record.Time (LocalDate d)) = mark "l" "d"
 markOf (Record.Time (LocalTime t)) = mark "l" "t"
 markOf (Record.Time (LocalDateTime d t)) = mark "d" "t"
 markOf (Record.Time (OffsetDateTime d t offset)) = mark "o" "d"
-markOf (Record.Array end) = mark "a" "r"
-markOf (Record.Object end) = mark "o" "b"
+markOf (Record.Array count end) = mark "a" "r"
+markOf (Record.Object count end) = mark "o" "b"
 
 -- bytes 2-3: a sign or a year
 unfoldable pub lowOf : Record → ℕ
@@ -54,8 +54,8 @@ lowOf (Record.Time (LocalDate d)) = d .year
 lowOf (Record.Time (LocalTime t)) = 0
 lowOf (Record.Time (LocalDateTime d t)) = d .year
 lowOf (Record.Time (OffsetDateTime d t offset)) = d .year
-lowOf (Record.Array end) = 0
-lowOf (Record.Object end) = 0
+lowOf (Record.Array count end) = 0
+lowOf (Record.Object count end) = 0
 
 -- month, day and offset in bytes 4-7
 abbrev pub monthDay : Date → ℕ → ℕ
@@ -76,8 +76,8 @@ midOf (Record.Time (LocalDate d)) = monthDay d 0
 midOf (Record.Time (LocalTime t)) = 0
 midOf (Record.Time (LocalDateTime d t)) = monthDay d 0
 midOf (Record.Time (OffsetDateTime d t offset)) = monthDay d (ofZ w16 offset)
-midOf (Record.Array end) = 0
-midOf (Record.Object end) = 0
+midOf (Record.Array count end) = count
+midOf (Record.Object count end) = count
 
 -- bytes 8-15
 unfoldable pub highOf : Record → ℕ
@@ -93,8 +93,8 @@ highOf (Record.Time (LocalDate d)) = 0
 highOf (Record.Time (LocalTime t)) = t
 highOf (Record.Time (LocalDateTime d t)) = t
 highOf (Record.Time (OffsetDateTime d t offset)) = t
-highOf (Record.Array end) = end
-highOf (Record.Object end) = end
+highOf (Record.Array count end) = end
+highOf (Record.Object count end) = end
 
 -- the bytes of four numbers
 unfoldable pub fourWords : ℕ → ℕ → ℕ → ℕ → List ℕ
