@@ -6,23 +6,30 @@ use mathlib.Core.List.{List, [], _∷_}
 use Prim.Native.Nat.{ℕ, _+_}
 use lib.Dec.{eqb, ltb}
 use lib.ListN.{length, take, drop}
+use borrow.Author.Tests.{eq-eqb, ne-eqb, eqb-true}
 use Rattle.meaning.specs.declared.Record.{Record}
 use Rattle.meaning.specs.Limits.{depthLimit}
 use Rattle.meaning.specs.Meaning.{Meaning, Meanings, Members, null, bool, number, string, binary, time, array, object, none, more, bare, member}
+use Rattle.meaning.specs.Tape.{elementsCount, membersCount}
+
+-- what a container's record states
+pub record Stated : Type 0 where
+  pub count : ℕ
+  pub end : ℕ
 
 -- a container that waits for the value that is being read; `root` waits for the whole
 pub data Frame : Type 0 where
   root : Frame
-  inArray : ℕ → Meanings → Frame
-  inObject : ℕ → Members → List ℕ → Frame
+  inArray : Stated → Meanings → Frame
+  inObject : Stated → Members → List ℕ → Frame
 
--- nothing yet, the whole, or the innermost container: with its end, before a key, or after one; or no meaning any more
+-- nothing yet, the whole, or the innermost container: with what it states, before a key, or after one; or no meaning any more
 pub data Conf : Type 0 where
   nothing : Conf
   whole : Meaning → Conf
-  elements : ℕ → Meanings → List Frame → Conf
-  members : ℕ → Members → List Frame → Conf
-  keyed : ℕ → Members → List ℕ → List Frame → Conf
+  elements : Stated → Meanings → List Frame → Conf
+  members : Stated → Members → List Frame → Conf
+  keyed : Stated → Members → List ℕ → List Frame → Conf
   broken : Conf
 
 pub data Verdict : Type 0 where
@@ -37,7 +44,7 @@ pub data Kind : Type 0 where
 pub data Act : Type 0 where
   leaf : Meaning → Act
   name : List ℕ → Act
-  opens : Kind → ℕ → Act
+  opens : Kind → Stated → Act
 
 -- what waits for a value
 unfoldable pub slot : Conf → List Frame
@@ -63,31 +70,57 @@ key k (keyed e ms k′ fs) = broken
 key k broken = broken
 
 -- an empty container
-abbrev pub begin : Kind → ℕ → List Frame → Conf
+abbrev pub begin : Kind → Stated → List Frame → Conf
 begin ofValues e fs = elements e none fs
 begin ofMembers e fs = members e bare fs
 
-unfoldable pub enter : Kind → ℕ → List Frame → Conf
+unfoldable pub enter : Kind → Stated → List Frame → Conf
 enter k e [] = broken
 enter k e (f ∷ fs) = cond (ltb (length fs) depthLimit) (begin k e (f ∷ fs)) broken
+
+-- a container with so many elements or members at record i: it is done if it ends there and has counted them, and open if not
+abbrev pub shuts : ℕ → Stated → ℕ → Conf → Conf → Conf
+shuts i e n d o = cond (eqb (e .end) i) (cond (eqb (e .count) n) d broken) o
 
 -- a value is complete at record i, and with it each container that ends there
 unfoldable pub give : ℕ → Meaning → List Frame → Conf
 give i m [] = broken
 give i m (root ∷ fs) = whole m
-give i m (inArray e ms ∷ fs) = cond (eqb e i) (give i (array (more ms m)) fs) (elements e (more ms m) fs)
-give i m (inObject e ms k ∷ fs) = cond (eqb e i) (give i (object (member ms k m)) fs) (members e (member ms k m) fs)
+give i m (inArray e ms ∷ fs) = shuts i e (elementsCount ms + 1) (give i (array (more ms m)) fs) (elements e (more ms m) fs)
+give i m (inObject e ms k ∷ fs) = shuts i e (membersCount ms + 1) (give i (object (member ms k m)) fs) (members e (member ms k m) fs)
 
 unfoldable pub settle : ℕ → Conf → Conf
 settle i nothing = nothing
 settle i (whole m) = whole m
-settle i (elements e ms fs) = cond (eqb e i) (give i (array ms) fs) (elements e ms fs)
-settle i (members e ms fs) = cond (eqb e i) (give i (object ms) fs) (members e ms fs)
-settle i (keyed e ms k fs) = cond (eqb e i) broken (keyed e ms k fs)
+settle i (elements e ms fs) = shuts i e (elementsCount ms) (give i (array ms) fs) (elements e ms fs)
+settle i (members e ms fs) = shuts i e (membersCount ms) (give i (object ms) fs) (members e ms fs)
+settle i (keyed e ms k fs) = cond (eqb (e .end) i) broken (keyed e ms k fs)
 settle i broken = broken
 
+pub shut-here : (i : ℕ) (e : Stated) (n : ℕ) (d o : Conf) → e .end ≡ i → e .count ≡ n → shuts i e n d o ≡ d
+shut-here i e n d o p q =
+    ap (λ (b : Bool). cond b (cond (eqb (e .count) n) d broken) o) (eq-eqb (e .end) i p)
+    ∙ ap (λ (b : Bool). cond b d broken) (eq-eqb (e .count) n q)
+
+pub shut-not : (i : ℕ) (e : Stated) (n : ℕ) (d o : Conf) → (e .end ≡ i → ⊥) → shuts i e n d o ≡ o
+shut-not i e n d o p = ap (λ (b : Bool). cond b (cond (eqb (e .count) n) d broken) o) (ne-eqb (e .end) i p)
+
+pub shut-wrong : (i : ℕ) (e : Stated) (n : ℕ) (d o : Conf) → e .end ≡ i → (e .count ≡ n → ⊥) → shuts i e n d o ≡ broken
+shut-wrong i e n d o p q =
+    ap (λ (b : Bool). cond b (cond (eqb (e .count) n) d broken) o) (eq-eqb (e .end) i p)
+    ∙ ap (λ (b : Bool). cond b d broken) (ne-eqb (e .count) n q)
+
+pub by-bool : (P : Conf → Type 0) (b : Bool) (x y : Conf) → (b ≡ true → P x) → (b ≡ false → P y) → P (cond b x y)
+by-bool P true x y f g = f refl
+by-bool P false x y f g = g refl
+
+pub by-shut : (P : Conf → Type 0) (i : ℕ) (e : Stated) (n : ℕ) (d o : Conf) → (e .end ≡ i → e .count ≡ n → P d) → P broken → P o → P (shuts i e n d o)
+by-shut P i e n d o f b g =
+    by-bool P (eqb (e .end) i) _ o
+    (λ p. by-bool P (eqb (e .count) n) d broken (λ q. f (eqb-true (e .end) i p) (eqb-true (e .count) n q)) (λ q. b)) (λ p. g)
+
 pub give-put : (i : ℕ) (m : Meaning) (fs : List Frame) → give i m fs ≡ settle i (put m fs)
-unfolding give settle put
+unfolding give settle put elementsCount membersCount
 give-put i m [] = refl
 give-put i m (root ∷ fs) = refl
 give-put i m (inArray e ms ∷ fs) = refl
@@ -102,8 +135,8 @@ sizeOf (Record.Str size start) = size
 sizeOf (Record.Key size start) = size
 sizeOf (Record.Bin size start) = size
 sizeOf (Record.Time t) = 0
-sizeOf (Record.Array end) = 0
-sizeOf (Record.Object end) = 0
+sizeOf (Record.Array count end) = 0
+sizeOf (Record.Object count end) = 0
 
 unfoldable pub startOf : Record → ℕ → ℕ
 startOf Record.Null at = at
@@ -113,8 +146,8 @@ startOf (Record.Str size start) at = start
 startOf (Record.Key size start) at = start
 startOf (Record.Bin size start) at = start
 startOf (Record.Time t) at = at
-startOf (Record.Array end) at = at
-startOf (Record.Object end) at = at
+startOf (Record.Array count end) at = at
+startOf (Record.Object count end) at = at
 
 abbrev pub there : ℕ → ℕ → Conf → Conf
 there start at c = cond (eqb start at) c broken
@@ -136,8 +169,8 @@ module _ (store : List ℕ) where
   actOf at (Record.Key size start) = name (part at size)
   actOf at (Record.Bin size start) = leaf (binary (part at size))
   actOf at (Record.Time t) = leaf (time t)
-  actOf at (Record.Array e) = opens ofValues e
-  actOf at (Record.Object e) = opens ofMembers e
+  actOf at (Record.Array count end) = opens ofValues (record { count = count; end = end })
+  actOf at (Record.Object count end) = opens ofMembers (record { count = count; end = end })
 
   unfoldable pub push : ℕ → Conf → Record → Conf
   push at c r = there (startOf r at) at (does (actOf at r) c)

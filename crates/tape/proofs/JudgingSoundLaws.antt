@@ -12,12 +12,13 @@ use Rattle.meaning.specs.declared.Record.{Record}
 use Rattle.meaning.specs.Limits.{depthLimit}
 use Rattle.meaning.specs.Meaning.{Meaning, Meanings, Members, null, bool, number, string, binary, time, array, object, more, member}
 use Rattle.meaning.specs.Good.{depth, elementsDepth, membersDepth}
-use Rattle.meaning.specs.Tape.{records, elementsRecords, membersRecords, storeOf, elementsStore, membersStore, recordsOf, elementsOf, membersOf}
+use Rattle.meaning.specs.Tape.{records, elementsRecords, membersRecords, elementsCount, membersCount, storeOf, elementsStore, membersStore, recordsOf}
+use Rattle.meaning.specs.Tape.{elementsOf, membersOf}
 use Rattle.meaning.proofs.Sizes.{most-least}
 use Rattle.tape.specs.Between.Turns.{bytesEnd}
 use Rattle.tape.proofs.JudgingMachineLaws.{Frame, root, inArray, inObject, Conf, nothing, whole, elements, members, keyed, broken, says, nay, Kind}
 use Rattle.tape.proofs.JudgingMachineLaws.{ofValues, ofMembers, slot, put, key, begin, enter, give, settle, sizeOf, startOf, does, part, actOf, push}
-use Rattle.tape.proofs.JudgingMachineLaws.{finish, run}
+use Rattle.tape.proofs.JudgingMachineLaws.{finish, run, Stated, by-bool, by-shut}
 
 -- how many records open containers have taken, the bytes that they hold, and the records themselves
 unfoldable pub taken : List Frame → ℕ
@@ -35,9 +36,10 @@ held (inObject e ms k ∷ fs) = held fs ++ membersStore ms ++ k
 unfoldable pub flat : List Frame → List Record
 flat [] = []
 flat (root ∷ fs) = []
-flat (inArray e ms ∷ fs) = flat fs ++ (Record.Array e ∷ elementsOf ms (taken fs + 1) (length (held fs)))
+flat (inArray e ms ∷ fs) = flat fs ++ (Record.Array (e .count) (e .end) ∷ elementsOf ms (taken fs + 1) (length (held fs)))
 flat (inObject e ms k ∷ fs) =
-    flat fs ++ (Record.Object e ∷ membersOf ms (taken fs + 1) (length (held fs))) ++ (Record.Key (length k) (length (held fs) + length (membersStore ms)) ∷ [])
+    flat fs ++ (Record.Object (e .count) (e .end) ∷ membersOf ms (taken fs + 1) (length (held fs)))
+    ++ (Record.Key (length k) (length (held fs) + length (membersStore ms)) ∷ [])
 
 -- none of what is held is too deep
 abbrev pub Shallow : List Frame → Type 0
@@ -48,10 +50,6 @@ Shallow (inObject e ms k ∷ fs) = (membersDepth ms + length fs ≤ depthLimit) 
 
 regroup : (f a k r : List Record) (o : Record) → f ++ (o ∷ (a ++ k ++ r)) ≡ f ++ (o ∷ a) ++ k ++ r
 regroup f a k r o = simp append-assoc
-
-pub by-bool : (P : Conf → Type 0) (b : Bool) (x y : Conf) → (b ≡ true → P x) → (b ≡ false → P y) → P (cond b x y)
-by-bool P true x y f g = f refl
-by-bool P false x y f g = g refl
 
 module _ (store : List ℕ) where
   pub record Tell (fl : List Record) (n : ℕ) (h : List ℕ) (i at : ℕ) (past : List Record) : Type 0 where
@@ -68,7 +66,8 @@ module _ (store : List ℕ) where
       Tell (flat (inArray e ms ∷ fs)) (taken (inArray e ms ∷ fs)) (held (inArray e ms ∷ fs)) i at past
       × ((elementsDepth ms + length fs ≤ depthLimit) × Shallow fs)
   Fair (members e ms fs) i at past =
-      Tell (flat fs ++ (Record.Object e ∷ membersOf ms (taken fs + 1) (length (held fs)))) (taken fs + 1 + membersRecords ms) (held fs ++ membersStore ms) i at
+      Tell (flat fs ++ (Record.Object (e .count) (e .end) ∷ membersOf ms (taken fs + 1) (length (held fs)))) (taken fs + 1 + membersRecords ms)
+      (held fs ++ membersStore ms) i at
       past
       × ((membersDepth ms + length fs ≤ depthLimit) × Shallow fs)
   Fair (keyed e ms k fs) i at past =
@@ -97,9 +96,10 @@ module _ (store : List ℕ) where
   set-down m root fs i at past t d u = (record { told = t .told; counted = omega arith; kept = t .kept; upto = t .upto }, omega arith)
   set-down m (inArray e ms) fs i at past t d u = (
     record {
-      told = sym (append-assoc (flat fs) (Record.Array e ∷ elementsOf ms (taken fs + 1) (length (held fs)))
+      told = sym (append-assoc (flat fs) (Record.Array (e .count) (e .end) ∷ elementsOf ms (taken fs + 1) (length (held fs)))
           (recordsOf m (taken fs + 1 + elementsRecords ms) (length (held fs) + length (elementsStore ms))))
-          ∙ ap (λ (n : ℕ). flat fs ++ (Record.Array e ∷ elementsOf ms (taken fs + 1) (length (held fs))) ++ recordsOf m (taken fs + 1 + elementsRecords ms) n)
+          ∙ ap (λ (n : ℕ). flat fs ++ (Record.Array (e .count) (e .end) ∷ elementsOf ms (taken fs + 1) (length (held fs)))
+          ++ recordsOf m (taken fs + 1 + elementsRecords ms) n)
           (sym (length-append (held fs) (elementsStore ms)))
           ∙ t .told;
       counted = omega arith;
@@ -111,8 +111,8 @@ module _ (store : List ℕ) where
   set-down m (inObject e ms k) fs i at past t d u = (
     record {
       told = regroup (flat fs) (membersOf ms (taken fs + 1) (length (held fs))) (Record.Key (length k) (length (held fs) + length (membersStore ms)) ∷ [])
-          (recordsOf m (taken fs + 1 + membersRecords ms + 1) (length (held fs) + length (membersStore ms) + length k)) (Record.Object e)
-          ∙ ap (λ (n : ℕ). flat fs ++ (Record.Object e ∷ membersOf ms (taken fs + 1) (length (held fs)))
+          (recordsOf m (taken fs + 1 + membersRecords ms + 1) (length (held fs) + length (membersStore ms) + length k)) (Record.Object (e .count) (e .end))
+          ∙ ap (λ (n : ℕ). flat fs ++ (Record.Object (e .count) (e .end) ∷ membersOf ms (taken fs + 1) (length (held fs)))
           ++ (Record.Key (length k) (length (held fs) + length (membersStore ms)) ∷ []) ++ recordsOf m (taken fs + 1 + membersRecords ms + 1) n)
           (sym (length-append (held fs ++ membersStore ms) k ∙ ap (λ (x : ℕ). x + length k) (length-append (held fs) (membersStore ms))))
           ∙ t .told;
@@ -124,24 +124,25 @@ module _ (store : List ℕ) where
   )
 
   -- a container that ends here is a value
-  tell-array : (e : ℕ) (ms : Meanings) (fs : List Frame) (i at : ℕ) (past : List Record) → e ≡ i
+  tell-array : (e : Stated) (ms : Meanings) (fs : List Frame) (i at : ℕ) (past : List Record) → e .end ≡ i → e .count ≡ elementsCount ms
       → Tell (flat (inArray e ms ∷ fs)) (taken (inArray e ms ∷ fs)) (held (inArray e ms ∷ fs)) i at past
       → Tell (flat fs ++ recordsOf (array ms) (taken fs) (length (held fs))) (taken fs + records (array ms)) (held fs ++ storeOf (array ms)) i at past
   unfolding flat taken held recordsOf records storeOf
-  tell-array e ms fs i at past q t = record {
-    told = ap (λ (n : ℕ). flat fs ++ (Record.Array n ∷ elementsOf ms (taken fs + 1) (length (held fs)))) (omega arith) ∙ t .told;
+  tell-array e ms fs i at past q n t = record {
+    told = ap₂ (λ (x y : ℕ). flat fs ++ (Record.Array x y ∷ elementsOf ms (taken fs + 1) (length (held fs)))) (sym n) (omega arith) ∙ t .told;
     counted = omega arith;
     kept = t .kept;
     upto = t .upto;
   }
 
-  tell-object : (e : ℕ) (ms : Members) (fs : List Frame) (i at : ℕ) (past : List Record) → e ≡ i
-      → Tell (flat fs ++ (Record.Object e ∷ membersOf ms (taken fs + 1) (length (held fs)))) (taken fs + 1 + membersRecords ms) (held fs ++ membersStore ms) i
+  tell-object : (e : Stated) (ms : Members) (fs : List Frame) (i at : ℕ) (past : List Record) → e .end ≡ i → e .count ≡ membersCount ms
+      → Tell (flat fs ++ (Record.Object (e .count) (e .end) ∷ membersOf ms (taken fs + 1) (length (held fs)))) (taken fs + 1 + membersRecords ms)
+      (held fs ++ membersStore ms) i
       at past
       → Tell (flat fs ++ recordsOf (object ms) (taken fs) (length (held fs))) (taken fs + records (object ms)) (held fs ++ storeOf (object ms)) i at past
   unfolding flat taken held recordsOf records storeOf
-  tell-object e ms fs i at past q t = record {
-    told = ap (λ (n : ℕ). flat fs ++ (Record.Object n ∷ membersOf ms (taken fs + 1) (length (held fs)))) (omega arith) ∙ t .told;
+  tell-object e ms fs i at past q n t = record {
+    told = ap₂ (λ (x y : ℕ). flat fs ++ (Record.Object x y ∷ membersOf ms (taken fs + 1) (length (held fs)))) (sym n) (omega arith) ∙ t .told;
     counted = omega arith;
     kept = t .kept;
     upto = t .upto;
@@ -153,41 +154,45 @@ module _ (store : List ℕ) where
       Tell (flat (f ∷ fs) ++ recordsOf m (taken (f ∷ fs)) (length (held (f ∷ fs)))) (taken (f ∷ fs) + records m) (held (f ∷ fs) ++ storeOf m) i at past
       × ((depth m + length fs ≤ depthLimit) × Shallow (f ∷ fs))
 
-  ready-array : (fs : List Frame) (e : ℕ) (ms : Meanings) (i at : ℕ) (past : List Record) → e ≡ i → Fair (elements e ms fs) i at past
+  ready-array : (fs : List Frame) (e : Stated) (ms : Meanings) (i at : ℕ) (past : List Record) → e .end ≡ i → e .count ≡ elementsCount ms
+      → Fair (elements e ms fs) i at past
       → Ready (array ms) fs i at past
   unfolding depth
-  ready-array [] e ms i at past q g = omega arith
-  ready-array (f ∷ fs) e ms i at past q g = (tell-array e ms (f ∷ fs) i at past q (g .0), (omega (arith, g .1 .0), g .1 .1))
+  ready-array [] e ms i at past q n g = omega arith
+  ready-array (f ∷ fs) e ms i at past q n g = (tell-array e ms (f ∷ fs) i at past q n (g .0), (omega (arith, g .1 .0), g .1 .1))
 
-  ready-object : (fs : List Frame) (e : ℕ) (ms : Members) (i at : ℕ) (past : List Record) → e ≡ i → Fair (members e ms fs) i at past
+  ready-object : (fs : List Frame) (e : Stated) (ms : Members) (i at : ℕ) (past : List Record) → e .end ≡ i → e .count ≡ membersCount ms
+      → Fair (members e ms fs) i at past
       → Ready (object ms) fs i at past
   unfolding depth
-  ready-object [] e ms i at past q g = omega arith
-  ready-object (f ∷ fs) e ms i at past q g = (tell-object e ms (f ∷ fs) i at past q (g .0), (omega (arith, g .1 .0), g .1 .1))
+  ready-object [] e ms i at past q n g = omega arith
+  ready-object (f ∷ fs) e ms i at past q n g = (tell-object e ms (f ∷ fs) i at past q n (g .0), (omega (arith, g .1 .0), g .1 .1))
 
   -- and so for each that ends here
   given : (fs : List Frame) (m : Meaning) (i at : ℕ) (past : List Record) → Ready m fs i at past → Fair (give i m fs) i at past
-  unfolding give put
+  unfolding give put elementsCount membersCount
   given [] m i at past r = omega arith
   given (root ∷ fs) m i at past r = set-down m root fs i at past (r .0) (r .1 .0) (r .1 .1)
   given (inArray e ms ∷ fs) m i at past r =
       let g = set-down m (inArray e ms) fs i at past (r .0) (r .1 .0) (r .1 .1) in
-      by-bool (λ (c : Conf). Fair c i at past) (eqb e i) _ _
-      (λ q. given fs (array (more ms m)) i at past (ready-array fs e (more ms m) i at past (eqb-true e i q) g)) (λ q. g)
+      by-shut (λ (c : Conf). Fair c i at past) i e (elementsCount ms + 1) _ _
+      (λ q n. given fs (array (more ms m)) i at past (ready-array fs e (more ms m) i at past q n g)) (omega arith) g
   given (inObject e ms k ∷ fs) m i at past r =
       let g = set-down m (inObject e ms k) fs i at past (r .0) (r .1 .0) (r .1 .1) in
-      by-bool (λ (c : Conf). Fair c i at past) (eqb e i) _ _
-      (λ q. given fs (object (member ms k m)) i at past (ready-object fs e (member ms k m) i at past (eqb-true e i q) g)) (λ q. g)
+      by-shut (λ (c : Conf). Fair c i at past) i e (membersCount ms + 1) _ _
+      (λ q n. given fs (object (member ms k m)) i at past (ready-object fs e (member ms k m) i at past q n g)) (omega arith) g
 
   settled : (c : Conf) (i at : ℕ) (past : List Record) → Fair c i at past → Fair (settle i c) i at past
   unfolding settle
   settled nothing i at past g = g
   settled (whole m) i at past g = g
   settled (elements e ms fs) i at past g =
-      by-bool (λ (c : Conf). Fair c i at past) (eqb e i) _ _ (λ q. given fs (array ms) i at past (ready-array fs e ms i at past (eqb-true e i q) g)) (λ q. g)
+      by-shut (λ (c : Conf). Fair c i at past) i e (elementsCount ms) _ _ (λ q n. given fs (array ms) i at past (ready-array fs e ms i at past q n g))
+      (omega arith) g
   settled (members e ms fs) i at past g =
-      by-bool (λ (c : Conf). Fair c i at past) (eqb e i) _ _ (λ q. given fs (object ms) i at past (ready-object fs e ms i at past (eqb-true e i q) g)) (λ q. g)
-  settled (keyed e ms k fs) i at past g = by-bool (λ (c : Conf). Fair c i at past) (eqb e i) _ _ (λ q. omega arith) (λ q. g)
+      by-shut (λ (c : Conf). Fair c i at past) i e (membersCount ms) _ _ (λ q n. given fs (object ms) i at past (ready-object fs e ms i at past q n g))
+      (omega arith) g
+  settled (keyed e ms k fs) i at past g = by-bool (λ (c : Conf). Fair c i at past) (eqb (e .end) i) _ _ (λ q. omega arith) (λ q. g)
   settled broken i at past g = omega arith
 
   -- ---- one record
@@ -209,18 +214,18 @@ module _ (store : List ℕ) where
       })
       (omega arith) (s .1 .0)
 
-  abbrev boxed : Kind → ℕ → Record
-  boxed ofValues e = Record.Array e
-  boxed ofMembers e = Record.Object e
+  abbrev boxed : Kind → Stated → Record
+  boxed ofValues e = Record.Array (e .count) (e .end)
+  boxed ofMembers e = Record.Object (e .count) (e .end)
 
-  began : (k : Kind) (e : ℕ) (f : Frame) (fs : List Frame) (i at : ℕ) (past : List Record) → Slotted (f ∷ fs) i at past → length fs < depthLimit
+  began : (k : Kind) (e : Stated) (f : Frame) (fs : List Frame) (i at : ℕ) (past : List Record) → Slotted (f ∷ fs) i at past → length fs < depthLimit
       → Fair (begin k e (f ∷ fs)) (i + 1) (at + 0) (past ++ (boxed k e ∷ []))
   unfolding flat taken held elementsOf elementsRecords elementsStore elementsDepth membersOf membersRecords membersStore membersDepth
   began ofValues e f fs i at past s g =
       let t = s .0 in
       let z : at ≡ at + 0 = omega arith in (
         record {
-          told = ap (λ (x : List Record). x ++ (Record.Array e ∷ [])) (t .told);
+          told = ap (λ (x : List Record). x ++ (Record.Array (e .count) (e .end) ∷ [])) (t .told);
           counted = omega arith;
           kept = t .kept ∙ ap (λ (x : ℕ). held (f ∷ fs) ++ drop x store) z ∙ ap (λ (x : List ℕ). x ++ drop (at + 0) store) (sym (append-nil (held (f ∷ fs))));
           upto = ap length (append-nil (held (f ∷ fs))) ∙ t .upto ∙ z;
@@ -231,7 +236,7 @@ module _ (store : List ℕ) where
       let t = s .0 in
       let z : at ≡ at + 0 = omega arith in (
         record {
-          told = ap (λ (x : List Record). x ++ (Record.Object e ∷ [])) (t .told);
+          told = ap (λ (x : List Record). x ++ (Record.Object (e .count) (e .end) ∷ [])) (t .told);
           counted = omega arith;
           kept = t .kept ∙ ap (λ (x : ℕ). held (f ∷ fs) ++ drop x store) z ∙ ap (λ (x : List ℕ). x ++ drop (at + 0) store) (sym (append-nil (held (f ∷ fs))));
           upto = ap length (append-nil (held (f ∷ fs))) ∙ t .upto ∙ z;
@@ -239,7 +244,8 @@ module _ (store : List ℕ) where
         (omega arith, s .1 .0),
       )
 
-  opened : (l : List Frame) (k : Kind) (e i at : ℕ) (past : List Record) → Slotted l i at past → Fair (enter k e l) (i + 1) (at + 0) (past ++ (boxed k e ∷ []))
+  opened : (l : List Frame) (k : Kind) (e : Stated) (i at : ℕ) (past : List Record) → Slotted l i at past
+      → Fair (enter k e l) (i + 1) (at + 0) (past ++ (boxed k e ∷ []))
   unfolding enter
   opened [] k e i at past s = omega arith
   opened (f ∷ fs) k e i at past s =
@@ -300,8 +306,8 @@ module _ (store : List ℕ) where
       passed (slot c) (binary (part store at size)) (Record.Bin size start) i at (at + size) past (slotted c i at past g) refl refl
       (λ j. ap₂ (λ (x y : ℕ). Record.Bin x y ∷ []) l (sym s)) (ap (λ (x : ℕ). at + x) (sym l)) (cut at size)
   did c (Record.Time t) i at past h s g = plain c (time t) (Record.Time t) i at past g refl refl (λ j. refl) refl
-  did c (Record.Array e) i at past h s g = opened (slot c) ofValues e i at past (slotted c i at past g)
-  did c (Record.Object e) i at past h s g = opened (slot c) ofMembers e i at past (slotted c i at past g)
+  did c (Record.Array n e) i at past h s g = opened (slot c) ofValues (record { count = n; end = e }) i at past (slotted c i at past g)
+  did c (Record.Object n e) i at past h s g = opened (slot c) ofMembers (record { count = n; end = e }) i at past (slotted c i at past g)
 
   pushed : (c : Conf) (r : Record) (i at : ℕ) (past : List Record) → bytesEnd r ≤ length store → Fair c i at past
       → Fair (push store at c r) (i + 1) (at + sizeOf r) (past ++ (r ∷ []))

@@ -91,8 +91,8 @@ module _ (store : List ℕ) (count : ℕ) where
   own-inside (Record.Key size start) i o = o .0
   own-inside (Record.Bin size start) i o = o
   own-inside (Record.Time t) i o = omega arith
-  own-inside (Record.Array e) i o = omega arith
-  own-inside (Record.Object e) i o = omega arith
+  own-inside (Record.Array count end) i o = omega arith
+  own-inside (Record.Object count end) i o = omega arith
 
   all-inside : (rs : List Record) (i : ℕ) → AllOwn rs i → AllInside store rs
   all-inside [] i f = tt

@@ -38,8 +38,8 @@ DateFits (Record.Str size start) = Unit {0}
 DateFits (Record.Key size start) = Unit {0}
 DateFits (Record.Bin size start) = Unit {0}
 DateFits (Record.Time t) = Fit (Record.Time t)
-DateFits (Record.Array end) = Unit {0}
-DateFits (Record.Object end) = Unit {0}
+DateFits (Record.Array count end) = Unit {0}
+DateFits (Record.Object count end) = Unit {0}
 
 words-bytes : (r : Record) → DateFits r → recordBytes r ≡ fourWords (markOf r) (lowOf r) (midOf r) (highOf r)
 unfolding recordBytes fourWords markOf lowOf midOf highOf le
@@ -55,8 +55,8 @@ words-bytes (Record.Str size start) f = refl
 words-bytes (Record.Key size start) f = refl
 words-bytes (Record.Bin size start) f = refl
 words-bytes (Record.Time t) f = record-words (Record.Time t) f
-words-bytes (Record.Array end) f = refl
-words-bytes (Record.Object end) f = refl
+words-bytes (Record.Array count end) f = refl
+words-bytes (Record.Object count end) f = refl
 
 pub written : (r : Record) (w : Words) → DateFits r → Worded r w → Written r w
 written r w f e = record {
@@ -106,8 +106,8 @@ record-back (Record.Time (OffsetDateTime d t offset)) f =
     let o = ofZ w16 offset in
     let e : monthDay d o / 65536 ≡ o = omega arith in
     ap₂ (λ (x : Date) (z : ℤ). Record.Time (OffsetDateTime x t z)) (date-back d o (f .0)) (ap (toZ w16) e ∙ toZ-ofZ w16 offset (f .2))
-record-back (Record.Array end) f = refl
-record-back (Record.Object end) f = refl
+record-back (Record.Array count end) f = refl
+record-back (Record.Object count end) f = refl
 
 -- the record with these numbers, if there is one, is the one that `recordOf` gives
 pub only : (w : Words) (r : Record) → Fit r → Worded r w → recordOf (w .mark) (w .low) (w .mid) (w .high) ≡ r
@@ -130,11 +130,11 @@ module _ (a low mid high : ℕ) where
   unfolding recordOf
   only-finite e = ap (λ (x : ℕ). recordOf x low mid high) e
 
-  pub only-array : a ≡ mark "a" "r" → recordOf a low mid high ≡ Record.Array high
+  pub only-array : a ≡ mark "a" "r" → recordOf a low mid high ≡ Record.Array mid high
   unfolding recordOf
   only-array e = ap (λ (x : ℕ). recordOf x low mid high) e
 
-  pub only-object : a ≡ mark "o" "b" → recordOf a low mid high ≡ Record.Object high
+  pub only-object : a ≡ mark "o" "b" → recordOf a low mid high ≡ Record.Object mid high
   unfolding recordOf
   only-object e = ap (λ (x : ℕ). recordOf x low mid high) e
 
@@ -165,13 +165,13 @@ module _ (w : Words) where
     high-is = refl;
   }
 
-  pub array-words : w .mark ≡ mark "a" "r" → w .low ≡ 0 → w .mid ≡ 0 → Worded (Record.Array (w .high)) w
+  pub array-words : w .mark ≡ mark "a" "r" → w .low ≡ 0 → Worded (Record.Array (w .mid) (w .high)) w
   unfolding markOf lowOf midOf highOf
-  array-words m l d = record { mark-is = m; low-is = l; mid-is = d; high-is = refl }
+  array-words m l = record { mark-is = m; low-is = l; mid-is = refl; high-is = refl }
 
-  pub object-words : w .mark ≡ mark "o" "b" → w .low ≡ 0 → w .mid ≡ 0 → Worded (Record.Object (w .high)) w
+  pub object-words : w .mark ≡ mark "o" "b" → w .low ≡ 0 → Worded (Record.Object (w .mid) (w .high)) w
   unfolding markOf lowOf midOf highOf
-  object-words m l d = record { mark-is = m; low-is = l; mid-is = d; high-is = refl }
+  object-words m l = record { mark-is = m; low-is = l; mid-is = refl; high-is = refl }
 
   pub not-common : Common w false
   not-common = record { worded = λ e. let z : _≡_ {A = ℕ} 0 1 = cc in absurd (omega arith) }
@@ -223,8 +223,8 @@ record-of-fits w l =
     (by-cond Fit (eqb (w .mark) (mark "l" "t")) _ _ high
     (by-cond Fit (eqb (w .mark) (mark "d" "t")) _ _ (date, high)
     (by-cond Fit (eqb (w .mark) (mark "o" "d")) _ _ (date, high, toZ-fits w16 (w .mid / 65536) (record { fits = offset }))
-    (by-cond Fit (eqb (w .mark) (mark "a" "r")) _ _ high
-    (by-cond Fit (eqb (w .mark) (mark "o" "b")) _ _ high tt)))))))))))
+    (by-cond Fit (eqb (w .mark) (mark "a" "r")) _ _ (mid, high)
+    (by-cond Fit (eqb (w .mark) (mark "o" "b")) _ _ (mid, high) tt)))))))))))
 
 -- the numbers agree: there is a record
 pub same-words : (w v : Words) (r : Record) → Loaded w → r ≡ recordOf (w .mark) (w .low) (w .mid) (w .high) → Worded r v

@@ -144,7 +144,7 @@ pub fn own_fields(r: Record, index: usize, whole: usize, store: &[u8]) -> bool
         Record::Key { length, start } => utf8_inside(length, start, store),
         Record::Bin { length, start } => inside(length, start, store),
         Record::Time(t) => good_time(t),
-        Record::Array { end } => ends(end, index, whole),
-        Record::Object { end } => ends(end, index, whole),
+        Record::Array { count: _, end } => ends(end, index, whole),
+        Record::Object { count: _, end } => ends(end, index, whole),
     }
 }

@@ -120,27 +120,15 @@ fn time_words(t: Time) -> Words
     }
 }
 
-// The four numbers of a record with bytes in the store.
-fn bytes_words(mark: u64, length: usize, start: usize) -> Words
-    ensures { λ w. ⌜ Holds w mark 0 length start ⌝ }
+// The four numbers of a record that has two: a length and a start in the store, or a count and an end.
+fn two_words(mark: u64, first: usize, second: usize) -> Words
+    ensures { λ w. ⌜ Holds w mark 0 first second ⌝ }
 {
     Words {
         mark,
         low: 0,
-        mid: length as u64,
-        high: start as u64,
-    }
-}
-
-// The four numbers of a container.
-fn end_words(mark: u64, end: usize) -> Words
-    ensures { λ w. ⌜ Holds w mark 0 0 end ⌝ }
-{
-    Words {
-        mark,
-        low: 0,
-        mid: 0,
-        high: end as u64,
+        mid: first as u64,
+        high: second as u64,
     }
 }
 
@@ -162,12 +150,12 @@ pub fn words_of(r: Record) -> Words
             high: 0,
         },
         Record::Number(n) => number_words(n),
-        Record::Str { length, start } => bytes_words(ST, length, start),
-        Record::Key { length, start } => bytes_words(KY, length, start),
-        Record::Bin { length, start } => bytes_words(BY, length, start),
+        Record::Str { length, start } => two_words(ST, length, start),
+        Record::Key { length, start } => two_words(KY, length, start),
+        Record::Bin { length, start } => two_words(BY, length, start),
         Record::Time(t) => time_words(t),
-        Record::Array { end } => end_words(AR, end),
-        Record::Object { end } => end_words(OB, end),
+        Record::Array { count, end } => two_words(AR, count, end),
+        Record::Object { count, end } => two_words(OB, count, end),
     }
 }
 
@@ -209,15 +197,16 @@ fn date_of(low: u64, mid: u64) -> Date
 
 // The container with these four numbers; null where the mark is no container's.
 fn container_of(w: Words) -> Record
-    ensures { λ r. ⌜ r ≡ containerOf (w .mark) (w .high) ⌝ }
+    ensures { λ r. ⌜ r ≡ containerOf (w .mark) (w .mid) (w .high) ⌝ }
 {
     let mark = w.mark;
-    let high = w.high;
+    let count = w.mid as usize;
+    let end = w.high as usize;
     if mark == AR {
-        return Record::Array { end: high as usize };
+        return Record::Array { count, end };
     }
     if mark == OB {
-        return Record::Object { end: high as usize };
+        return Record::Object { count, end };
     }
     Record::Null
 }
@@ -310,6 +299,8 @@ fn common_record(w: Words) -> Record
     let high = w.high;
     let length = mid as usize;
     let start = high as usize;
+    let count = length;
+    let end = start;
     if mark == KY {
         return Record::Key { length, start };
     }
@@ -324,10 +315,10 @@ fn common_record(w: Words) -> Record
         });
     }
     if mark == AR {
-        return Record::Array { end: high as usize };
+        return Record::Array { count, end };
     }
     if mark == OB {
-        return Record::Object { end: high as usize };
+        return Record::Object { count, end };
     }
     let r = record_of(Words {
         mark,
@@ -380,9 +371,6 @@ fn common(w: Words) -> bool
     }
     if mark == ST {
         return true;
-    }
-    if w.mid != 0 {
-        return false;
     }
     if mark == AR {
         return true;

@@ -52,9 +52,10 @@ dateOf low mid = record { year = low; month = mid % 256; day = mid / 256 % 256 }
 
 -- the one record that may have these four numbers: a container or null; or else a time; or else one with bytes in the
 -- store; any
-abbrev pub containerOf : ℕ → ℕ → Record
-containerOf a high =
-    cond (eqb a (mark "a" "r")) (Record.Array high) (cond (eqb a (mark "o" "b")) (Record.Object high) Record.Null)
+abbrev pub containerOf : ℕ → ℕ → ℕ → Record
+containerOf a mid high =
+    cond (eqb a (mark "a" "r")) (Record.Array mid high)
+    (cond (eqb a (mark "o" "b")) (Record.Object mid high) Record.Null)
 
 abbrev pub timeOf : ℕ → ℕ → ℕ → ℕ → Record
 timeOf a low mid high =
@@ -62,7 +63,7 @@ timeOf a low mid high =
     (cond (eqb a (mark "l" "t")) (Record.Time (LocalTime high))
     (cond (eqb a (mark "d" "t")) (Record.Time (LocalDateTime (dateOf low mid) high))
     (cond (eqb a (mark "o" "d")) (Record.Time (OffsetDateTime (dateOf low mid) high (toZ w16 (mid / 65536))))
-    (containerOf a high))))
+    (containerOf a mid high))))
 
 abbrev pub bytesOf : ℕ → ℕ → ℕ → ℕ → Record
 bytesOf a low mid high =

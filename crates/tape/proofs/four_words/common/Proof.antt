@@ -22,18 +22,13 @@ returns-5 : tie.Need-returns-5
 returns-5 c = is-common _ (only-text _ _ _ _ (c .if5 .taken)) (text-words _ (c .if5 .taken) (c .before .before .if3 .left))
 
 returns-6 : tie.Need-returns-6
-returns-6 c = not-common _
+returns-6 c = is-common _ (only-array _ _ _ _ (c .if6 .taken)) (array-words _ (c .if6 .taken) (c .before .before .before .if3 .left))
 
 returns-7 : tie.Need-returns-7
-returns-7 c = is-common _ (only-array _ _ _ _ (c .if7 .taken)) (array-words _ (c .if7 .taken) (c .before .before .before .before .before .if3 .left)
-    (c .before .if6 .left))
+returns-7 c = is-common _ (only-object _ _ _ _ (c .if7 .taken)) (object-words _ (c .if7 .taken) (c .before .before .before .before .if3 .left))
 
 returns-8 : tie.Need-returns-8
-returns-8 c = is-common _ (only-object _ _ _ _ (c .if8 .taken)) (object-words _ (c .if8 .taken) (c .before .before .before .before .before .before .if3 .left)
-    (c .before .before .if6 .left))
-
-returns-9 : tie.Need-returns-9
-returns-9 c = not-common _
+returns-8 c = not-common _
 
 pub common-spec : {M : Type 1} → statement M
 common-spec =
@@ -46,5 +41,4 @@ common-spec =
     returns-5
     returns-6
     returns-7
-    returns-8
-    returns-9)
+    returns-8)

@@ -24,20 +24,20 @@ number-words-requires c κs = search needs
 enum-known-r-3 : tie.Need-enum-known-r-3
 enum-known-r-3 c = search needs
 
-bytes-words-requires : tie.Need-bytes-words-requires
-bytes-words-requires c κs = search needs
+two-words-requires : tie.Need-two-words-requires
+two-words-requires c κs = search needs
 
 enum-known-r-4 : tie.Need-enum-known-r-4
 enum-known-r-4 c = search needs
 
-bytes-words-requires-2 : tie.Need-bytes-words-requires-2
-bytes-words-requires-2 c κs = search needs
+two-words-requires-2 : tie.Need-two-words-requires-2
+two-words-requires-2 c κs = search needs
 
 enum-known-r-5 : tie.Need-enum-known-r-5
 enum-known-r-5 c = search needs
 
-bytes-words-requires-3 : tie.Need-bytes-words-requires-3
-bytes-words-requires-3 c κs = search needs
+two-words-requires-3 : tie.Need-two-words-requires-3
+two-words-requires-3 c κs = search needs
 
 enum-known-r-6 : tie.Need-enum-known-r-6
 enum-known-r-6 c = search needs
@@ -48,14 +48,14 @@ time-words-requires c κs = search needs
 enum-known-r-7 : tie.Need-enum-known-r-7
 enum-known-r-7 c = search needs
 
-end-words-requires : tie.Need-end-words-requires
-end-words-requires c κs = search needs
+two-words-requires-4 : tie.Need-two-words-requires-4
+two-words-requires-4 c κs = search needs
 
 enum-known-r-8 : tie.Need-enum-known-r-8
 enum-known-r-8 c = search needs
 
-end-words-requires-2 : tie.Need-end-words-requires-2
-end-words-requires-2 c κs = search needs
+two-words-requires-5 : tie.Need-two-words-requires-5
+two-words-requires-5 c κs = search needs
 
 returns : tie.Need-returns
 unfolding markOf lowOf midOf highOf
@@ -71,15 +71,15 @@ returns-3 c = rw (c .before .before .r2 .given .1) (c .number-words .ensures)
 
 returns-4 : tie.Need-returns-4
 unfolding markOf lowOf midOf highOf
-returns-4 c = rw (c .before .before .r3 .given .1) (written-as _ _ tt (c .bytes-words .ensures))
+returns-4 c = rw (c .before .before .r3 .given .1) (written-as _ _ tt (c .two-words .ensures))
 
 returns-5 : tie.Need-returns-5
 unfolding markOf lowOf midOf highOf
-returns-5 c = rw (c .before .before .r4 .given .1) (written-as _ _ tt (c .bytes-words2 .ensures))
+returns-5 c = rw (c .before .before .r4 .given .1) (written-as _ _ tt (c .two-words2 .ensures))
 
 returns-6 : tie.Need-returns-6
 unfolding markOf lowOf midOf highOf
-returns-6 c = rw (c .before .before .r5 .given .1) (written-as _ _ tt (c .bytes-words3 .ensures))
+returns-6 c = rw (c .before .before .r5 .given .1) (written-as _ _ tt (c .two-words3 .ensures))
 
 returns-7 : tie.Need-returns-7
 unfolding markOf lowOf midOf highOf
@@ -87,11 +87,11 @@ returns-7 c = rw (c .before .before .r6 .given .1) (c .time-words .ensures)
 
 returns-8 : tie.Need-returns-8
 unfolding markOf lowOf midOf highOf
-returns-8 c = rw (c .before .before .r7 .given .1) (written-as _ _ tt (c .end-words .ensures))
+returns-8 c = rw (c .before .before .r7 .given .1) (written-as _ _ tt (c .two-words4 .ensures))
 
 returns-9 : tie.Need-returns-9
 unfolding markOf lowOf midOf highOf
-returns-9 c = rw (c .before .before .r8 .given .1) (written-as _ _ tt (c .end-words2 .ensures))
+returns-9 c = rw (c .before .before .r8 .given .1) (written-as _ _ tt (c .two-words5 .ensures))
 
 pub words-of-spec : {M : Type 1} → statement M
 words-of-spec =
@@ -103,17 +103,17 @@ words-of-spec =
     enum-known-r-2
     number-words-requires
     enum-known-r-3
-    bytes-words-requires
+    two-words-requires
     enum-known-r-4
-    bytes-words-requires-2
+    two-words-requires-2
     enum-known-r-5
-    bytes-words-requires-3
+    two-words-requires-3
     enum-known-r-6
     time-words-requires
     enum-known-r-7
-    end-words-requires
+    two-words-requires-4
     enum-known-r-8
-    end-words-requires-2
+    two-words-requires-5
     returns
     returns-2
     returns-3
