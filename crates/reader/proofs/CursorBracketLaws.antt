@@ -5,6 +5,7 @@ use Prim.Native.Nat.{ℕ, suc, _+_, _≤_, _<_}
 use native.Mathlib.Omega.{arith}
 use lib.ListN.{length, getD}
 use lib.Seq.{sets}
+use Rattle.meaning.specs.declared.Record.{Record}
 use Rattle.meaning.specs.declared.Refusal.{Refusal}
 use Rattle.meaning.specs.declared.Refusal.the-variants.{NotGrammar, TooDeep}
 use Rattle.meaning.specs.Letters.{ch}
@@ -15,12 +16,13 @@ use Rattle.machine.specs.Machine.{onWant, closeWanted, odd, wanted, shut, Brack
 use Rattle.machine.specs.Machine.{hashC, slashC, commaC, colonC, plusC, quoteC, dollarC, letterN, letterT, letterF, letterC}
 use Rattle.machine.specs.Machine.{otherC, openC, closeC}
 use Rattle.machine.specs.Machine as Machine
+use Rattle.tape.specs.Between.Putting.{putRecord}
 use Rattle.reader.specs.Between.Scanning.{Goes, Refuses, Bare, Shut}
 use Rattle.reader.specs.Between.Layout.{LayoutEnds, Breaks}
 use Rattle.reader.specs.Between.Joined.{Keyed, KeySays}
 use Rattle.reader.specs.Between.Cursor.{Scalar, Unwanted, ScalarSays, itemBytes, Ready, AtValue, AtMember, Moved, Opened}
 use Rattle.reader.specs.Between.Cursor.{OneItem, closer, within, Begins, AheadSays, Adds, AfterSays, Coloned, ColonSays}
-use Rattle.reader.specs.Between.Cursor.{Named, MemberSays}
+use Rattle.reader.specs.Between.Cursor.{Named, MemberSays, MemberBegins}
 use Rattle.reader.specs.declared.cursor.Cursor.{Cursor}
 use Rattle.reader.specs.declared.cursor.Ahead.{Ahead}
 use Rattle.reader.specs.declared.cursor.After.{After}
@@ -241,3 +243,43 @@ module _ (text : List ℕ) (c : Cursor) (entry : List ℕ) where
         within = m .within;
       }
   member-says exit q n w (Member.Refused why) s = λ x d k. w .runs d (inside (members x) ∷ k) ∙ s x (w .u) d k
+
+-- ---- in an object
+
+module _ (text : List ℕ) (c n : Cursor) (h : Begins text c (ch "}") n) where
+  pub member-at : Ready text c → AtMember text n
+  member-at r = record {
+    ready = record {
+      within = omega (arith, h .inside);
+      records = omega (arith, h .records, r .records, h .behind);
+      stored = omega (arith, h .stored, r .stored, h .behind);
+      short = r .short;
+    };
+    bare = h .bare;
+    inside = h .inside;
+    other = h .other;
+  }
+
+  pub member-none : (why : Refusal) → ((x : Members) (d : ℕ) (k : List Frame) → Refuses text (within (members x) d k) (n .at) why)
+      → AheadSays text c (ch "}") (Ahead.Refused why)
+  member-none why w (elements x) e d k = absurd (omega arith)
+  member-none why w (members x) e d k = h .goes wantKey d (inside (members x) ∷ k) ∙ w x d k
+
+  pub member-begins : (tape tape' entry exit : List ℕ) (size : ℕ) (v : Cursor) → MemberSays text n entry exit (Member.Key size v)
+      → tape' ≡ putRecord tape (c .records) (Record.Key size (c .stored)) → MemberBegins text c tape tape' entry exit v
+  member-begins tape tape' entry exit size v w e = record {
+    size = size;
+    named = record {
+      u = w .u;
+      goes = λ x d k. h .goes wantKey d (inside (members x) ∷ k) ∙ w .goes x d k;
+      counted = w .counted;
+      filled = w .filled ∙ ap (λ (i : ℕ). sets entry i (w .u)) (h .stored);
+      bare = w .bare;
+      records = omega (arith, w .records, h .records);
+      stored = omega (arith, w .stored, h .stored);
+      room = omega (arith, w .room, h .behind);
+      past = omega (arith, w .past, h .behind);
+      within = w .within;
+    };
+    taped = e;
+  }

@@ -10,21 +10,21 @@ use Rattle.meaning.specs.Letters.{ch}
 use Rattle.meaning.specs.Limits.{textLimit}
 use Rattle.meaning.specs.Meaning.{Meaning, Meanings, Members}
 use Rattle.meaning.specs.Tape.{records, elementsRecords, membersRecords, storeOf, elementsStore, membersStore, recordsOf}
-use Rattle.meaning.specs.Tape.{elementsOf, membersOf, recordBytes, recordsBytes, endOf}
+use Rattle.meaning.specs.Tape.{elementsCount, membersCount, elementsOf, membersOf, recordBytes, recordsBytes, endOf}
 use Rattle.meaning.specs.Look.{wholeRecords}
 use Rattle.meaning.proofs.Records.{record-length, records-append, records-bytes-length}
-use Rattle.meaning.proofs.Sizes.{records-length, elements-length, members-length}
+use Rattle.meaning.proofs.Sizes.{records-length, elements-length, members-length, elements-few, members-few}
 use Rattle.grammar.specs.Values.{Inside, elements, members}
-use Rattle.machine.specs.Machine.{closeC, closeWanted, odd, want, wantKey, got, value, base, Frame, inside, pair, at, Bracket, square, curly, bareOf, shut}
+use Rattle.machine.specs.Machine.{closeC, closeWanted, odd, want, Frame, inside, pair, at, Bracket, square, curly, bareOf, shut, No}
 use Rattle.machine.proofs.Classes.{closing, ClassIs, class-is}
 use Rattle.meaning.specs.declared.Refusal.{Refusal}
 use Rattle.tape.specs.Between.Putting.{putRecord}
 use Rattle.tape.proofs.PuttingLaws.{record-room, sets-append, put-record-length}
 use Rattle.reader.specs.declared.cursor.Cursor.{Cursor}
-use Rattle.reader.specs.Between.Scanning.{Goes, Refuses, Shut}
-use Rattle.reader.specs.Between.Cursor.{Ready, AtValue, Inner, AtMember, Begins, Took, Named, Adds, element, member, closer}
-use Rattle.reader.specs.Between.Cursor.{within, bareIn, wants, always, Left, Says, AheadSays, AfterSays, OneItem, Opened}
-use Rattle.reader.specs.Between.Cursor.{recordItem}
+use Rattle.reader.specs.Between.Scanning.{Goes, Shut}
+use Rattle.reader.specs.Between.Cursor.{Ready, AtValue, Inner, Moved, Begins, Took, Named, Adds, element, member, closer, closed}
+use Rattle.reader.specs.Between.Cursor.{within, bareIn, wants, always, Left, Says, AheadSays, MemberAheadSays, OneItem, Opened}
+use Rattle.reader.specs.Between.Cursor.{recordItem, StepReady, FollowedSays}
 use Rattle.items.specs.declared.Item.{Item}
 use Rattle.reader.specs.declared.cursor.Step.{Step}
 use Rattle.meaning.specs.declared.Refusal.the-variants.{TooDeep}
@@ -45,9 +45,13 @@ abbrev pub listIn : Inside → ℕ → ℕ → List Record
 listIn (elements x) i s = elementsOf x i s
 listIn (members x) i s = membersOf x i s
 
-abbrev pub header : Bracket → ℕ → Record
-header square e = Record.Array e
-header curly e = Record.Object e
+abbrev pub countIn : Inside → ℕ
+countIn (elements x) = elementsCount x
+countIn (members x) = membersCount x
+
+abbrev pub header : Bracket → ℕ → ℕ → Record
+header square n e = Record.Array n e
+header curly n e = Record.Object n e
 
 abbrev pub Of : Bracket → Inside → Type 0
 Of square (elements x) = Unit {0}
@@ -63,6 +67,11 @@ none-inside : (b : Bracket) → recordsIn (bareOf b) ≡ 0
 unfolding elementsRecords membersRecords
 none-inside square = refl
 none-inside curly = refl
+
+none-counted : (b : Bracket) → countIn (bareOf b) ≡ 0
+unfolding elementsCount membersCount
+none-counted square = refl
+none-counted curly = refl
 
 none-stored : (b : Bracket) → storeIn (bareOf b) ≡ []
 unfolding elementsStore membersStore
@@ -84,7 +93,8 @@ unfolding storeOf
 shut-store (elements x) = refl
 shut-store (members x) = refl
 
-shut-list : (b : Bracket) (y : Inside) → Of b y → (i s : ℕ) → recordsOf (shut y) i s ≡ header b (endOf i (recordsIn y)) ∷ listIn y (i + 1) s
+shut-list : (b : Bracket) (y : Inside) → Of b y → (i s : ℕ)
+    → recordsOf (shut y) i s ≡ header b (countIn y) (endOf i (recordsIn y)) ∷ listIn y (i + 1) s
 unfolding recordsOf
 shut-list square (elements x) o i s = refl
 shut-list square (members x) o i s = absurd o
@@ -94,6 +104,11 @@ shut-list curly (members x) o i s = refl
 list-length : (y : Inside) (i s : ℕ) → length (listIn y i s) ≡ recordsIn y
 list-length (elements x) i s = elements-length x i s
 list-length (members x) i s = members-length x i s
+
+-- no more elements or members than records
+few-in : (y : Inside) → countIn y ≤ recordsIn y
+few-in (elements x) = elements-few x
+few-in (members x) = members-few x
 
 -- ---- stores that do not meet
 
@@ -121,135 +136,147 @@ headed t own r inner h =
 
 -- ---- what has been put of what is inside
 
-pub record Content (text tape₀ tape store₀ store : List ℕ) (b : Bracket) (from own start at records stored : ℕ) (y : Inside) : Type 0 where
+-- in the container that opened before o, up to c
+pub record Content (text tape₀ tape store₀ store : List ℕ) (b : Bracket) (o : Cursor) (count : ℕ) (c : Cursor) (y : Inside) : Type 0 where
+  pub opened : Inner text o
   pub kind : Of b y
-  pub recorded : records ≡ own + 1 + recordsIn y
-  pub stored-is : stored ≡ start + length (storeIn y)
-  pub taped : records * 16 ≤ length tape₀ → tape ≡ sets tape₀ ((own + 1) * 16) (recordsBytes (listIn y (own + 1) start))
-  pub filled : store ≡ sets store₀ start (storeIn y)
+  pub counted : count ≡ countIn y
+  pub recorded : c .records ≡ o .records + 1 + recordsIn y
+  pub stored : c .stored ≡ o .stored + length (storeIn y)
+  pub taped : c .records * 16 ≤ length tape₀ → tape ≡ sets tape₀ ((o .records + 1) * 16) (recordsBytes (listIn y (o .records + 1) (o .stored)))
+  pub filled : store ≡ sets store₀ (o .stored) (storeIn y)
   pub long : length tape ≡ length tape₀
-  pub few : records + from ≤ own + 1 + at
-  pub short : stored + from ≤ start + at
-  pub past : from ≤ at
-  pub in-text : at ≤ length text
-  pub behind : own < from
-  pub before : start < from
-  pub limited : length text ≤ textLimit
+  pub few : c .records + o .at ≤ o .records + 1 + c .at
+  pub short : c .stored + o .at ≤ o .stored + c .at
+  pub past : o .at ≤ c .at
+  pub in-text : c .at ≤ length text
 
-pub content-none : (text tape store : List ℕ) (b : Bracket) (c : Cursor) → Inner text c
-    → Content text tape tape store store b (c .at) (c .records) (c .stored) (c .at) (c .records + 1) (c .stored) (bareOf b)
-content-none text tape store b c h =
+abbrev pub cursor : ℕ → ℕ → ℕ → Cursor
+cursor p r s = record { at = p; records = r; stored = s }
+
+-- after the opening bracket, where the container's own record has its room
+abbrev pub entered : Cursor → Cursor
+entered o = cursor (o .at) (o .records + 1) (o .stored)
+
+content-none : (text tape store : List ℕ) (b : Bracket) (o : Cursor) → Inner text o → Content text tape tape store store b o 0 (entered o) (bareOf b)
+content-none text tape store b o h =
     record {
+      opened = h;
       kind = of-bare b;
+      counted = sym (none-counted b);
       recorded = omega (arith, none-inside b);
-      stored-is = omega (arith, ap length (none-stored b));
-      taped = λ l. ap (λ (v : List ℕ). sets tape ((c .records + 1) * 16) v) (sym (none-listed b (c .records + 1) (c .stored)));
-      filled = ap (λ (v : List ℕ). sets store (c .stored) v) (sym (none-stored b));
+      stored = omega (arith, ap length (none-stored b));
+      taped = λ l. ap (λ (v : List ℕ). sets tape ((o .records + 1) * 16) v) (sym (none-listed b (o .records + 1) (o .stored)));
+      filled = ap (λ (v : List ℕ). sets store (o .stored) v) (sym (none-stored b));
       long = refl;
       few = omega arith;
       short = omega arith;
       past = omega arith;
       in-text = h .within;
-      behind = h .records;
-      before = h .stored;
-      limited = h .short;
     }
 
--- one element or one member more
-pub record More (y z : Inside) (news : ℕ → ℕ → List Record) (u : List ℕ) (count : ℕ) : Type 0 where
-  pub counted : recordsIn z ≡ recordsIn y + count
-  pub held : storeIn z ≡ storeIn y ++ u
-  pub listed : (i s : ℕ) → listIn z i s ≡ listIn y i s ++ news (i + recordsIn y) (s + length (storeIn y))
+-- one element or one member more, with this many records
+record More (y z : Inside) (news : ℕ → ℕ → List Record) (u : List ℕ) (size : ℕ) : Type 0 where
+  counted : countIn z ≡ countIn y + 1
+  recorded : recordsIn z ≡ recordsIn y + size
+  held : storeIn z ≡ storeIn y ++ u
+  listed : (i s : ℕ) → listIn z i s ≡ listIn y i s ++ news (i + recordsIn y) (s + length (storeIn y))
 
-module _ {text tape₀ tape store₀ store : List ℕ} {b : Bracket} {from own start p records stored : ℕ} {y : Inside}
-    (t : Content text tape₀ tape store₀ store b from own start p records stored y) where
-  pub content-ready : Ready text (record { at = p; records = records; stored = stored })
-  content-ready = record { within = t .in-text; records = omega (arith, t .few, t .behind); stored = omega (arith, t .short, t .before); short = t .limited }
+module _ {text tape₀ tape store₀ store : List ℕ} {b : Bracket} {o : Cursor} {count : ℕ} {c : Cursor} {y : Inside}
+    (t : Content text tape₀ tape store₀ store b o count c y) where
+  content-ready : Ready text c
+  content-ready =
+      let h = t .opened in
+      record { within = t .in-text; records = omega (arith, t .few, h .records); stored = omega (arith, t .short, h .stored); short = h .short }
 
-  pub grow : {news : ℕ → ℕ → List Record} {u : List ℕ} {count : ℕ} (z : Inside) → Of b z → More y z news u count
-      → (tape' store' : List ℕ) (q r' s' : ℕ) → r' ≡ records + count → s' ≡ stored + length u
-      → (r' * 16 ≤ length tape → tape' ≡ sets tape (records * 16) (recordsBytes (news records stored)))
-      → store' ≡ sets store stored u → length tape' ≡ length tape → r' + p ≤ records + q → s' + p ≤ stored + q → p ≤ q
-      → q ≤ length text → Content text tape₀ tape' store₀ store' b from own start q r' s' z
-  grow {news} {u} {count} z o m tape' store' q r' s' er es et eo el hf hs hp hq =
+  -- there is room for one more
+  content-counts : count < textLimit
+  content-counts = let h = t .opened in omega (arith, t .counted, few-in y, t .recorded, t .few, t .in-text, h .records, h .short)
+
+  grow : {news : ℕ → ℕ → List Record} {u : List ℕ} {size : ℕ} (z : Inside) → Of b z → More y z news u size → (tape' store' : List ℕ) (d : Cursor)
+      → d .records ≡ c .records + size → d .stored ≡ c .stored + length u
+      → (d .records * 16 ≤ length tape → tape' ≡ sets tape (c .records * 16) (recordsBytes (news (c .records) (c .stored))))
+      → store' ≡ sets store (c .stored) u → length tape' ≡ length tape
+      → d .records + c .at ≤ c .records + d .at → d .stored + c .at ≤ c .stored + d .at → c .at ≤ d .at
+      → d .at ≤ length text → Content text tape₀ tape' store₀ store' b o (count + 1) d z
+  grow {news} {u} {size} z k m tape' store' d er es et eo el hf hs hp hq =
+      let own = o .records in
+      let start = o .stored in
       record {
-        kind = o;
-        recorded = omega (arith, m .counted, t .recorded);
-        stored-is = omega (arith, ap length (m .held), length-append (storeIn y) u, t .stored-is);
+        opened = t .opened;
+        kind = k;
+        counted = omega (arith, m .counted, t .counted);
+        recorded = omega (arith, m .recorded, t .recorded);
+        stored = omega (arith, ap length (m .held), length-append (storeIn y) u, t .stored);
         taped = λ l.
             let a : tape ≡ sets tape₀ ((own + 1) * 16) (recordsBytes (listIn y (own + 1) start)) = t .taped (omega arith) in
-            let n : (own + 1) * 16 + length (recordsBytes (listIn y (own + 1) start)) ≡ records * 16 = omega
+            let n : (own + 1) * 16 + length (recordsBytes (listIn y (own + 1) start)) ≡ c .records * 16 = omega
             (arith, records-bytes-length (listIn y (own + 1) start), list-length y (own + 1) start, t .recorded) in
-            let i : own + 1 + recordsIn y ≡ records = sym (t .recorded) in
-            let j : start + length (storeIn y) ≡ stored = sym (t .stored-is) in
+            let i : own + 1 + recordsIn y ≡ c .records = sym (t .recorded) in
+            let j : start + length (storeIn y) ≡ c .stored = sym (t .stored) in
             et (omega (arith, t .long))
-            ∙ ap (λ (v : List ℕ). sets v (records * 16) (recordsBytes (news records stored))) a
-            ∙ sets-append tape₀ ((own + 1) * 16) (records * 16) (recordsBytes (listIn y (own + 1) start)) (recordsBytes (news records stored)) n
+            ∙ ap (λ (v : List ℕ). sets v (c .records * 16) (recordsBytes (news (c .records) (c .stored)))) a
+            ∙ sets-append tape₀ ((own + 1) * 16) (c .records * 16) (recordsBytes (listIn y (own + 1) start))
+            (recordsBytes (news (c .records) (c .stored))) n
             ∙ ap (λ (v : List ℕ). sets tape₀ ((own + 1) * 16) v)
-            (sym (records-append (listIn y (own + 1) start) (news records stored))
+            (sym (records-append (listIn y (own + 1) start) (news (c .records) (c .stored)))
             ∙ ap recordsBytes (ap₂ (λ (e f : ℕ). listIn y (own + 1) start ++ news e f) (sym i) (sym j) ∙ sym (m .listed (own + 1) start)));
         filled =
             eo
-            ∙ ap (λ (v : List ℕ). sets v stored u) (t .filled)
-            ∙ sets-append store₀ start stored (storeIn y) u (sym (t .stored-is))
+            ∙ ap (λ (v : List ℕ). sets v (c .stored) u) (t .filled)
+            ∙ sets-append store₀ start (c .stored) (storeIn y) u (sym (t .stored))
             ∙ ap (λ (v : List ℕ). sets store₀ start v) (sym (m .held));
         long = el ∙ t .long;
         few = omega (arith, t .few);
         short = omega (arith, t .short);
         past = omega (arith, t .past);
         in-text = hq;
-        behind = t .behind;
-        before = t .before;
-        limited = t .limited;
       }
 
   -- further on, with the same counts
-  pub further : (n : Cursor) → n .records ≡ records → n .stored ≡ stored → p < n .at → n .at ≤ length text
-      → Content text tape₀ tape store₀ store b from own start (n .at) (n .records) (n .stored) y
-  further n er es hp hq =
+  further : (n : Cursor) → Moved text c n → Content text tape₀ tape store₀ store b o count n y
+  further n h =
       record {
+        opened = t .opened;
         kind = t .kind;
-        recorded = er ∙ t .recorded;
-        stored-is = es ∙ t .stored-is;
-        taped = λ l. t .taped (omega arith);
+        counted = t .counted;
+        recorded = h .records ∙ t .recorded;
+        stored = h .stored ∙ t .stored;
+        taped = λ l. t .taped (omega (arith, h .records));
         filled = t .filled;
         long = t .long;
-        few = omega (arith, t .few);
-        short = omega (arith, t .short);
-        past = omega (arith, t .past);
-        in-text = hq;
-        behind = t .behind;
-        before = t .before;
-        limited = t .limited;
+        few = omega (arith, t .few, h .records, h .past);
+        short = omega (arith, t .short, h .stored, h .past);
+        past = omega (arith, t .past, h .past);
+        in-text = h .within;
       }
 
   -- the closing bracket: the header goes in front
-  pub content-took : (depth top : ℕ) (n c : Cursor) → n .records ≡ records → n .stored ≡ stored → p < n .at → n .at ≤ length text
-      → c .at ≡ from → c .records ≡ own → c .stored ≡ start
-      → ((k : List Frame) → Goes text (bareIn b depth k) from (at (base (got (value (shut y)))) top k) (n .at))
-      → Took text (bareIn b depth) top c tape₀ (putRecord tape own (header b (n .records))) store₀ store n
+  content-took : (depth : ℕ) (n : Cursor) → Moved text c n → ((k : List Frame) → Goes text (bareIn b depth k) (o .at) (closed y depth k) (n .at))
+      → Took text (bareIn b depth) (suc depth) o tape₀ (putRecord tape (o .records) (header b count (n .records))) store₀ store n
   unfolding recordsBytes
-  content-took depth top n c er es hp hq ca cr cs g =
+  content-took depth n h g =
+      let own = o .records in
+      let start = o .stored in
       record {
         m = shut y;
-        runs = λ k. rw ca (g k);
-        recorded = omega (arith, shut-records y, t .recorded);
-        stored = omega (arith, ap length (shut-store y), t .stored-is);
+        runs = g;
+        recorded = omega (arith, shut-records y, t .recorded, h .records);
+        stored = omega (arith, ap length (shut-store y), t .stored, h .stored);
         taped = λ l.
-            let a : tape ≡ sets tape₀ ((own + 1) * 16) (recordsBytes (listIn y (own + 1) start)) = t .taped (omega arith) in
-            let e : n .records ≡ endOf own (recordsIn y) = omega (arith, t .recorded) in
-            ap (λ (v : List ℕ). putRecord v own (header b (n .records))) a
-            ∙ headed tape₀ own (header b (n .records)) (recordsBytes (listIn y (own + 1) start))
-            (room own (n .records) (length tape₀) (omega (arith, t .recorded)) l)
-            ∙ ap₂ (λ (i : ℕ) (v : List ℕ). sets tape₀ (i * 16) v) (sym cr)
-            (ap (λ (k : ℕ). recordBytes (header b k) ++ recordsBytes (listIn y (own + 1) start)) e
-            ∙ ap recordsBytes (sym (shut-list b y (t .kind) own start))
-            ∙ ap₂ (λ (i j : ℕ). recordsBytes (recordsOf (shut y) i j)) (sym cr) (sym cs));
-        filled = t .filled ∙ ap₂ (λ (i : ℕ) (v : List ℕ). sets store₀ i v) (sym cs) (sym (shut-store y));
-        past = omega (arith, t .past);
-        few = omega (arith, t .few);
-        short = omega (arith, t .short);
-        within = hq;
+            let a : tape ≡ sets tape₀ ((own + 1) * 16) (recordsBytes (listIn y (own + 1) start)) = t .taped (omega (arith, h .records)) in
+            let e : n .records ≡ endOf own (recordsIn y) = omega (arith, t .recorded, h .records) in
+            ap (λ (v : List ℕ). putRecord v own (header b count (n .records))) a
+            ∙ headed tape₀ own (header b count (n .records)) (recordsBytes (listIn y (own + 1) start))
+            (room own (n .records) (length tape₀) (omega (arith, t .recorded, h .records)) l)
+            ∙ ap (λ (v : List ℕ). sets tape₀ (own * 16) v)
+            (ap₂ (λ (i k : ℕ). recordBytes (header b i k) ++ recordsBytes (listIn y (own + 1) start)) (t .counted) e
+            ∙ ap recordsBytes (sym (shut-list b y (t .kind) own start)));
+        filled = t .filled ∙ ap (λ (v : List ℕ). sets store₀ start v) (sym (shut-store y));
+        past = omega (arith, t .past, h .past);
+        few = omega (arith, t .few, h .records, h .past);
+        short = omega (arith, t .short, h .stored, h .past);
+        within = h .within;
       }
 
 -- ---- a round of the loop
@@ -260,94 +287,133 @@ closer-of square (members x) o = absurd o
 closer-of curly (elements x) o = absurd o
 closer-of curly (members x) o = refl
 
-abbrev pub cursor : ℕ → ℕ → ℕ → Cursor
-cursor p r s = record { at = p; records = r; stored = s }
-
-pub record Round (text tape₀ tape store₀ store : List ℕ) (b : Bracket) (from own start depth p records stored : ℕ) : Type 0 where
+-- where an element or a member may stand
+pub record Round (text tape₀ tape store₀ store : List ℕ) (b : Bracket) (o : Cursor) (depth count : ℕ) (c : Cursor) : Type 0 where
   pub y : Inside
-  pub content : Content text tape₀ tape store₀ store b from own start p records stored y
-  pub goes : (k : List Frame) → Goes text (bareIn b depth k) from (within y depth k) p
+  pub content : Content text tape₀ tape store₀ store b o count c y
+  pub goes : (k : List Frame) → Goes text (bareIn b depth k) (o .at) (within y depth k) (c .at)
 
-pub round-first : (text tape store : List ℕ) (b : Bracket) (depth : ℕ) (c : Cursor) → Inner text c
-    → Round text tape tape store store b (c .at) (c .records) (c .stored) depth (c .at) (c .records + 1) (c .stored)
-round-first text tape store b depth c h = record { y = bareOf b; content = content-none text tape store b c h; goes = λ k. refl }
+pub round-first : (text tape store : List ℕ) (b : Bracket) (depth : ℕ) (o : Cursor) → Inner text o
+    → Round text tape tape store store b o depth 0 (entered o)
+round-first text tape store b depth o h = record { y = bareOf b; content = content-none text tape store b o h; goes = λ k. refl }
 
--- a value has been added
-pub record Added (text tape₀ tape store₀ store : List ℕ) (b : Bracket) (from own start depth p records stored : ℕ) : Type 0 where
+-- where a value is wanted, in a frame to which it adds
+pub record Waiting (text tape₀ tape store₀ store : List ℕ) (b : Bracket) (o : Cursor) (depth count : ℕ) (v : Cursor) : Type 0 where
   pub f : Frame
   pub y : Meaning → Inside
-  pub m : Meaning
   pub adds : Adds f (closing b) y
-  pub content : Content text tape₀ tape store₀ store b from own start p records stored (y m)
-  pub goes : (k : List Frame) → Goes text (bareIn b depth k) from (at (base (got (value m))) depth (f ∷ k)) p
+  pub ready : AtValue text v
+  pub goes : (k : List Frame) → Goes text (bareIn b depth k) (o .at) (wants depth (f ∷ k)) (v .at)
+  pub shut-there : (k : List Frame) → Shut text (v .at) depth (f ∷ k)
+  pub grown : (last : Cursor) (tape' store' : List ℕ) (w : Took text (wants depth) depth v tape tape' store store' last)
+      → length tape' ≡ length tape → Content text tape₀ tape' store₀ store' b o (count + 1) last (y (w .m))
 
-module _ {text tape₀ tape store₀ store : List ℕ} {b : Bracket} {from own start depth p records stored : ℕ}
-    (t : Round text tape₀ tape store₀ store b from own start depth p records stored) where
-  pub round-refused : {why : Refusal} → AheadSays text (cursor p records stored) (closing b) (Ahead.Refused why) → Left text (bareIn b depth) always from why
-  round-refused r = λ k o. t .goes k ∙ r (t .y) (closer-of b (t .y) (t .content .kind)) depth k
+-- what is made of what stands ahead of c
+abbrev pub Onward : List ℕ → List ℕ → List ℕ → List ℕ → List ℕ → Bracket → Cursor → ℕ → ℕ → Cursor → Ahead → Type 0
+Onward text tape₀ tape store₀ store b o depth count c (Ahead.Refused why) = Left text (bareIn b depth) always (o .at) why
+Onward text tape₀ tape store₀ store b o depth count c (Ahead.Close n) =
+    Took text (bareIn b depth) (suc depth) o tape₀ (putRecord tape (o .records) (header b count (n .records))) store₀ store n
+Onward text tape₀ tape store₀ store b o depth count c (Ahead.More v) = Waiting text tape₀ tape store₀ store b o depth count v × (c .at ≤ v .at)
 
-  pub round-close : (c n : Cursor) → c .at ≡ from → c .records ≡ own → c .stored ≡ start
-      → AheadSays text (cursor p records stored) (closing b) (Ahead.Close n)
-      → Took text (bareIn b depth) (suc depth) c tape₀ (putRecord tape own (header b (n .records))) store₀ store n
-  round-close c n ca cr cs g =
-      content-took (t .content) depth (suc depth) n c (g .1 .records) (g .1 .stored) (g .1 .past) (g .1 .within) ca cr cs
-      (λ k. t .goes k ∙ g .0 (t .y) (closer-of b (t .y) (t .content .kind)) depth k)
+-- and of what follows the value at v
+abbrev pub Further : List ℕ → List ℕ → List ℕ → List ℕ → List ℕ → Bracket → Cursor → ℕ → ℕ → Cursor → After → Type 0
+Further text tape₀ tape store₀ store b o depth count v (After.Refused why) = Left text (bareIn b depth) always (o .at) why
+Further text tape₀ tape store₀ store b o depth count v (After.Close n) =
+    Took text (bareIn b depth) (suc depth) o tape₀ (putRecord tape (o .records) (header b (count + 1) (n .records))) store₀ store n
+Further text tape₀ tape store₀ store b o depth count v (After.Comma n) =
+    Round text tape₀ tape store₀ store b o depth (count + 1) n × (v .at < n .at)
 
-  pub begins-at : (n : Cursor) → Begins text (cursor p records stored) (closing b) n → AtValue text n
-  begins-at n h =
-      let r : Ready text (cursor p records stored) = content-ready (t .content) in
-      record {
-        ready = record {
-          within = omega (arith, h .inside);
-          records = omega (arith, h .records, r .records, h .behind);
-          stored = omega (arith, h .stored, r .stored, h .behind);
-          short = r .short;
-        };
-        bare = h .bare;
-      }
+module _ {text tape₀ tape store₀ store : List ℕ} {b : Bracket} {o : Cursor} {depth count : ℕ} {c : Cursor}
+    (t : Round text tape₀ tape store₀ store b o depth count c) where
+  pub round-ready : Ready text c
+  round-ready = content-ready (t .content)
 
-module _ {text tape₀ tape store₀ store : List ℕ} {b : Bracket} {from own start depth p records stored : ℕ}
-    (t : Added text tape₀ tape store₀ store b from own start depth p records stored) where
-  pub added-refused : {why : Refusal} → AfterSays text (cursor p records stored) (closing b) (After.Refused why) → Left text (bareIn b depth) always from why
-  added-refused r = λ k o. t .goes k ∙ r (t .f) (t .y) (t .adds) (t .m) depth k
+  -- there is room for one more
+  pub round-counts : count < textLimit
+  round-counts = content-counts (t .content)
 
-  pub added-close : (c n : Cursor) → c .at ≡ from → c .records ≡ own → c .stored ≡ start
-      → AfterSays text (cursor p records stored) (closing b) (After.Close n)
-      → Took text (bareIn b depth) (suc depth) c tape₀ (putRecord tape own (header b (n .records))) store₀ store n
-  added-close c n ca cr cs g =
-      content-took (t .content) depth (suc depth) n c (g .1 .records) (g .1 .stored) (g .1 .past) (g .1 .within) ca cr cs
-      (λ k. t .goes k ∙ g .0 (t .f) (t .y) (t .adds) (t .m) depth k)
+  round-refused : {why : Refusal} → AheadSays text c (closing b) (Ahead.Refused why) → Left text (bareIn b depth) always (o .at) why
+  round-refused r = λ k q. t .goes k ∙ r (t .y) (closer-of b (t .y) (t .content .kind)) depth k
 
-  pub added-comma : (n : Cursor) → AfterSays text (cursor p records stored) (closing b) (After.Comma n)
-      → Round text tape₀ tape store₀ store b from own start depth (n .at) (n .records) (n .stored)
-  added-comma n g =
-      record {
-        y = t .y (t .m);
-        content = further (t .content) n (g .1 .records) (g .1 .stored) (g .1 .past) (g .1 .within);
-        goes = λ k. t .goes k ∙ g .0 (t .f) (t .y) (t .adds) (t .m) depth k;
-      }
+  round-close : (n : Cursor) → AheadSays text c (closing b) (Ahead.Close n)
+      → Took text (bareIn b depth) (suc depth) o tape₀ (putRecord tape (o .records) (header b count (n .records))) store₀ store n
+  round-close n g = content-took (t .content) depth n (g .1) (λ k. t .goes k ∙ g .0 (t .y) (closer-of b (t .y) (t .content .kind)) depth k)
+
+same-refusal : {x why : Refusal} → After.Refused x ≡ After.Refused why → why ≡ x
+same-refusal e = cc
+
+no-close : {n : Cursor} {why : Refusal} → After.Close n ≡ After.Refused why → ⊥
+no-close e = let z : _≡_ {A = ℕ} 0 1 = cc in omega arith
+
+no-comma : {n : Cursor} {why : Refusal} → After.Comma n ≡ After.Refused why → ⊥
+no-comma e = let z : _≡_ {A = ℕ} 0 1 = cc in omega arith
+
+module _ {text tape₀ tape store₀ store : List ℕ} {b : Bracket} {o : Cursor} {depth count : ℕ} {v : Cursor}
+    (t : Waiting text tape₀ tape store₀ store b o depth count v) (tape' store' : List ℕ) (l : length tape' ≡ length tape) where
+  -- after the value
+  pub value-ready : (s : Step) → Says text (wants depth) (λ k. Shut text (v .at) depth k) depth v tape tape' store store' s → StepReady text s
+  value-ready (Step.Refused why) w = tt
+  value-ready (Step.Value last) w = content-ready (t .grown last tape' store' w l)
+
+  pub value-followed : (s : Step) → Says text (wants depth) (λ k. Shut text (v .at) depth k) depth v tape tape' store store' s
+      → (r : After) → FollowedSays text s (closing b) r → Further text tape₀ tape' store₀ store' b o depth count v r
+  value-followed (Step.Refused why) w (After.Refused x) e = λ k q. t .goes k ∙ w (t .f ∷ k) (t .shut-there k) ∙ ap No (same-refusal e)
+  value-followed (Step.Refused why) w (After.Close n) e = absurd (no-close e)
+  value-followed (Step.Refused why) w (After.Comma n) e = absurd (no-comma e)
+  value-followed (Step.Value last) w (After.Refused why) g =
+      λ k q. t .goes k ∙ w .runs (t .f ∷ k) ∙ g (t .f) (t .y) (t .adds) (w .m) depth k
+  value-followed (Step.Value last) w (After.Close n) g =
+      content-took (t .grown last tape' store' w l) depth n (g .1)
+      (λ k. t .goes k ∙ w .runs (t .f ∷ k) ∙ g .0 (t .f) (t .y) (t .adds) (w .m) depth k)
+  value-followed (Step.Value last) w (After.Comma n) g = (
+    record {
+      y = t .y (w .m);
+      content = further (t .grown last tape' store' w l) n (g .1);
+      goes = λ k. t .goes k ∙ w .runs (t .f ∷ k) ∙ g .0 (t .f) (t .y) (t .adds) (w .m) depth k;
+    },
+    omega (arith, w .past, g .1 .past),
+  )
 
 -- ---- elements
 
 more-element : (x : Meanings) (m : Meaning) → More (elements x) (elements (Meanings.more x m)) (λ i s. recordsOf m i s) (storeOf m) (records m)
-unfolding elementsRecords elementsStore elementsOf
-more-element x m = record { counted = refl; held = refl; listed = λ i s. refl }
+unfolding elementsCount elementsRecords elementsStore elementsOf
+more-element x m = record { counted = refl; recorded = refl; held = refl; listed = λ i s. refl }
 
-element-in : {text tape₀ tape store₀ store : List ℕ} {from own start depth p r s : ℕ} (y : Inside)
-    → Content text tape₀ tape store₀ store square from own start p r s y
-    → ((k : List Frame) → Goes text (bareIn square depth k) from (within y depth k) p) → (n last : Cursor) (tape' store' : List ℕ)
-    → Begins text (cursor p r s) (ch "]") n → Took text (wants depth) depth n tape tape' store store' last
-    → length tape' ≡ length tape
-    → Added text tape₀ tape' store₀ store' square from own start depth (last .at) (last .records) (last .stored)
-element-in (members x) t g n last tape' store' h w l = absurd (t .kind)
-element-in {text} {tape₀} {tape} {store₀} {store} {from} {own} {start} {depth} {p} {r} {s} (elements x) t g n last tape' store' h w l =
+begins-at : {text : List ℕ} {c : Cursor} {closing : ℕ} (n : Cursor) → Ready text c → Begins text c closing n → AtValue text n
+begins-at n r h =
+    record {
+      ready = record {
+        within = omega (arith, h .inside);
+        records = omega (arith, h .records, r .records, h .behind);
+        stored = omega (arith, h .stored, r .stored, h .behind);
+        short = r .short;
+      };
+      bare = h .bare;
+    }
+
+-- a bracket that closes nothing, where an element begins
+shut-by : (p d : ℕ) (x : Meanings) (k : List Frame) (z : Bracket) (v : ℕ) → (v ≡ ch "]" → ⊥) → ClassIs v (closeC z)
+    → closeWanted p d z (inside (elements x) ∷ k) ≡ odd p
+shut-by p d x k square v h e = absurd (h e)
+shut-by p d x k curly v h e = refl
+
+element-waits : {text tape₀ tape store₀ store : List ℕ} {o : Cursor} {depth count : ℕ} {c : Cursor} (y : Inside)
+    → Content text tape₀ tape store₀ store square o count c y
+    → ((k : List Frame) → Goes text (bareIn square depth k) (o .at) (within y depth k) (c .at)) → (n : Cursor) → Begins text c (ch "]") n
+    → Waiting text tape₀ tape store₀ store square o depth count n
+element-waits (members x) t g n h = absurd (t .kind)
+element-waits {text} {tape₀} {tape} {store₀} {store} {o} {depth} {count} {c} (elements x) t g n h =
     record {
       f = inside (elements x);
       y = λ m. elements (Meanings.more x m);
-      m = w .m;
       adds = Adds.element;
-      content =
-          grow t (elements (Meanings.more x (w .m))) tt (more-element x (w .m)) tape' store' (last .at) (last .records) (last .stored)
+      ready = begins-at n (content-ready t) h;
+      goes = λ k. g k ∙ h .goes want depth (inside (elements x) ∷ k);
+      shut-there = λ k i z e. shut-by (n .at) depth x k z (getD text (n .at) 0) (h .other)
+          (subst (λ d. ClassIs (getD text (n .at) 0) d) e (class-is (getD text (n .at) 0)));
+      grown = λ last tape' store' w l.
+          grow t (elements (Meanings.more x (w .m))) tt (more-element x (w .m)) tape' store' last
           (omega (arith, w .recorded, h .records))
           (omega (arith, w .stored, h .stored))
           (λ q. w .taped q ∙ ap₂ (λ (i j : ℕ). sets tape (i * 16) (recordsBytes (recordsOf (w .m) i j))) (h .records) (h .stored))
@@ -357,48 +423,23 @@ element-in {text} {tape₀} {tape} {store₀} {store} {from} {own} {start} {dept
           (omega (arith, w .short, h .stored, h .behind))
           (omega (arith, w .past, h .behind))
           (w .within);
-      goes = λ k. g k ∙ h .goes want depth (inside (elements x) ∷ k) ∙ w .runs (inside (elements x) ∷ k);
     }
 
--- a bracket that closes nothing, where an element begins
-shut-by : (p d : ℕ) (x : Meanings) (k : List Frame) (z : Bracket) (v : ℕ) → (v ≡ ch "]" → ⊥) → ClassIs v (closeC z)
-    → closeWanted p d z (inside (elements x) ∷ k) ≡ odd p
-shut-by p d x k square v h e = absurd (h e)
-shut-by p d x k curly v h e = refl
-
-shut-in : {text : List ℕ} (depth : ℕ) (y : Inside) → Of square y → (c n : Cursor) → Begins text c (ch "]") n → (k : List Frame)
-    → Shut text (n .at) depth (inside y ∷ k)
-shut-in depth (members x) o c n h k = absurd o
-shut-in {text} depth (elements x) o c n h k =
-    λ i z e. shut-by (n .at) depth x k z (getD text (n .at) 0) (h .other)
-    (subst (λ d. ClassIs (getD text (n .at) 0) d) e (class-is (getD text (n .at) 0)))
-
-element-no : {text : List ℕ} (from depth p r s : ℕ) (y : Inside) → Of square y
-    → ((k : List Frame) → Goes text (bareIn square depth k) from (within y depth k) p) → (n : Cursor) {why : Refusal}
-    → Begins text (cursor p r s) (ch "]") n → Left text (wants depth) (λ k. Shut text (n .at) depth k) (n .at) why
-    → Left text (bareIn square depth) always from why
-element-no from depth p r s (members x) o g n h w = absurd o
-element-no from depth p r s (elements x) o g n h w =
-    λ k q. g k ∙ h .goes want depth (inside (elements x) ∷ k) ∙ w (inside (elements x) ∷ k) (shut-in depth (elements x) o (cursor p r s) n h k)
-
-module _ {text tape₀ tape store₀ store : List ℕ} {from own start depth p r s : ℕ}
-    (t : Round text tape₀ tape store₀ store square from own start depth p r s) where
-  pub element-added : (n last : Cursor) (tape' store' : List ℕ) → Begins text (cursor p r s) (ch "]") n
-      → Took text (wants depth) depth n tape tape' store store' last → length tape' ≡ length tape
-      → Added text tape₀ tape' store₀ store' square from own start depth (last .at) (last .records) (last .stored)
-  element-added n last tape' store' h w l = element-in (t .y) (t .content) (t .goes) n last tape' store' h w l
-
-  pub element-refused : (n : Cursor) {why : Refusal} → Begins text (cursor p r s) (ch "]") n
-      → Left text (wants depth) (λ k. Shut text (n .at) depth k) (n .at) why → Left text (bareIn square depth) always from why
-  element-refused n h w = element-no from depth p r s (t .y) (t .content .kind) (t .goes) n h w
+pub element-onward : {text tape₀ tape store₀ store : List ℕ} {o : Cursor} {depth count : ℕ} {c : Cursor}
+    → Round text tape₀ tape store₀ store square o depth count c → (r : Ahead) → AheadSays text c (ch "]") r
+    → Onward text tape₀ tape store₀ store square o depth count c r
+element-onward t (Ahead.Refused why) g = round-refused t g
+element-onward t (Ahead.Close n) g = round-close t n g
+element-onward t (Ahead.More n) g = (element-waits (t .y) (t .content) (t .goes) n g, g .behind)
 
 -- ---- members
 
 more-member : (x : Members) (u : List ℕ) (m : Meaning)
     → More (members x) (members (Members.member x u m)) (λ i s. Record.Key (length u) s ∷ recordsOf m (i + 1) (s + length u)) (u ++ storeOf m) (1 + records m)
-unfolding membersRecords membersStore membersOf
+unfolding membersCount membersRecords membersStore membersOf
 more-member x u m = record {
-  counted = omega arith;
+  counted = refl;
+  recorded = omega arith;
   held = append-assoc (membersStore x) u (storeOf m);
   listed = λ i s. append-assoc (membersOf x i s) (Record.Key (length u) (s + length (membersStore x)) ∷ [])
       (recordsOf m (i + membersRecords x + 1) (s + length (membersStore x) + length u));
@@ -415,7 +456,7 @@ keyed tape tape' r key rest h e =
     ∙ sets-append tape (r * 16) ((r + 1) * 16) (recordBytes key) (recordsBytes rest) (omega (arith, record-length key))
 
 -- the value of a member begins
-pub named-at : {text : List ℕ} {c : Cursor} (entry exit : List ℕ) (size : ℕ) (v : Cursor) → Ready text c → Named text c entry exit size v → AtValue text v
+named-at : {text : List ℕ} {c : Cursor} (entry exit : List ℕ) (size : ℕ) (v : Cursor) → Ready text c → Named text c entry exit size v → AtValue text v
 named-at entry exit size v r h =
     record {
       ready = record {
@@ -428,80 +469,52 @@ named-at entry exit size v r h =
       bare = h .bare;
     }
 
-member-in : {text tape₀ tape store₀ store : List ℕ} {from own start depth p r s : ℕ} (y : Inside)
-    → Content text tape₀ tape store₀ store curly from own start p r s y
-    → ((k : List Frame) → Goes text (bareIn curly depth k) from (within y depth k) p)
-    → (n v last : Cursor) (size : ℕ) (store₁ tape' store' : List ℕ) → Begins text (cursor p r s) (ch "}") n
-    → Named text n store store₁ size v
-    → Took text (wants depth) depth v (putRecord tape r (Record.Key size s)) tape' store₁ store' last → length tape' ≡ length tape
-    → Added text tape₀ tape' store₀ store' curly from own start depth (last .at) (last .records) (last .stored)
-member-in (elements x) t g n v last size store₁ tape' store' h d w l = absurd (t .kind)
-member-in {text} {tape₀} {tape} {store₀} {store} {from} {own} {start} {depth} {p} {r} {s} (members x) t g n v last size store₁ tape' store' h d w l =
-    let hr : v .records ≡ r + 1 = omega (arith, d .records, h .records) in
-    let hs : v .stored ≡ s + length (d .u) = omega (arith, d .stored, h .stored) in
+member-waits : {text tape₀ tape store₀ store : List ℕ} {o : Cursor} {depth count : ℕ} {c : Cursor} (y : Inside)
+    → Content text tape₀ tape store₀ store curly o count c y
+    → ((k : List Frame) → Goes text (bareIn curly depth k) (o .at) (within y depth k) (c .at))
+    → (v : Cursor) (store₁ : List ℕ) (size : ℕ) → Named text c store store₁ size v
+    → Waiting text tape₀ (putRecord tape (c .records) (Record.Key size (c .stored))) store₀ store₁ curly o depth count v
+member-waits (elements x) t g v store₁ size d = absurd (t .kind)
+member-waits {text} {tape₀} {tape} {store₀} {store} {o} {depth} {count} {c} (members x) t g v store₁ size d =
+    let r = c .records in
+    let s = c .stored in
+    let u = d .u in
     record {
-      f = pair x (d .u);
-      y = λ m. members (Members.member x (d .u) m);
-      m = w .m;
+      f = pair x u;
+      y = λ m. members (Members.member x u m);
       adds = Adds.member;
-      content =
-          grow t (members (Members.member x (d .u) (w .m))) tt (more-member x (d .u) (w .m)) tape' store' (last .at) (last .records) (last .stored)
-          (omega (arith, w .recorded, hr))
-          (omega (arith, w .stored, hs, length-append (d .u) (storeOf (w .m))))
+      ready = named-at store store₁ size v (content-ready t) d;
+      goes = λ k. g k ∙ d .goes x depth k;
+      shut-there = λ k i z e. refl;
+      grown = λ last tape' store' w l.
+          grow t (members (Members.member x u (w .m))) tt (more-member x u (w .m)) tape' store' last
+          (omega (arith, w .recorded, d .records))
+          (omega (arith, w .stored, d .stored, length-append u (storeOf (w .m))))
           (λ q.
-          keyed tape tape' r (Record.Key (length (d .u)) s) (recordsOf (w .m) (r + 1) (s + length (d .u)))
-          (room r (last .records) (length tape) (omega (arith, w .recorded, hr)) q)
+          keyed tape tape' r (Record.Key (length u) s) (recordsOf (w .m) (r + 1) (s + length u))
+          (room r (last .records) (length tape) (omega (arith, w .recorded, d .records)) q)
           (w .taped (omega (arith, put-record-length tape r (Record.Key size s)))
-          ∙ ap₂ (λ (i j : ℕ). sets (putRecord tape r (Record.Key size s)) (i * 16) (recordsBytes (recordsOf (w .m) i j))) hr hs
-          ∙ ap (λ (i : ℕ). sets (putRecord tape r (Record.Key i s)) ((r + 1) * 16) (recordsBytes (recordsOf (w .m) (r + 1) (s + length (d .u))))) (d .counted)))
+          ∙ ap₂ (λ (i j : ℕ). sets (putRecord tape r (Record.Key size s)) (i * 16) (recordsBytes (recordsOf (w .m) i j))) (d .records) (d .stored)
+          ∙ ap (λ (i : ℕ). sets (putRecord tape r (Record.Key i s)) ((r + 1) * 16) (recordsBytes (recordsOf (w .m) (r + 1) (s + length u)))) (d .counted)))
           (w .filled
-          ∙ ap₂ (λ (e : List ℕ) (j : ℕ). sets e j (storeOf (w .m))) (d .filled ∙ ap (λ (j : ℕ). sets store j (d .u)) (h .stored)) hs
-          ∙ sets-append store s (s + length (d .u)) (d .u) (storeOf (w .m)) refl)
-          l
-          (omega (arith, w .few, hr, d .past, h .behind))
-          (omega (arith, w .short, hs, d .room, h .behind))
-          (omega (arith, w .past, d .past, h .behind))
+          ∙ ap₂ (λ (e : List ℕ) (j : ℕ). sets e j (storeOf (w .m))) (d .filled) (d .stored)
+          ∙ sets-append store s (s + length u) u (storeOf (w .m)) refl)
+          (l ∙ put-record-length tape r (Record.Key size s))
+          (omega (arith, w .few, d .records, d .past))
+          (omega (arith, w .short, d .stored, d .room))
+          (omega (arith, w .past, d .past))
           (w .within);
-      goes = λ k. g k ∙ h .goes wantKey depth (inside (members x) ∷ k) ∙ d .goes x depth k ∙ w .runs (pair x (d .u) ∷ k);
     }
 
-key-no : {text : List ℕ} (from depth p r s : ℕ) (y : Inside) → Of curly y
-    → ((k : List Frame) → Goes text (bareIn curly depth k) from (within y depth k) p) → (n : Cursor) {why : Refusal}
-    → Begins text (cursor p r s) (ch "}") n
-    → ((x : Members) (d : ℕ) (k : List Frame) → Refuses text (within (members x) d k) (n .at) why)
-    → Left text (bareIn curly depth) always from why
-key-no from depth p r s (elements x) o g n h w = absurd o
-key-no from depth p r s (members x) o g n h w = λ k q. g k ∙ h .goes wantKey depth (inside (members x) ∷ k) ∙ w x depth k
-
-member-no : {text store store₁ : List ℕ} {size : ℕ} (from depth p r s : ℕ) (y : Inside) → Of curly y
-    → ((k : List Frame) → Goes text (bareIn curly depth k) from (within y depth k) p) → (n v : Cursor) {why : Refusal}
-    → Begins text (cursor p r s) (ch "}") n → Named text n store store₁ size v
-    → Left text (wants depth) (λ k. Shut text (v .at) depth k) (v .at) why → Left text (bareIn curly depth) always from why
-member-no from depth p r s (elements x) o g n v h d w = absurd o
-member-no from depth p r s (members x) o g n v h d w =
-    λ k q. g k ∙ h .goes wantKey depth (inside (members x) ∷ k) ∙ d .goes x depth k ∙ w (pair x (d .u) ∷ k) (λ i z e. refl)
-
-module _ {text tape₀ tape store₀ store : List ℕ} {from own start depth p r s : ℕ}
-    (t : Round text tape₀ tape store₀ store curly from own start depth p r s) where
-  pub member-added : (n v last : Cursor) (size : ℕ) (store₁ tape' store' : List ℕ) → Begins text (cursor p r s) (ch "}") n
-      → Named text n store store₁ size v
-      → Took text (wants depth) depth v (putRecord tape r (Record.Key size s)) tape' store₁ store' last
-      → length tape' ≡ length tape
-      → Added text tape₀ tape' store₀ store' curly from own start depth (last .at) (last .records) (last .stored)
-  member-added n v last size store₁ tape' store' h d w l = member-in (t .y) (t .content) (t .goes) n v last size store₁ tape' store' h d w l
-
-  pub key-refused : (n : Cursor) {why : Refusal} → Begins text (cursor p r s) (ch "}") n
-      → ((x : Members) (d : ℕ) (k : List Frame) → Refuses text (within (members x) d k) (n .at) why)
-      → Left text (bareIn curly depth) always from why
-  key-refused n h w = key-no from depth p r s (t .y) (t .content .kind) (t .goes) n h w
-
-  pub member-refused : (n v : Cursor) (size : ℕ) (store₁ : List ℕ) {why : Refusal} → Begins text (cursor p r s) (ch "}") n
-      → Named text n store store₁ size v → Left text (wants depth) (λ k. Shut text (v .at) depth k) (v .at) why
-      → Left text (bareIn curly depth) always from why
-  member-refused n v size store₁ h d w = member-no from depth p r s (t .y) (t .content .kind) (t .goes) n v h d w
-
-  pub member-at : (n : Cursor) → Begins text (cursor p r s) (ch "}") n → AtMember text n
-  member-at n h = let a : AtValue text n = begins-at t n h in record { ready = a .ready; bare = a .bare; inside = h .inside; other = h .other }
+pub member-onward : {text tape₀ tape store₀ store : List ℕ} {o : Cursor} {depth count : ℕ} {c : Cursor}
+    → Round text tape₀ tape store₀ store curly o depth count c → (tape' store' : List ℕ) (r : Ahead) → MemberAheadSays text c tape tape' store store' r
+    → Onward text tape₀ tape' store₀ store' curly o depth count c r
+member-onward t tape' store' (Ahead.Refused why) g = round-refused t g
+member-onward t tape' store' (Ahead.Close n) (g, et, es) = rw (et, es) (round-close t n g)
+member-onward t tape' store' (Ahead.More v) g = (
+  rw (g .taped) (member-waits (t .y) (t .content) (t .goes) v store' (g .size) (g .named)),
+  omega (arith, g .named .past),
+)
 
 -- ---- values
 
@@ -564,4 +577,4 @@ pub says-inside : (text tape tape' entry store store' : List ℕ) (b : Bracket) 
     → Opened text c b n → store ≡ entry → (a : Step) → Says text (bareIn b d) always (suc d) n tape tape' store store' a
     → Says text (wants depth) (λ k. Shut text (c .at) depth k) depth c tape tape' entry store' a
 says-inside text tape tape' entry store store' b d depth e c n h q (Step.Value last) w = took-inside b d depth e c n last h q w
-says-inside text tape tape' entry store store' b d depth e c n h q (Step.Refused was why) w = λ k s. rw e (h .opens d k ∙ w k tt)
+says-inside text tape tape' entry store store' b d depth e c n h q (Step.Refused why) w = λ k s. rw e (h .opens d k ∙ w k tt)

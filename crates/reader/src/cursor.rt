@@ -4,10 +4,11 @@ ghost use Prim.Native.Nat.{suc, _+_, _≤_, _<_};
 ghost use lib.ListN.{length, getD};
 ghost use Rattle.meaning.specs.Letters.{ch};
 ghost use Rattle.machine.specs.Machine.{square, curly};
-ghost use Rattle.reader.specs.Between.Scanning.{Bare, Shut};
+ghost use Rattle.reader.specs.Between.Scanning.{Shut};
 ghost use Rattle.reader.specs.Between.Cursor.{recordItem, itemBytes, SpeltSays, Quoted, AtScalar, ScalarSays};
 ghost use Rattle.reader.specs.Between.Cursor.{Ready, AtMember, AtValue, Inner, HeadSays, AheadSays, AfterSays};
-ghost use Rattle.reader.specs.Between.Cursor.{ColonSays, MemberSays, Says, wants, bareIn, always};
+ghost use Rattle.reader.specs.Between.Cursor.{ColonSays, MemberSays, MemberAheadSays, Says, wants, bareIn, always};
+ghost use Rattle.reader.specs.Between.Cursor.{StepReady, FollowedSays};
 use crate::joined;
 use crate::joined::Bytes;
 use crate::key;
@@ -29,11 +30,10 @@ pub struct Cursor {
     pub stored: usize,
 }
 
-// A value has been read, or a refusal is given where the reader stood. The refusal comes after a cursor, not in its
-// place: laid over the cursor's words, its mark would have them stored in pieces.
+// A value has been read, or a refusal is given.
 pub enum Step {
     Value(Cursor),
-    Refused(Cursor, Refusal),
+    Refused(Refusal),
 }
 
 // What begins where a value is wanted: an item, or an opening bracket.
@@ -292,6 +292,32 @@ impl Cursor {
         }
     }
 
+    // In an object: its end, or the value of the next member, whose key has been put.
+    fn member_ahead(self, text: &[u8], tape: &mut [u8], store: &mut [u8]) -> Ahead
+        requires { ⌜ Ready (now text) self ⌝ }
+        ensures { λ r. ⌜ MemberAheadSays (now (text .entry)) self
+            (now (tape .entry)) (now (tape .exit)) (now (store .entry)) (now (store .exit)) r ⌝ }
+    {
+        match self.ahead(text, b'}') {
+            Ahead::Refused(why) => Ahead::Refused(why),
+            Ahead::Close(next) => Ahead::Close(next),
+            Ahead::More(first) => match first.member(text, store) {
+                Member::Refused(why) => Ahead::Refused(why),
+                Member::Key(n, held) => {
+                    put_record(
+                        tape,
+                        self.records,
+                        Record::Key {
+                            length: n,
+                            start: self.stored,
+                        },
+                    );
+                    Ahead::More(held)
+                }
+            },
+        }
+    }
+
     // A value, where no layout stands; `depth` more arrays and objects may open.
     pub fn value(self, text: &[u8], depth: usize, tape: &mut [u8], store: &mut [u8]) -> Step
         requires { ⌜ AtValue (now text) self ⌝ }
@@ -299,20 +325,20 @@ impl Cursor {
             depth self (now (tape .entry)) (now (tape .exit)) (now (store .entry)) (now (store .exit)) r ⌝ }
     {
         match self.head(text, store) {
-            Head::Refused(why) => Step::Refused(self, why),
+            Head::Refused(why) => Step::Refused(why),
             Head::Item(item, next) => {
                 put_record(tape, self.records, record_of(item, self.stored));
                 Step::Value(next)
             }
             Head::Array(inside) => {
                 if depth == 0 {
-                    return Step::Refused(self, Refusal::TooDeep(self.at));
+                    return Step::Refused(Refusal::TooDeep(self.at));
                 }
                 inside.array(text, depth - 1, tape, store)
             }
             Head::Object(inside) => {
                 if depth == 0 {
-                    return Step::Refused(self, Refusal::TooDeep(self.at));
+                    return Step::Refused(Refusal::TooDeep(self.at));
                 }
                 inside.object(text, depth - 1, tape, store)
             }
@@ -326,47 +352,34 @@ impl Cursor {
             (now (tape .entry)) (now (tape .exit)) (now (store .entry)) (now (store .exit)) r ⌝ }
     {
         let own = self.records;
-        let mut at = self.at;
-        let mut records = own + 1;
-        let mut stored = self.stored;
+        let mut count: usize = 0;
+        let mut here = Cursor {
+            at: self.at,
+            records: own + 1,
+            stored: self.stored,
+        };
         loop {
-            match (Cursor {
-                at,
-                records,
-                stored,
-            }).ahead(text, b']') {
-                Ahead::Refused(why) => {
-                    return Step::Refused(
-                        Cursor {
-                            at,
-                            records,
-                            stored,
-                        },
-                        why,
-                    );
-                }
+            match here.ahead(text, b']') {
+                Ahead::Refused(why) => return Step::Refused(why),
                 Ahead::Close(next) => {
-                    put_record(tape, own, Record::Array { end: next.records });
+                    let end = next.records;
+                    put_record(tape, own, Record::Array { count, end });
                     return Step::Value(next);
                 }
-                Ahead::More(first) => match first.value(text, depth, tape, store) {
-                    Step::Refused(_, why) => {
-                        return Step::Refused(first, why);
+                Ahead::More(first) => match first
+                    .value(text, depth, tape, store)
+                    .followed(text, b']') {
+                    After::Refused(why) => return Step::Refused(why),
+                    After::Close(next) => {
+                        count += 1;
+                        let end = next.records;
+                        put_record(tape, own, Record::Array { count, end });
+                        return Step::Value(next);
                     }
-                    Step::Value(last) => match last.after(text, b']') {
-                        After::Refused(why) => {
-                            return Step::Refused(last, why);
-                        }
-                        After::Close(next) => {
-                            put_record(tape, own, Record::Array { end: next.records });
-                            return Step::Value(next);
-                        }
-                        After::Comma(next) => {
-                            at = next.at;
-                            records = next.records;
-                            stored = next.stored;
-                        }
-                    },
+                    After::Comma(next) => {
+                        count += 1;
+                        here = next;
+                    }
                 },
             }
         }
@@ -379,64 +392,48 @@ impl Cursor {
             (now (tape .entry)) (now (tape .exit)) (now (store .entry)) (now (store .exit)) r ⌝ }
     {
         let own = self.records;
-        let mut at = self.at;
-        let mut records = own + 1;
-        let mut stored = self.stored;
+        let mut count: usize = 0;
+        let mut here = Cursor {
+            at: self.at,
+            records: own + 1,
+            stored: self.stored,
+        };
         loop {
-            match (Cursor {
-                at,
-                records,
-                stored,
-            }).ahead(text, b'}') {
-                Ahead::Refused(why) => {
-                    return Step::Refused(
-                        Cursor {
-                            at,
-                            records,
-                            stored,
-                        },
-                        why,
-                    );
-                }
+            match here.member_ahead(text, tape, store) {
+                Ahead::Refused(why) => return Step::Refused(why),
                 Ahead::Close(next) => {
-                    put_record(tape, own, Record::Object { end: next.records });
+                    let end = next.records;
+                    put_record(tape, own, Record::Object { count, end });
                     return Step::Value(next);
                 }
-                Ahead::More(first) => match first.member(text, store) {
-                    Member::Refused(why) => {
-                        return Step::Refused(first, why);
+                Ahead::More(held) => match held.value(text, depth, tape, store)
+                    .followed(text, b'}') {
+                    After::Refused(why) => return Step::Refused(why),
+                    After::Close(next) => {
+                        count += 1;
+                        let end = next.records;
+                        put_record(tape, own, Record::Object { count, end });
+                        return Step::Value(next);
                     }
-                    Member::Key(n, held) => {
-                        put_record(
-                            tape,
-                            records,
-                            Record::Key {
-                                length: n,
-                                start: stored,
-                            },
-                        );
-                        match held.value(text, depth, tape, store) {
-                            Step::Refused(_, why) => {
-                                return Step::Refused(held, why);
-                            }
-                            Step::Value(last) => match last.after(text, b'}') {
-                                After::Refused(why) => {
-                                    return Step::Refused(last, why);
-                                }
-                                After::Close(next) => {
-                                    put_record(tape, own, Record::Object { end: next.records });
-                                    return Step::Value(next);
-                                }
-                                After::Comma(next) => {
-                                    at = next.at;
-                                    records = next.records;
-                                    stored = next.stored;
-                                }
-                            },
-                        }
+                    After::Comma(next) => {
+                        count += 1;
+                        here = next;
                     }
                 },
             }
+        }
+    }
+}
+
+impl Step {
+    // After the value of an element or a member, in a container that this byte closes.
+    fn followed(self, text: &[u8], closing: u8) -> After
+        requires { ⌜ StepReady (now text) self ⌝ }
+        ensures { λ r. ⌜ FollowedSays (now (text .entry)) self closing r ⌝ }
+    {
+        match self {
+            Step::Refused(why) => After::Refused(why),
+            Step::Value(last) => last.after(text, closing),
         }
     }
 }

@@ -56,7 +56,7 @@ fn walk(text: &[u8], tape: &mut [u8], store: &mut [u8]) -> Answer
             records: 0,
             stored: 0,
         }).value(text, DEPTH_LIMIT, tape, store) {
-            Step::Refused(_, why) => Answer::Refused(why),
+            Step::Refused(why) => Answer::Refused(why),
             Step::Value(next) => ended(text, next),
         },
     }

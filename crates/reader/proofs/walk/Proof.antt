@@ -48,7 +48,7 @@ same-length-2 c = search needs
 returns-2 : tie.Need-returns-2
 returns-2 c =
     let v = c .before .before .before .before .before .before .before in
-    walk-refused _ _ (begun (v .before)) (c .before .why .given .0 .1 .0) (rw (c .before .why .given .1) at (v .value .ensures))
+    walk-refused _ _ (begun (v .before)) (c .before .why .given .0 .0) (rw (c .before .why .given .1) at (v .value .ensures))
 
 same-length-3 : tie.Need-same-length-3
 same-length-3 c = search needs

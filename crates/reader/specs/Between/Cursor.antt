@@ -17,6 +17,7 @@ use Rattle.machine.specs.Machine.{Bracket, square, curly, bareOf, wanted, shut,
 use Rattle.machine.specs.Names.{wordScan}
 use Rattle.machine.specs.Scan.{ended, broke}
 use Rattle.items.specs.Between.Places.{ranAt}
+use Rattle.tape.specs.Between.Putting.{putRecord}
 use Rattle.reader.specs.Between.Scanning.{Goes, Refuses, Bare, Shut}
 use Rattle.items.specs.declared.Item.{Item}
 use Rattle.items.specs.declared.Scanned.{Scanned}
@@ -220,6 +221,19 @@ MemberSays text c entry exit (Member.Key n v) = Named text c entry exit n v
 MemberSays text c entry exit (Member.Refused why) =
     (x : Members) (d : ℕ) (k : List Frame) → Refuses text (within (members x) d k) (c .at) why
 
+-- a member begins: its key and its colon, with the key's record put
+pub record MemberBegins (text : List ℕ) (c : Cursor) (tape tape' store store' : List ℕ) (v : Cursor) : Type 0 where
+  pub size : ℕ
+  pub named : Named text c store store' size v
+  pub taped : tape' ≡ putRecord tape (c .records) (Record.Key size (c .stored))
+
+-- in an object where a member may stand
+abbrev pub MemberAheadSays : List ℕ → Cursor → List ℕ → List ℕ → List ℕ → List ℕ → Ahead → Type 0
+MemberAheadSays text c tape tape' store store' (Ahead.Close n) =
+    AheadSays text c (ch "}") (Ahead.Close n) × (tape' ≡ tape) × (store' ≡ store)
+MemberAheadSays text c tape tape' store store' (Ahead.More v) = MemberBegins text c tape tape' store store' v
+MemberAheadSays text c tape tape' store store' (Ahead.Refused why) = AheadSays text c (ch "}") (Ahead.Refused why)
+
 -- ---- values
 
 -- A value has been read, from a state in which `depth` more may open to one in which `top` may: what it means, the
@@ -246,7 +260,17 @@ Left text start ok p why = (k : List Frame) → ok k → Refuses text (start k) 
 abbrev pub Says : List ℕ → (List Frame → Conf) → (List Frame → Type 0) → ℕ → Cursor
     → List ℕ → List ℕ → List ℕ → List ℕ → Step → Type 0
 Says text start ok top c tape tape' store store' (Step.Value n) = Took text start top c tape tape' store store' n
-Says text start ok top c tape tape' store store' (Step.Refused was why) = Left text start ok (c .at) why
+Says text start ok top c tape tape' store store' (Step.Refused why) = Left text start ok (c .at) why
+
+-- where a value has been read, what has been put is no more than what has been passed
+abbrev pub StepReady : List ℕ → Step → Type 0
+StepReady text (Step.Value n) = Ready text n
+StepReady text (Step.Refused why) = Unit {0}
+
+-- after the value of an element or a member, or with the refusal that stood in its place
+abbrev pub FollowedSays : List ℕ → Step → ℕ → After → Type 0
+FollowedSays text (Step.Value n) closing r = AfterSays text n closing r
+FollowedSays text (Step.Refused why) closing r = r ≡ After.Refused why
 
 -- where a value is wanted
 abbrev pub wants : ℕ → List Frame → Conf
