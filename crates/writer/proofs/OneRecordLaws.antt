@@ -64,11 +64,11 @@ module _ {r : Record} (store : List ℕ) where
   unfolding printed
   time-printed e = of e
 
-  pub array-printed : {end : ℕ} → r ≡ Record.Array end → printed r store ≡ letters "["
+  pub array-printed : {count end : ℕ} → r ≡ Record.Array count end → printed r store ≡ letters "["
   unfolding printed
   array-printed e = of e
 
-  pub object-printed : {end : ℕ} → r ≡ Record.Object end → printed r store ≡ letters "{"
+  pub object-printed : {count end : ℕ} → r ≡ Record.Object count end → printed r store ≡ letters "{"
   unfolding printed
   object-printed e = of e
 
@@ -121,10 +121,10 @@ module _ {r : Record} (i : ℕ) (store : List ℕ) where
   unfolding printed follows
   time-share e = same e
 
-  pub array-share : {end : ℕ} → r ≡ Record.Array end → share r i store ≡ 1 + closes end i
+  pub array-share : {count end : ℕ} → r ≡ Record.Array count end → share r i store ≡ 1 + closes end i
   unfolding printed follows
   array-share e = same e
 
-  pub object-share : {end : ℕ} → r ≡ Record.Object end → share r i store ≡ 1 + closes end i
+  pub object-share : {count end : ℕ} → r ≡ Record.Object count end → share r i store ≡ 1 + closes end i
   unfolding printed follows
   object-share e = same e

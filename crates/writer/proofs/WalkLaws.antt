@@ -36,8 +36,8 @@ own-bytes (Record.Str size start) i whole store o = o .0
 own-bytes (Record.Key size start) i whole store o = o .0
 own-bytes (Record.Bin size start) i whole store o = o
 own-bytes (Record.Time t) i whole store o = omega arith
-own-bytes (Record.Array end) i whole store o = omega arith
-own-bytes (Record.Object end) i whole store o = omega arith
+own-bytes (Record.Array count end) i whole store o = omega arith
+own-bytes (Record.Object count end) i whole store o = omega arith
 
 abbrev recordsIn : {tape store : List ℕ} → WellFormed tape store → List Record
 recordsIn w = recordsOf (w .meaning) 0 0

@@ -12,7 +12,8 @@ use Rattle.meaning.specs.Letters.{letters, ch}
 use Rattle.meaning.specs.Limits.{depthLimit}
 use Rattle.meaning.specs.Meaning.{Meaning, Meanings, Members, null, bool, number, string, binary, time, array, object, none, more, bare, member}
 use Rattle.meaning.specs.Good.{depth, elementsDepth, membersDepth}
-use Rattle.meaning.specs.Tape.{records, elementsRecords, membersRecords, storeOf, elementsStore, membersStore, recordsOf, elementsOf, membersOf, endOf}
+use Rattle.meaning.specs.Tape.{records, elementsRecords, membersRecords, elementsCount, membersCount, storeOf, elementsStore, membersStore, recordsOf}
+use Rattle.meaning.specs.Tape.{elementsOf, membersOf, endOf}
 use Rattle.meaning.specs.Canonical.{canonical, elementsText, membersText, elementsComma, membersComma, quoted, binaryText}
 use Rattle.meaning.proofs.Bytes.{part-is}
 use Rattle.meaning.proofs.Sizes.{most-left, most-right, some-record, elements-length, members-length}
@@ -209,7 +210,7 @@ module _ (rs : List Record) (store : List ℕ) where
         passes (Record.Time x) comma true i end closer around t (first (Record.Time x) l) (omega arith) refl k
     value-prints (array ms) i at l comma end closer around t h d k =
         let last = endOf i (elementsRecords ms) in
-        let r = Record.Array last in
+        let r = Record.Array (elementsCount ms) last in
         let back : Prints last true end closer around t = prints-as (omega arith) refl k in
         let closed : Prints last (commaAfter ms) last (ch "]") (within end closer around) (ch "]" ∷ t) = close end closer around t refl refl refl back in
         let inner =
@@ -218,7 +219,7 @@ module _ (rs : List Record) (store : List ℕ) where
         (enters r comma i end closer last (ch "]") around (elementsText ms ++ (ch "]" ∷ t)) (first r l) (omega arith) (omega arith) refl inner)
     value-prints (object ms) i at l comma end closer around t h d k =
         let last = endOf i (membersRecords ms) in
-        let r = Record.Object last in
+        let r = Record.Object (membersCount ms) last in
         let back : Prints last true end closer around t = prints-as (omega arith) refl k in
         let closed : Prints last (commaAfterMembers ms) last (ch "}") (within end closer around) (ch "}" ∷ t) =
         close end closer around t refl refl refl back in

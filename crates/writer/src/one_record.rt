@@ -39,8 +39,8 @@ pub fn effect_of(r: Record) -> Effect
             start: _,
         } => Effect::Pass(true),
         Record::Time(_) => Effect::Pass(true),
-        Record::Array { end } => Effect::Open { closer: b']', end },
-        Record::Object { end } => Effect::Open { closer: b'}', end },
+        Record::Array { count: _, end } => Effect::Open { closer: b']', end },
+        Record::Object { count: _, end } => Effect::Open { closer: b'}', end },
     }
 }
 
@@ -82,8 +82,8 @@ pub fn printed_at(out: &mut [u8], at: usize, r: Record, store: &[u8]) -> usize
         }
         Record::Bin { length, start } => string_or_binary::binary_at(out, at, store, start, length),
         Record::Time(t) => time_value::time_at(out, at, t),
-        Record::Array { end: _ } => byte_or_digit::byte_at(out, at, b'['),
-        Record::Object { end: _ } => byte_or_digit::byte_at(out, at, b'{'),
+        Record::Array { count: _, end: _ } => byte_or_digit::byte_at(out, at, b'['),
+        Record::Object { count: _, end: _ } => byte_or_digit::byte_at(out, at, b'{'),
     }
 }
 
@@ -122,8 +122,8 @@ pub fn share_of(r: Record, index: usize, store: &[u8]) -> usize
         Record::Key { length, start } => part_len(store, start, length) + 1,
         Record::Bin { length, start: _ } => 2 * length + 2,
         Record::Time(t) => time_value::time_len(t) + 1,
-        Record::Array { end } => 1 + closes(end, index),
-        Record::Object { end } => 1 + closes(end, index),
+        Record::Array { count: _, end } => 1 + closes(end, index),
+        Record::Object { count: _, end } => 1 + closes(end, index),
     }
 }
 
@@ -156,7 +156,7 @@ pub fn json_form(r: Record) -> bool
             start: _,
         } => false,
         Record::Time(_) => false,
-        Record::Array { end: _ } => true,
-        Record::Object { end: _ } => true,
+        Record::Array { count: _, end: _ } => true,
+        Record::Object { count: _, end: _ } => true,
     }
 }

@@ -31,8 +31,8 @@ printed (Record.Str size start) store = quoted (part store size start)
 printed (Record.Key size start) store = quoted (part store size start) ++ letters ":"
 printed (Record.Bin size start) store = binaryText (part store size start)
 printed (Record.Time t) store = timeText t
-printed (Record.Array end) store = letters "["
-printed (Record.Object end) store = letters "{"
+printed (Record.Array count end) store = letters "["
+printed (Record.Object count end) store = letters "{"
 
 -- a comma before it, where a value stands before it in its container
 abbrev pub commaText : Bool → List ℕ
@@ -49,8 +49,8 @@ effectOf (Record.Str size start) = Effect.Pass true
 effectOf (Record.Key size start) = Effect.Pass false
 effectOf (Record.Bin size start) = Effect.Pass true
 effectOf (Record.Time t) = Effect.Pass true
-effectOf (Record.Array end) = Effect.Open (ch "]") end
-effectOf (Record.Object end) = Effect.Open (ch "}") end
+effectOf (Record.Array count end) = Effect.Open (ch "]") end
+effectOf (Record.Object count end) = Effect.Open (ch "}") end
 
 -- Count a comma after every value: the last one inside a container stands for its closing bracket, so that only an
 -- empty container counts one byte more. A text has one byte less than its records count.
@@ -65,8 +65,8 @@ follows (Record.Str size start) index = 1
 follows (Record.Key size start) index = 0
 follows (Record.Bin size start) index = 1
 follows (Record.Time t) index = 1
-follows (Record.Array end) index = closes end index
-follows (Record.Object end) index = closes end index
+follows (Record.Array count end) index = closes end index
+follows (Record.Object count end) index = closes end index
 
 abbrev pub share : Record → ℕ → List ℕ → ℕ
 share r index store = length (printed r store) + follows r index

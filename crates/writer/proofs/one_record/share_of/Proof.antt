@@ -111,7 +111,7 @@ add-result-6 : tie.Need-add-result-6
 add-result-6 c =
     let r7 = c .before .before .r7 in
     let args = c .before .before .before .before .before .args in
-    omega (arith, c .closes .ensures, closes-few (r7 .given .0 .0) (args .index))
+    omega (arith, c .closes .ensures, closes-few (r7 .given .0 .1 .0) (args .index))
 
 enum-known-r-8 : tie.Need-enum-known-r-8
 enum-known-r-8 c = search needs
@@ -123,7 +123,7 @@ add-result-7 : tie.Need-add-result-7
 add-result-7 c =
     let r8 = c .before .before .r8 in
     let args = c .before .before .before .before .before .args in
-    omega (arith, c .closes2 .ensures, closes-few (r8 .given .0 .0) (args .index))
+    omega (arith, c .closes2 .ensures, closes-few (r8 .given .0 .1 .0) (args .index))
 
 returns-2 : tie.Need-returns-2
 returns-2 c =
