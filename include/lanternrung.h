@@ -26,8 +26,9 @@
  *   LR_LT      "lt"              8-15: time of day, in nanoseconds
  *   LR_DT      "dt"              as "ld", and 8-15: time of day
  *   LR_OD      "od"              as "dt", and 6-7: offset in minutes, signed
- *   LR_AR      "ar"              8-15: index just after the last record inside; its own index and 1 if it is empty
- *   LR_OB      "ob"              alike
+ *   LR_AR      "ar"              4-7: count of the elements directly inside; 8-15: index just after the last record inside; its own index
+ *                                and 1 if it is empty
+ *   LR_OB      "ob"              alike, with the count of its members; a key and its value are one
  *
  * The store holds the bytes of strings, keys and binary in tape order, without gaps.
  */
@@ -38,7 +39,7 @@
 #include <stdint.h>
 
 /* One more whenever a call, a struct, a number or a meaning here changes or is added. */
-#define LR_VERSION 1
+#define LR_VERSION 2
 
 #ifdef __cplusplus
 extern "C" {
@@ -111,8 +112,8 @@ enum lr_kind {
     LR_LT,     /* a time of day: time, in nanoseconds */
     LR_DT,     /* date and time */
     LR_OD,     /* date and time, with its offset in minutes */
-    LR_AR,     /* an array: end, the index just after the last record inside */
-    LR_OB      /* an object, alike; inside, each key stands before its value */
+    LR_AR,     /* an array: count of its elements, end, the index just after the last record inside */
+    LR_OB      /* an object: count of its members, end, alike; inside, each key stands before its value */
 };
 
 typedef struct {
@@ -130,6 +131,7 @@ typedef struct {
     int32_t offset;
     uint64_t time;
     uint64_t end;
+    uint64_t count; /* as it stands in the record; the writers test it */
 } lr_record;
 
 /* Are the bytes UTF-8 (RFC 3629)? If not, 2. */

@@ -42,10 +42,10 @@ textOf (written.Wrote size) = record { refused = 0; place = 0; length = size }
 textOf (written.Refused why) = record { refused = numberOf why; place = placeOf why; length = 0 }
 
 -- ---- lr_record: kind 1 to 13 in the order nu bo nb nx st ky by ld lt dt od ar ob; flag the bool, the minus sign or
--- the nx value; 0 where a record has no such field
+-- the nx value; the count of a container as it stands; 0 where a record has no such field
 
-abbrev pub allFields : ℕ × ℕ → ℕ → ℕ → ℤ × ℕ → ℕ × ℕ → Date → ℤ × ℕ → ℕ → Fields
-allFields said kind flag number span date moment end =
+abbrev pub allFields : ℕ × ℕ → ℕ → ℕ → ℤ × ℕ → ℕ × ℕ → Date → ℤ × ℕ → ℕ × ℕ → Fields
+allFields said kind flag number span date moment inside =
     record {
       refused = said .0;
       place = said .1;
@@ -60,24 +60,28 @@ allFields said kind flag number span date moment end =
       day = date .day;
       offset = moment .0;
       time = moment .1;
-      end = end;
+      end = inside .1;
+      count = inside .0;
     }
 
 abbrev pub noDate : Date
 noDate = record { year = 0; month = 0; day = 0 }
 
-abbrev pub plainFields : ℕ → ℕ → ℕ → ℕ → ℕ → Fields
-plainFields kind flag length start end = allFields (0, 0) kind flag (pos 0, 0) (length, start) noDate (pos 0, 0) end
+abbrev pub plainFields : ℕ → ℕ → ℕ → ℕ → Fields
+plainFields kind flag length start = allFields (0, 0) kind flag (pos 0, 0) (length, start) noDate (pos 0, 0) (0, 0)
+
+abbrev pub containerFields : ℕ → ℕ → ℕ → Fields
+containerFields kind count end = allFields (0, 0) kind 0 (pos 0, 0) (0, 0) noDate (pos 0, 0) (count, end)
 
 unfoldable pub numberFields : Number → Fields
 numberFields (Finite minus coefficient power) =
-    allFields (0, 0) 3 (flag minus) (power, coefficient) (0, 0) noDate (pos 0, 0) 0
+    allFields (0, 0) 3 (flag minus) (power, coefficient) (0, 0) noDate (pos 0, 0) (0, 0)
 -- 0 NaN, 1 Infinity, 2 -Infinity
-numberFields NotANumber = plainFields 4 0 0 0 0
-numberFields (Infinite minus) = plainFields 4 (1 + flag minus) 0 0 0
+numberFields NotANumber = plainFields 4 0 0 0
+numberFields (Infinite minus) = plainFields 4 (1 + flag minus) 0 0
 
 abbrev pub datedFields : ℕ → Date → ℕ → ℤ → Fields
-datedFields kind d clock offset = allFields (0, 0) kind 0 (pos 0, 0) (0, 0) d (offset, clock) 0
+datedFields kind d clock offset = allFields (0, 0) kind 0 (pos 0, 0) (0, 0) d (offset, clock) (0, 0)
 
 unfoldable pub timeFields : Time → Fields
 timeFields (LocalDate d) = datedFields 8 d 0 (pos 0)
@@ -86,18 +90,18 @@ timeFields (LocalDateTime d clock) = datedFields 10 d clock (pos 0)
 timeFields (OffsetDateTime d clock offset) = datedFields 11 d clock offset
 
 unfoldable pub fieldsOf : Record → Fields
-fieldsOf Record.Null = plainFields 1 0 0 0 0
-fieldsOf (Record.Bool b) = plainFields 2 (flag b) 0 0 0
+fieldsOf Record.Null = plainFields 1 0 0 0
+fieldsOf (Record.Bool b) = plainFields 2 (flag b) 0 0
 fieldsOf (Record.Number n) = numberFields n
-fieldsOf (Record.Str size start) = plainFields 5 0 size start 0
-fieldsOf (Record.Key size start) = plainFields 6 0 size start 0
-fieldsOf (Record.Bin size start) = plainFields 7 0 size start 0
+fieldsOf (Record.Str size start) = plainFields 5 0 size start
+fieldsOf (Record.Key size start) = plainFields 6 0 size start
+fieldsOf (Record.Bin size start) = plainFields 7 0 size start
 fieldsOf (Record.Time t) = timeFields t
-fieldsOf (Record.Array end) = plainFields 12 0 0 0 end
-fieldsOf (Record.Object end) = plainFields 13 0 0 0 end
+fieldsOf (Record.Array count end) = containerFields 12 count end
+fieldsOf (Record.Object count end) = containerFields 13 count end
 
 abbrev pub refusedFields : Refusal → Fields
-refusedFields why = allFields (row why) 0 0 (pos 0, 0) (0, 0) noDate (pos 0, 0) 0
+refusedFields why = allFields (row why) 0 0 (pos 0, 0) (0, 0) noDate (pos 0, 0) (0, 0)
 
 unfoldable pub lookedFields : Looked → Fields
 lookedFields (Looked.Record r) = fieldsOf r

@@ -1,7 +1,7 @@
 // The calls for C and Rust (include/lanternrung.h). Each passes on the library's answer, as its number and place (docs/FORMAT.md, 10.1).
 ghost use mathlib.Core.Path.{_≡_};
 ghost use Rattle.meaning.specs.Bytes.{flag};
-ghost use Rattle.lanternrung.specs.Told.{sizesOf, textOf, refusedFields, plainFields, numberFields, datedFields, timeFields, fieldsOf};
+ghost use Rattle.lanternrung.specs.Told.{sizesOf, textOf, refusedFields, plainFields, containerFields, numberFields, datedFields, timeFields, fieldsOf};
 ghost use Rattle.lanternrung.specs.Told.{Utf8Told, DateTold, MeasureTold, ReadTold, LookTold, JaxnTold, JsonTold};
 use crate::number;
 use crate::place;
@@ -57,6 +57,7 @@ pub struct Fields {
     pub offset: i32,
     pub time: u64,
     pub end: u64,
+    pub count: u64,
 }
 
 // The reader's counts, or its refusal with both counts 0.
@@ -126,12 +127,13 @@ fn refusal(why: Refusal) -> Fields
         offset: 0,
         time: 0,
         end: 0,
+        count: 0,
     }
 }
 
 // A record of this kind whose other fields are 0, but for these.
-fn plain(kind: u32, set: u32, length: u64, start: u64, end: u64) -> Fields
-    ensures { λ r. ⌜ r ≡ plainFields kind set length start end ⌝ }
+fn plain(kind: u32, set: u32, length: u64, start: u64) -> Fields
+    ensures { λ r. ⌜ r ≡ plainFields kind set length start ⌝ }
 {
     Fields {
         refused: 0,
@@ -147,7 +149,31 @@ fn plain(kind: u32, set: u32, length: u64, start: u64, end: u64) -> Fields
         day: 0,
         offset: 0,
         time: 0,
+        end: 0,
+        count: 0,
+    }
+}
+
+// An array or an object.
+fn container(kind: u32, count: u64, end: u64) -> Fields
+    ensures { λ r. ⌜ r ≡ containerFields kind count end ⌝ }
+{
+    Fields {
+        refused: 0,
+        place: 0,
+        kind,
+        flag: 0,
+        power: 0,
+        coefficient: 0,
+        length: 0,
+        start: 0,
+        year: 0,
+        month: 0,
+        day: 0,
+        offset: 0,
+        time: 0,
         end,
+        count,
     }
 }
 
@@ -156,8 +182,8 @@ fn number_fields(n: Number) -> Fields
     ensures { λ r. ⌜ r ≡ numberFields n ⌝ }
 {
     match n {
-        Number::NotANumber => plain(4, 0, 0, 0, 0),
-        Number::Infinite { minus } => plain(4, 1 + flag(minus), 0, 0, 0),
+        Number::NotANumber => plain(4, 0, 0, 0),
+        Number::Infinite { minus } => plain(4, 1 + flag(minus), 0, 0),
         Number::Finite {
             minus,
             coefficient,
@@ -177,6 +203,7 @@ fn number_fields(n: Number) -> Fields
             offset: 0,
             time: 0,
             end: 0,
+            count: 0,
         },
     }
 }
@@ -200,6 +227,7 @@ fn dated(kind: u32, d: Date, clock: u64, offset: i32) -> Fields
         offset,
         time: clock,
         end: 0,
+        count: 0,
     }
 }
 
@@ -233,15 +261,15 @@ fn fields_of(r: Record) -> Fields
     ensures { λ f. ⌜ f ≡ fieldsOf r ⌝ }
 {
     match r {
-        Record::Null => plain(1, 0, 0, 0, 0),
-        Record::Bool(b) => plain(2, flag(b), 0, 0, 0),
+        Record::Null => plain(1, 0, 0, 0),
+        Record::Bool(b) => plain(2, flag(b), 0, 0),
         Record::Number(n) => number_fields(n),
-        Record::Str { length, start } => plain(5, 0, length as u64, start as u64, 0),
-        Record::Key { length, start } => plain(6, 0, length as u64, start as u64, 0),
-        Record::Bin { length, start } => plain(7, 0, length as u64, start as u64, 0),
+        Record::Str { length, start } => plain(5, 0, length as u64, start as u64),
+        Record::Key { length, start } => plain(6, 0, length as u64, start as u64),
+        Record::Bin { length, start } => plain(7, 0, length as u64, start as u64),
         Record::Time(t) => time_fields(t),
-        Record::Array { end } => plain(12, 0, 0, 0, end as u64),
-        Record::Object { end } => plain(13, 0, 0, 0, end as u64),
+        Record::Array { count, end } => container(12, count as u64, end as u64),
+        Record::Object { count, end } => container(13, count as u64, end as u64),
     }
 }
 

@@ -4,7 +4,7 @@ use mathlib.Core.Path.{_≡_, refl, sym, ap, _∙_, subst}
 use mathlib.Core.Bool.{true, false}
 use mathlib.Core.List.{List, [], _∷_, _++_}
 use mathlib.Core.Option.{none as nowhere}
-use Prim.Native.Nat.{ℕ, _≤_, _<_, _^_}
+use Prim.Native.Nat.{ℕ, _*_, _≤_, _<_, _^_}
 use native.Mathlib.Omega.{arith}
 use lib.Count.{leadingZeros}
 use lib.Dec.{lit≤, lit<}
@@ -24,10 +24,10 @@ use Rattle.meaning.specs.declared.Record.{Record}
 use Rattle.meaning.specs.declared.Refusal.{Refusal}
 use Rattle.meaning.specs.Letters.{letters}
 use Rattle.meaning.specs.Limits.{textLimit, depthLimit}
-use Rattle.meaning.specs.Meaning.{Meaning, null, bool, number, string, array, none, more}
+use Rattle.meaning.specs.Meaning.{Meaning, Members, null, bool, number, string, array, object, none, more, bare, member}
 use Rattle.meaning.specs.Good.{Bytes, most, depth, Good}
 use Rattle.meaning.specs.Bytes.{le, unnamed}
-use Rattle.meaning.specs.Tape.{records, storeOf, bytes, recordsOf, recordBytes, recordsBytes, tapeOf, WellFormed}
+use Rattle.meaning.specs.Tape.{records, membersRecords, elementsCount, membersCount, storeOf, bytes, recordsOf, recordBytes, recordsBytes, tapeOf, WellFormed}
 use Rattle.meaning.specs.Canonical.{escaped, escapes, quoted, canonical}
 use Rattle.meaning.specs.Json.{firstWithout, noJson}
 use Rattle.meaning.specs.Look.{wholeRecords}
@@ -43,6 +43,10 @@ use Rattle.grammar.proofs.Sizes.{text-fits}
 use Rattle.grammar.proofs.Canonical.{text-derived}
 use Rattle.tape.specs.declared.Looked.{Looked}
 use Rattle.tape.specs.Looking.{Looks}
+use Rattle.meaning.specs.Between.Words.{get}
+use Rattle.tape.specs.Between.Shapes.{recordOf, notFinite}
+use Rattle.tape.proofs.JudgingMachineLaws.{nay, slot, put, enter, give, settle, sizeOf, startOf, does, actOf, push, finish, run}
+use Rattle.tape.proofs.JudgingWholeLaws.{readAt, recordsFrom, verdict, nay-ill}
 use Rattle.tape.proofs.Outcomes.{look-well-formed}
 use Rattle.reader.specs.declared.Answer.{Answer}
 use Rattle.reader.specs.Answers.{tapeBytes, Measures, Reads}
@@ -51,9 +55,9 @@ use Rattle.writer.specs.declared.Written.{Written}
 use Rattle.writer.specs.Written.{WritesJaxn, WritesJson}
 use Rattle.lanternrung.specs.Trials.Samples.{Outcome, Says, IsTaken, Case, All, _&_}
 use Rattle.lanternrung.proofs.Claims.PList.{P-list, slips-hold}
-use Rattle.lanternrung.specs.Claims.{Counted, Takes, Holds, Room, Prints}
+use Rattle.lanternrung.specs.Claims.{Counted, Takes, Holds, Room, Wrote, Prints}
 use Rattle.lanternrung.specs.Trials.Impostors.{Lent, Measurer, KeepsMeasure, Reader, KeepsRead, Writer, KeepsJaxn, KeepsJson}
-use Rattle.lanternrung.specs.Trials.Impostors.{Looker, KeepsLook, KeepsUtf8, Calendar, KeepsDate, WritesOnly, Impostors}
+use Rattle.lanternrung.specs.Trials.Impostors.{Looker, KeepsLook, KeepsUtf8, Calendar, KeepsDate, WritesOnly, olderTape, Impostors}
 use Rattle.lanternrung.proofs.Claims.Reading.{accepted, measured}
 use Rattle.lanternrung.proofs.Claims.Writing.{written}
 
@@ -165,6 +169,55 @@ leaves-store f r k =
     let z : _≡_ {A = ℕ} 0 97 = ap (λ (t : List ℕ). getD t 0 0) (sym (r _ _ _) ∙ h) in
     omega arith
 
+small-array : Small (array (more none null))
+unfolding canonical depth most depthLimit
+small-array = record { good = record { parts = (tt, tt); shallow = lit≤ tt }; short = lit≤ tt }
+
+leaves-counts : (f : Reader) → ((text tape store : List ℕ) → getD (f text tape store .1) 4 0 ≡ 0) → KeepsRead f → ⊥
+unfolding tapeOf recordsOf recordsBytes recordBytes elementsCount le
+leaves-counts f r k =
+    let h = reads small-array f k .taped in
+    let z : _≡_ {A = ℕ} 0 1 = sym (r _ _ _) ∙ ap (λ (t : List ℕ). getD t 4 0) h in
+    omega arith
+
+small-object : Small (object (member bare [] null))
+unfolding canonical quoted escapes depth most depthLimit
+small-object = record { good = record { parts = (tt, ascii-octets [] tt, tt); shallow = lit≤ tt }; short = lit≤ tt }
+
+counts-records : (f : Reader)
+    → ((text tape store : List ℕ) (ms : Members) → Takes text tape store (object ms) → getD (f text tape store .1) 4 0 ≡ membersRecords ms)
+    → KeepsRead f → ⊥
+unfolding tapeOf recordsOf recordsBytes recordBytes membersCount membersRecords records le
+counts-records f r k =
+    let h = reads small-object f k .taped in
+    let z : _≡_ {A = ℕ} 2 1 = sym (r _ _ _ (member bare [] null) (takes small-object)) ∙ ap (λ (t : List ℕ). getD t 4 0) h in
+    omega arith
+
+older-long : length olderTape ≡ 2 * 16
+unfolding recordsBytes recordBytes le
+older-long = refl
+
+older-nay : verdict 2 olderTape [] ≡ nay
+unfolding recordsFrom readAt recordOf notFinite get recordsBytes recordBytes le run push settle give slot put enter does startOf sizeOf actOf finish
+    elementsCount depthLimit
+older-nay = refl
+
+older-lent : Lent olderTape
+unfolding recordsBytes recordBytes le
+older-lent = record { each = omega arith; few = lit< tt }
+
+-- no tape without counts is well formed, where one has an element: the machine that reads the records says no
+older-ill : WellFormed olderTape [] → ⊥
+older-ill = nay-ill olderTape [] 2 older-long older-nay
+
+older-jaxn : (f : Writer) → ((out : List ℕ) → Wrote (f olderTape [] out .0)) → KeepsJaxn f → ⊥
+unfolding le
+older-jaxn f r k = older-ill (written .jaxn (k olderTape [] [] older-lent (zeros 0 (lit< tt)) (zeros 0 (lit< tt))) .exactly .0 (r []) .0)
+
+older-json : (f : Writer) → ((out : List ℕ) → Wrote (f olderTape [] out .0)) → KeepsJson f → ⊥
+unfolding le
+older-json f r k = older-ill (written .json (k olderTape [] [] older-lent (zeros 0 (lit< tt)) (zeros 0 (lit< tt))) .exactly .0 (r []) .0)
+
 -- two outputs of four bytes, one `null` and one `true`
 two-texts : (t x y : List ℕ) → x ≡ t ++ drop (length t) (unnamed 4) → y ≡ t ++ drop (length t) (unnamed 4) → x ≡ canonical null
     ++ drop (length (canonical null)) (unnamed 4)
@@ -218,10 +271,6 @@ copies f r k =
 
 invents : (f : Measurer) {text : List ℕ} {m : Meaning} → Text true text m → (f text ≡ Answer.Counts (records m) (bytes m) → ⊥) → KeepsMeasure f → ⊥
 invents f {text} {m} x n k = n (measured (k text (text-lent x)) .then m x .answer)
-
-small-array : Small (array (more none null))
-unfolding canonical depth most depthLimit
-small-array = record { good = record { parts = (tt, tt); shallow = lit≤ tt }; short = lit≤ tt }
 
 counted : {m : Meaning} → Small m → (f : Measurer) → KeepsMeasure f → f (canonical m) ≡ Answer.Counts (records m) (bytes m)
 counted {m} s f k = let x = derived s in measured (k (canonical m) (text-lent x)) .then m x .answer
@@ -318,6 +367,10 @@ impostors =
       touches-nothing = touches-nothing;
       leaves-tape = leaves-tape;
       leaves-store = leaves-store;
+      leaves-counts = leaves-counts;
+      counts-records = counts-records;
+      older-jaxn = older-jaxn;
+      older-json = older-json;
       one-text-jaxn = one-text-jaxn;
       one-text-json = one-text-json;
       copies = copies;

@@ -2,9 +2,9 @@
 -- promise (docs/CLAIMS.md; docs/FORMAT.md, 13). Assumes nothing.
 use mathlib.Core.Path.{_≡_}
 use mathlib.Core.Bool.{true}
-use mathlib.Core.List.{List, [], _++_}
+use mathlib.Core.List.{List, [], _∷_, _++_}
 use Prim.Native.Nat.{ℕ, _≤_, _<_, _^_}
-use lib.ListN.{length, drop}
+use lib.ListN.{length, getD, drop}
 use Rattle.rules.specs.declared.Utf8Answer.{Utf8Answer}
 use Rattle.rules.specs.declared.DateAnswer.{DateAnswer}
 use Rattle.rules.specs.Rfc3629.{Judged}
@@ -13,8 +13,8 @@ use Rattle.meaning.specs.declared.Record.{Record}
 use Rattle.meaning.specs.declared.Refusal.{Refusal}
 use Rattle.meaning.specs.Good.{Bytes}
 use Rattle.meaning.specs.Look.{wholeRecords}
-use Rattle.meaning.specs.Meaning.{Meaning, null}
-use Rattle.meaning.specs.Tape.{records, bytes, tapeOf, storeOf}
+use Rattle.meaning.specs.Meaning.{Meaning, Members, null, object}
+use Rattle.meaning.specs.Tape.{records, membersRecords, bytes, recordsBytes, tapeOf, storeOf}
 use Rattle.grammar.specs.Values.{Text}
 use Rattle.grammar.specs.Refused.{Text-refused}
 use Rattle.tape.specs.declared.Looked.{Looked}
@@ -23,7 +23,7 @@ use Rattle.reader.specs.declared.Answer.{Answer}
 use Rattle.reader.specs.Answers.{Measures, Reads}
 use Rattle.writer.specs.declared.Written.{Written}
 use Rattle.writer.specs.Written.{WritesJaxn, WritesJson}
-use Rattle.lanternrung.specs.Claims.{Counted, Takes, Holds, Prints}
+use Rattle.lanternrung.specs.Claims.{Counted, Takes, Holds, Wrote, Prints}
 
 -- what a program can be lent: bytes, fewer than 2^64
 pub record Lent (s : List ℕ) : Type 0 where
@@ -79,6 +79,10 @@ abbrev pub WritesOnly : List ℕ → Writer → Type 0
 WritesOnly t f = (tape store out : List ℕ) (n : ℕ) → f tape store out .0 ≡ Written.Wrote n → f tape store out .1 ≡ t
     ++ drop (length t) out
 
+-- `[null]` as it was taped before there were counts
+abbrev pub olderTape : List ℕ
+olderTape = recordsBytes (Record.Array 0 2 ∷ Record.Null ∷ [])
+
 pub record Impostors : Type 0 where
   -- a reader that refuses everything, for whatever reason
   pub refuses-all : (f : Reader) → ((text tape store : List ℕ) → (why : Refusal)
@@ -93,6 +97,15 @@ pub record Impostors : Type 0 where
       × (f text tape store .2 ≡ store)) → KeepsRead f → ⊥
   pub leaves-tape : (f : Reader) → ((text tape store : List ℕ) → f text tape store .1 ≡ tape) → KeepsRead f → ⊥
   pub leaves-store : (f : Reader) → ((text tape store : List ℕ) → f text tape store .2 ≡ store) → KeepsRead f → ⊥
+  -- one that leaves 0 in the place of every count; one that counts an object by its records
+  pub leaves-counts : (f : Reader) → ((text tape store : List ℕ) → getD (f text tape store .1) 4 0 ≡ 0) → KeepsRead f
+      → ⊥
+  pub counts-records : (f : Reader)
+      → ((text tape store : List ℕ) (ms : Members) → Takes text tape store (object ms)
+      → getD (f text tape store .1) 4 0 ≡ membersRecords ms) → KeepsRead f → ⊥
+  -- a writer that takes a tape from before there were counts
+  pub older-jaxn : (f : Writer) → ((out : List ℕ) → Wrote (f olderTape [] out .0)) → KeepsJaxn f → ⊥
+  pub older-json : (f : Writer) → ((out : List ℕ) → Wrote (f olderTape [] out .0)) → KeepsJson f → ⊥
   -- a writer that always prints one text, or refuses
   pub one-text-jaxn : (f : Writer) (t : List ℕ) → WritesOnly t f → KeepsJaxn f → ⊥
   pub one-text-json : (f : Writer) (t : List ℕ) → WritesOnly t f → KeepsJson f → ⊥

@@ -60,14 +60,14 @@ time-fields-requires c κs = search needs
 enum-known-r-7 : tie.Need-enum-known-r-7
 enum-known-r-7 c = search needs
 
-plain-requires-6 : tie.Need-plain-requires-6
-plain-requires-6 c κs = search needs
+container-requires : tie.Need-container-requires
+container-requires c κs = search needs
 
 enum-known-r-8 : tie.Need-enum-known-r-8
 enum-known-r-8 c = search needs
 
-plain-requires-7 : tie.Need-plain-requires-7
-plain-requires-7 c κs = search needs
+container-requires-2 : tie.Need-container-requires-2
+container-requires-2 c κs = search needs
 
 returns : tie.Need-returns
 unfolding fieldsOf
@@ -75,7 +75,7 @@ returns c = c .plain .ensures ∙ sym (ap fieldsOf (c .before .enum-told .given 
 
 returns-2 : tie.Need-returns-2
 unfolding fieldsOf
-returns-2 c = c .plain2 .ensures ∙ ap (λ (x : ℕ). plainFields 2 x 0 0 0) (c .before .flag .ensures) ∙ sym (ap fieldsOf (c .before .before .before .r .given .1))
+returns-2 c = c .plain2 .ensures ∙ ap (λ (x : ℕ). plainFields 2 x 0 0) (c .before .flag .ensures) ∙ sym (ap fieldsOf (c .before .before .before .r .given .1))
 
 returns-3 : tie.Need-returns-3
 unfolding fieldsOf
@@ -99,11 +99,11 @@ returns-7 c = c .time-fields .ensures ∙ sym (ap fieldsOf (c .before .before .r
 
 returns-8 : tie.Need-returns-8
 unfolding fieldsOf
-returns-8 c = c .plain6 .ensures ∙ sym (ap fieldsOf (c .before .before .r7 .given .1))
+returns-8 c = c .container .ensures ∙ sym (ap fieldsOf (c .before .before .r7 .given .1))
 
 returns-9 : tie.Need-returns-9
 unfolding fieldsOf
-returns-9 c = c .plain7 .ensures ∙ sym (ap fieldsOf (c .before .before .r8 .given .1))
+returns-9 c = c .container2 .ensures ∙ sym (ap fieldsOf (c .before .before .r8 .given .1))
 
 pub fields-of-spec : {M : Type 1} → statement M
 fields-of-spec =
@@ -125,9 +125,9 @@ fields-of-spec =
     enum-known-r-6
     time-fields-requires
     enum-known-r-7
-    plain-requires-6
+    container-requires
     enum-known-r-8
-    plain-requires-7
+    container-requires-2
     returns
     returns-2
     returns-3

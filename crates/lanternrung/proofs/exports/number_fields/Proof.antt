@@ -44,7 +44,7 @@ returns c = c .plain .ensures ∙ sym (ap numberFields (c .before .enum-told .gi
 
 returns-2 : tie.Need-returns-2
 unfolding numberFields
-returns-2 c = c .plain2 .ensures ∙ ap (λ (x : ℕ). plainFields 4 (1 + x) 0 0 0) (c .before .flag .ensures)
+returns-2 c = c .plain2 .ensures ∙ ap (λ (x : ℕ). plainFields 4 (1 + x) 0 0) (c .before .flag .ensures)
     ∙ sym (ap numberFields (c .before .before .before .n .given .1))
 
 returns-3 : tie.Need-returns-3
