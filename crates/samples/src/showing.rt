@@ -127,6 +127,7 @@ pub(crate) fn fields(f: Fields) {
         field(b" flag ", f.flag as u64);
         number_fields(f);
         time_fields(f);
+        field(b" count ", f.count);
         field(b" end ", f.end);
     }
 }

@@ -146,13 +146,13 @@ fn bytes(t: &[u8], p: usize, room: u64) -> bool {
     false
 }
 
-// Whether the end is past the record's own index and not above the number of whole records.
+// Whether the end is past the record's own index and not above the number of whole records; the count, in bytes 4-7, may be any.
 fn container(t: &[u8], p: usize, index: u64, whole: u64) -> bool {
     if p > 1000 {
         return false;
     }
     let end = eight(t, p + 8);
-    if two(t, p + 2) == 0 && four(t, p + 4) == 0 {
+    if two(t, p + 2) == 0 {
         return index < end && end <= whole;
     }
     false
@@ -244,7 +244,7 @@ fn decoder(t: &[u8], index: usize, room: u64) -> bool {
 
 // Records 0 to 3: the object, `run` with 31, and the key `eta`.
 fn fill_first(t: &mut [u8]) {
-    tape::put_record(t, 0, Record::Object { end: 11 });
+    tape::put_record(t, 0, Record::Object { count: 4, end: 11 });
     tape::put_record(
         t,
         1,
@@ -308,7 +308,7 @@ fn fill_middle(t: &mut [u8]) {
 
 // Records 8 to 10: the array of 0.5 and -1250.5.
 fn fill_last(t: &mut [u8]) {
-    tape::put_record(t, 8, Record::Array { end: 11 });
+    tape::put_record(t, 8, Record::Array { count: 2, end: 11 });
     tape::put_record(
         t,
         9,
