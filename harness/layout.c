@@ -12,7 +12,7 @@
 #define SIZE(type, bytes) HOLDS(sizeof(type) == (bytes))
 #define FIELD(type, field, at, as) HOLDS(offsetof(type, field) == (at) && sizeof(((type *)0)->field) == sizeof(as))
 
-HOLDS(LR_VERSION == 1);
+HOLDS(LR_VERSION == 2);
 HOLDS(sizeof(size_t) == 8);
 
 SIZE(lr_status, 16);
@@ -30,7 +30,7 @@ FIELD(lr_written, refused, 0, uint32_t);
 FIELD(lr_written, place, 8, uint64_t);
 FIELD(lr_written, length, 16, uint64_t);
 
-SIZE(lr_record, 88);
+SIZE(lr_record, 96);
 FIELD(lr_record, refused, 0, uint32_t);
 FIELD(lr_record, place, 8, uint64_t);
 FIELD(lr_record, kind, 16, uint32_t);
@@ -45,6 +45,7 @@ FIELD(lr_record, day, 64, uint32_t);
 FIELD(lr_record, offset, 68, int32_t);
 FIELD(lr_record, time, 72, uint64_t);
 FIELD(lr_record, end, 80, uint64_t);
+FIELD(lr_record, count, 88, uint64_t);
 
 HOLDS(LR_NU == 1 && LR_BO == 2 && LR_NB == 3 && LR_NX == 4 && LR_ST == 5 && LR_KY == 6 && LR_BY == 7);
 HOLDS(LR_LD == 8 && LR_LT == 9 && LR_DT == 10 && LR_OD == 11 && LR_AR == 12 && LR_OB == 13);

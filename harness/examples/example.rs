@@ -31,6 +31,7 @@ struct Record {
     offset: i32,
     time: u64,
     end: u64,
+    count: u64,
 }
 
 #[rustfmt::skip]

@@ -88,6 +88,12 @@ static void looking(void)
     lr_written right = lanternrung_write_jaxn(tape, used.records * 16, store, used.bytes, out, sizeof out);
     assert(right.refused == LR_DONE && right.length == 3);
 
+    tape[4] = 0; /* the count of the array, as in an older tape */
+    lr_record older = lanternrung_look(tape, 32, store, 0, 0);
+    assert(older.refused == LR_DONE && older.count == 0 && older.end == 2);
+    lr_written uncounted = lanternrung_write_jaxn(tape, 32, store, 0, out, sizeof out);
+    assert(uncounted.refused == LR_NOT_WELL_FORMED && uncounted.place == 0);
+
     tape[16] = 'x'; /* the mark of the second record, "nb" */
     lr_record damaged = lanternrung_look(tape, 32, store, 0, 1);
     assert(damaged.refused == LR_NOT_WELL_FORMED && damaged.place == 1);

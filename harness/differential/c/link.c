@@ -38,7 +38,7 @@ static void reading(void) {
 }
 
 static void looking(void) {
-    lr_record key = look(3), number = look(10), time = look(6), array = look(8), other = look(4);
+    lr_record key = look(3), number = look(10), time = look(6), array = look(8), other = look(4), object = look(0);
     same("a key: kind", key.kind, LR_KY);
     same("a key: start", key.start, 3);
     same("a key: length", key.length, 3);
@@ -54,6 +54,11 @@ static void looking(void) {
     same("a time: time", time.time, 18367500000000);
     same("an array: kind", array.kind, LR_AR);
     same("an array: end", array.end, 11);
+    same("an array: count", array.count, 2);
+    same("an object: kind", object.kind, LR_OB);
+    same("an object: end", object.end, 11);
+    same("an object: count", object.count, 4);
+    same("a key: count", key.count, 0);
     same("NaN: kind", other.kind, LR_NX);
     same("past the end: refused", look(11).refused, 14);
     same("past the end: place", look(11).place, 11);
@@ -67,6 +72,11 @@ static void writing(void) {
     w = lanternrung_write_json(tape, sizeof tape, store, sizeof store, out, sizeof out);
     same("write_json: refused", w.refused, 11);
     same("write_json: place", w.place, 4);
+    tape[8 * 16 + 4] = 0; /* the array's count, as in an older tape */
+    same("an older tape: look", look(8).refused, 0);
+    same("an older tape: count", look(8).count, 0);
+    same("an older tape: write_jaxn", lanternrung_write_jaxn(tape, sizeof tape, store, sizeof store, out, sizeof out).refused, 10);
+    tape[8 * 16 + 4] = 2;
 }
 
 /* With a length of 0 a pointer is not looked through. */

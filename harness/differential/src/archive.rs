@@ -55,6 +55,7 @@ pub struct LrRecord {
     pub offset: i32,
     pub time: u64,
     pub end: u64,
+    pub count: u64,
 }
 
 type Writer = unsafe extern "C" fn(*const u8, usize, *const u8, usize, *mut u8, usize) -> LrWritten;
@@ -189,6 +190,7 @@ impl From<Result<Looked, Refusal>> for LrRecord {
             offset: l.offset,
             time: l.time,
             end: l.end,
+            count: l.count,
         }
     }
 }

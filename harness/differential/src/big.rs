@@ -81,12 +81,14 @@ fn tapes() -> impl Iterator<Item = (&'static str, Vec<u8>, Vec<u8>)> {
     let limits = [FULL, FULL + 1].into_iter().flat_map(|n| {
         let string: fn(usize) -> _ = |n| ("one long string", record(b"st", n, 0), vec![b'a'; n]);
         let nulls: fn(usize) -> _ =
-            |n| ("many records", [record(b"ar", 0, n), record(b"nu", 0, 0).repeat(n - 1)].concat(), Vec::new());
-        [string, nulls].into_iter().map(move |make| make(n))
+            |n| ("many records", [record(b"ar", n - 1, n), record(b"nu", 0, 0).repeat(n - 1)].concat(), Vec::new());
+        let more: fn(usize) -> _ =
+            |n| ("one counted too many", [record(b"ar", n, n), record(b"nu", 0, 0).repeat(n - 1)].concat(), Vec::new());
+        [string, nulls, more].into_iter().map(move |make| make(n))
     });
     let long = [false, true].into_iter().map(|other| {
         let last = record(if other { b"nx" } else { b"nu" }, 0, 0);
-        ("a long text", [record(b"ar", 0, 3), record(b"st", FULL / 6, 0), last].concat(), vec![1; FULL / 6])
+        ("a long text", [record(b"ar", 2, 3), record(b"st", FULL / 6, 0), last].concat(), vec![1; FULL / 6])
     });
     limits.chain(long)
 }

@@ -161,6 +161,7 @@ fn systematic(run: &mut Run) {
     systematic::words(b"\"\\0 1e.-:+$[],/*", 5, |t| quick(run, t));
     systematic::words(b"\"a\n\r", 9, |t| quick(run, t));
     depths(run);
+    widths(run);
 }
 
 /// Values around their limits.
@@ -202,7 +203,16 @@ fn depths(run: &mut Run) {
     }
 }
 
-/// Random texts; where one is accepted, its tape is damaged some times.
+/// Containers with as many elements or members as one or two bytes of a count can hold, and with some more or less.
+fn widths(run: &mut Run) {
+    for n in (254..259).chain(65_534..65_539) {
+        for (open, one, close) in [("[", "0,", "]"), ("{", "a:[],", "}"), ("[[", "0,", "],{}]")] {
+            run.text(format!("{open}{}{close}", one.repeat(n)).as_bytes(), Effort::One(n));
+        }
+    }
+}
+
+/// Random texts; where one is accepted, its tape is damaged some times, and every other one recounted.
 fn random(run: &mut Run, seed: u64, count: u64, stated: &[Vec<u8>]) {
     let mut r = Random::new(seed);
     for _ in 0..count {
@@ -234,25 +244,32 @@ fn damaged(run: &mut Run, r: &mut Random, value: &second::Value) {
         for _ in 0..1 + r.below(3) {
             tapes::damage(r, &mut tape, &mut store);
         }
+        if r.one_in(2) {
+            tape = tapes::recounted(&tape);
+        }
         run.tape(&tape, &store, Effort::One(r.below(1000)));
     }
 }
 
-/// Tapes that are counted off: records at their limits, a sample damaged in each place, containers around the limit of 64.
+/// Tapes that are counted off: records at their limits, a sample damaged in each place, counts and ends near the right ones and
+/// near their limits, short tapes, containers around the limit of 64.
 fn counted_tapes(run: &mut Run) {
     for (record, store) in tapes::edges() {
         run.tape(&record, &store, Effort::Edges);
-        let key = *b"ky\0\0\0\0\0\0\0\0\0\0\0\0\0\0";
-        let object = [&b"ob\0\0\0\0\0\0\x03\0\0\0\0\0\0\0"[..], &key, &record].concat();
-        run.tape(&object, &store, Effort::One(0));
+        run.tape(&tapes::member(&record), &store, Effort::One(0));
     }
     let sample = second::parse(tapes::SAMPLE.as_bytes()).expect("the sample is a text");
     let (tape, store) = second::tape(&sample);
     run.tape(&tape, &store, Effort::Every);
     tapes::every(&tape, &store, |t, s| run.tape(t, s, Effort::One(t.len())));
-    for n in 1..70 {
-        run.tape(&tapes::nested(n, false), b"", Effort::One(n));
-        run.tape(&tapes::nested(n, true), b"", Effort::One(n));
+    tapes::counted(&tape, |t| run.tape(t, &store, Effort::One(t.len())));
+    tapes::small(|t| run.tape(t, b"", Effort::One(t.len())));
+    for (n, objects) in (1..70).flat_map(|n| [(n, false), (n, true)]) {
+        let tape = tapes::nested(n, objects);
+        run.tape(&tape, b"", Effort::One(n));
+        if n < 6 || n == 64 {
+            tapes::counted(&tape, |t| run.tape(t, b"", Effort::One(t.len())));
+        }
     }
 }
 

@@ -2,6 +2,7 @@
 //! environment it has that one fault, and the driver must find it (tests/faults.rs).
 
 use crate::archive::{LrRecord, LrSizes, LrStatus, LrWritten};
+use crate::tapes;
 use second::{Refusal, Sizes, Written};
 use std::slice::{from_raw_parts, from_raw_parts_mut};
 use std::sync::OnceLock;
@@ -43,6 +44,7 @@ fn read(text: &[u8], tape: &mut [u8], store: &mut [u8]) -> Result<Sizes, Refusal
         (9, Ok(s)) if s.records == 3 && tape.len() % 16 == 15 => return Err(Refusal { number: 8, place: 48 }),
         (10, Ok(s)) if s.bytes > 3 && text.contains(&b'+') => store[2] ^= 1,
         (23, Ok(s)) if s.bytes > 40 && text.get(36) == Some(&b'\\') => store[33] ^= 0x20,
+        (25, Ok(s)) if s.records > 256 => tape[5] = 0,
         (11, Err(r)) if r.number == 4 => return Err(Refusal { number: 4, place: r.place + 1 }),
         _ => {}
     }
@@ -57,6 +59,8 @@ fn look(tape: &[u8], store: &[u8], index: u64) -> Result<second::Looked, Refusal
     };
     let answer = second::look(tape, store, bent);
     match (fault(), answer) {
+        (26, Ok(l)) if l.kind == 13 && l.count > l.end => Err(Refusal { number: 10, place: index }),
+        (27, Ok(l)) => Ok(second::Looked { count: l.count & 0x7FFF_FFFF, ..l }),
         (14, Ok(l)) if l.offset < 0 => Ok(second::Looked { offset: l.offset & 0xFFFF, ..l }),
         (24, Err(r)) if r.number == 10 && tape[16 * index as usize..].starts_with(b"ar") && tape.len() == 32 => {
             second::look(&rec(b"nu"), b"", 0)
@@ -74,6 +78,22 @@ fn rec(mark: &[u8; 2]) -> [u8; 16] {
     r
 }
 
+/// What a writer that does not test all of a container would take this tape for.
+fn mended(tape: &[u8]) -> Vec<u8> {
+    let bent = |index: usize, object: bool, count: u32, end: u64| match fault() {
+        29 if object && count % 2 == 0 => (count / 2, end),
+        30 if end == index as u64 + 1 => (0, end),
+        31 if object => (count & 0x7FFF_FFFF, end),
+        32 => (count, end & 0x0FFF_FFFF_FFFF_FFFF),
+        33 => (count, end & 0xFFFF_FFFF),
+        _ => (count, end),
+    };
+    match fault() {
+        28 => tapes::recounted(tape),
+        _ => tapes::bent(tape, bent),
+    }
+}
+
 fn write_jaxn(tape: &[u8], store: &[u8], out: &mut [u8]) -> Result<Written, Refusal> {
     let answer = second::write_jaxn(tape, store, out);
     match (fault(), &answer) {
@@ -85,6 +105,7 @@ fn write_jaxn(tape: &[u8], store: &[u8], out: &mut [u8]) -> Result<Written, Refu
         (19, Err(r)) if r.number == 10 && !store.is_empty() => {
             return second::write_jaxn(tape, &store[..store.len() - 1], out)
         }
+        (28..=33, Err(r)) if r.number == 10 => return second::write_jaxn(&mended(tape), store, out),
         _ => {}
     }
     answer
@@ -93,6 +114,7 @@ fn write_jaxn(tape: &[u8], store: &[u8], out: &mut [u8]) -> Result<Written, Refu
 fn write_json(tape: &[u8], store: &[u8], out: &mut [u8]) -> Result<Written, Refusal> {
     match (fault(), second::write_json(tape, store, out)) {
         (20, Err(r)) if r.number == 11 && r.place == 3 => second::write_jaxn(tape, store, out),
+        (34, Err(r)) if r.number == 10 && tapes::older(tape) => second::write_json(&tapes::recounted(tape), store, out),
         (_, other) => other,
     }
 }

@@ -1,5 +1,5 @@
-//! A second JAXN reader and writer, written from the rules ("01" is the paper of rules, "002" the JAXN
-//! specification), to be compared with the proved one.
+//! A second JAXN reader and writer, written from the rules ("01" is the paper of rules, "02" that of the changes to it,
+//! "002" the JAXN specification), to be compared with the proved one.
 //!
 //! Its structure is another one on purpose. The items of the grammar are regular expressions, spelled as 002 prints them
 //! (`items`), and are made into tables (`automaton`). A parser with a stack of its own chooses the table by what may stand

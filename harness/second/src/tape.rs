@@ -15,7 +15,7 @@ enum Record {
     LocalTime(u64),
     LocalDateTime(Date, u64),
     OffsetDateTime(Date, u64, i16),
-    Container { mark: [u8; 2], end: u64 },
+    Container { mark: [u8; 2], count: u32, end: u64 },
 }
 
 const STRING: [u8; 2] = *b"st";
@@ -42,7 +42,9 @@ fn encode(record: Record) -> [u8; 16] {
         Record::OffsetDateTime(d, t, o) => {
             Bytes::new(*b"od").with(2, date_bytes(d)).with(6, o.to_le_bytes()).with(8, t.to_le_bytes())
         }
-        Record::Container { mark, end } => Bytes::new(mark).with(8, end.to_le_bytes()),
+        Record::Container { mark, count, end } => {
+            Bytes::new(mark).with(4, count.to_le_bytes()).with(8, end.to_le_bytes())
+        }
     }
     .0
 }
@@ -81,7 +83,7 @@ fn record(bytes: &[u8; 16]) -> Option<Record> {
         b"lt" => Record::LocalTime(eight),
         b"dt" => Record::LocalDateTime(date, eight),
         b"od" => Record::OffsetDateTime(date, eight, i16::from_le_bytes([bytes[6], bytes[7]])),
-        b"ar" | b"ob" => Record::Container { mark: [bytes[0], bytes[1]], end: eight },
+        b"ar" | b"ob" => Record::Container { mark: [bytes[0], bytes[1]], count: four, end: eight },
         _ => return None,
     };
     (lawful(record) && encode(record) == *bytes).then_some(record)
@@ -127,8 +129,8 @@ impl Encoder {
             Value::LocalTime(t) => self.push(Record::LocalTime(*t)),
             Value::LocalDateTime(d, t) => self.push(Record::LocalDateTime(*d, *t)),
             Value::OffsetDateTime(d, t, o) => self.push(Record::OffsetDateTime(*d, *t, *o)),
-            Value::Array(values) => self.container(ARRAY, |out| values.iter().for_each(|v| out.value(v))),
-            Value::Object(members) => self.container(OBJECT, |out| members.iter().for_each(|(k, v)| out.member(k, v))),
+            Value::Array(values) => self.container(ARRAY, values, |out, v| out.value(v)),
+            Value::Object(members) => self.container(OBJECT, members, |out, (k, v)| out.member(k, v)),
         }
     }
 
@@ -147,12 +149,13 @@ impl Encoder {
     }
 
     /// 01: "index just after the last record inside, or after its own if empty". It is known once the inside is written.
-    fn container(&mut self, mark: [u8; 2], inside: impl FnOnce(&mut Encoder)) {
-        let at = self.tape.len();
-        self.push(Record::Container { mark, end: 0 });
-        inside(self);
+    /// 02: "the number of elements or members directly inside".
+    fn container<T>(&mut self, mark: [u8; 2], inside: &[T], each: impl Fn(&mut Encoder, &T)) {
+        let (at, count) = (self.tape.len(), inside.len() as u32);
+        self.push(Record::Container { mark, count, end: 0 });
+        inside.iter().for_each(|one| each(self, one));
         let end = (self.tape.len() / 16) as u64;
-        self.tape[at..at + 16].copy_from_slice(&encode(Record::Container { mark, end }));
+        self.tape[at..at + 16].copy_from_slice(&encode(Record::Container { mark, count, end }));
     }
 }
 
@@ -209,7 +212,7 @@ impl Decoder<'_> {
             Record::LocalDateTime(d, t) => Value::LocalDateTime(d, t),
             Record::OffsetDateTime(d, t, o) => Value::OffsetDateTime(d, t, o),
             Record::Container { .. } if depth == DEPTH => return None,
-            Record::Container { mark: ARRAY, end } => Value::Array(self.until(end, |d| d.value(depth + 1))?),
+            Record::Container { mark: ARRAY, end, .. } => Value::Array(self.until(end, |d| d.value(depth + 1))?),
             Record::Container { end, .. } => Value::Object(self.until(end, |d| Some((d.key()?, d.value(depth + 1)?)))?),
         })
     }
@@ -256,10 +259,12 @@ pub struct Looked {
     pub offset: i32,
     pub time: u64,
     pub end: u64,
+    pub count: u64,
 }
 
 /// 01: "Look judges one record only: mark, own fields, unnamed bytes zero, string inside the store (UTF-8 for `st` and
-/// `ky`), container end past its own index and not above the number of whole records." 14 comes before 10.
+/// `ky`), container end past its own index and not above the number of whole records." 14 comes before 10. 02: "Look gives the
+/// count as stored, since it judges one record only."
 pub fn look(tape: &[u8], store: &[u8], index: u64) -> Result<Looked, Refusal> {
     let whole = (tape.len() / 16) as u64;
     if index >= whole {
@@ -306,7 +311,9 @@ fn looked(record: Record) -> Looked {
         Record::LocalTime(t) => (l.kind, l.time) = (9, t),
         Record::LocalDateTime(_, t) => (l.kind, l.time) = (10, t),
         Record::OffsetDateTime(_, t, o) => (l.kind, l.time, l.offset) = (11, t, o.into()),
-        Record::Container { mark, end } => (l.kind, l.end) = (if mark == ARRAY { 12 } else { 13 }, end),
+        Record::Container { mark, count, end } => {
+            (l.kind, l.count, l.end) = (if mark == ARRAY { 12 } else { 13 }, count.into(), end);
+        }
     }
     l
 }

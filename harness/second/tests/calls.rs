@@ -28,13 +28,26 @@ fn the_sample_record() {
     let (t, s) = of(text);
     assert_eq!(s, b"runetaatt");
     assert_eq!(look(&t, &s, 6).unwrap().time, 18_367_500_000_000);
-    assert_eq!(t[..16], rec(b"ob", &[(8, 11)]));
+    assert_eq!(t[..16], rec(b"ob", &[(4, 4), (8, 11)]));
     assert_eq!(t[16..32], rec(b"ky", &[(4, 3)]));
     assert_eq!(t[32..48], rec(b"nb", &[(8, 31)]));
     assert_eq!(t[64..80], rec(b"nx", &[]));
     assert_eq!(t[96..102], [b'o', b'd', 0xE5, 0x07, 3, 4]);
-    assert_eq!(t[128..144], rec(b"ar", &[(8, 11)]));
+    assert_eq!(t[128..144], rec(b"ar", &[(4, 2), (8, 11)]));
     assert_eq!(t[144..160], rec(b"nb", &[(4, 255), (5, 255), (6, 255), (7, 255), (8, 5)]));
+}
+
+#[test]
+fn elements_and_members_are_counted() {
+    let (t, s) = of(b"[1,[],{a:1}]");
+    let seen: Vec<Looked> = (0..6).map(|i| look(&t, &s, i).unwrap()).collect();
+    assert_eq!(seen.iter().map(|l| l.kind).collect::<Vec<_>>(), [12, 3, 12, 13, 6, 3]);
+    assert_eq!(seen.iter().map(|l| l.count).collect::<Vec<_>>(), [3, 0, 0, 1, 0, 0]);
+    assert_eq!(t[..16], rec(b"ar", &[(4, 3), (8, 6)]));
+    assert_eq!(t[32..48], rec(b"ar", &[(8, 3)]));
+    assert_eq!(t[48..64], rec(b"ob", &[(4, 1), (8, 6)]));
+    let (t, _) = of(format!("[{}]", "1,".repeat(259)).as_bytes());
+    assert_eq!(t[..16], rec(b"ar", &[(4, 3), (5, 1), (8, 4), (9, 1)]));
 }
 
 #[test]
@@ -102,6 +115,10 @@ fn look_at_one_record() {
         rec(b"nu", &[(15, 1)]),
         rec(b"ar", &[]),
         rec(b"ar", &[(8, 2)]),
+        rec(b"ar", &[(2, 1), (8, 1)]),
+        rec(b"ob", &[(3, 1), (8, 1)]),
+        rec(b"ob", &[(4, 1), (12, 1)]),
+        rec(b"ar", &[(8, 255), (9, 255), (10, 255), (11, 255), (12, 255), (13, 255), (14, 255), (15, 255)]),
         rec(b"ld", &[(2, 1), (4, 13), (5, 1)]),
         rec(b"lt", &[(15, 1)]),
         rec(b"od", &[(2, 1), (4, 1), (5, 1), (6, 0xA0), (7, 5)]),
@@ -111,6 +128,14 @@ fn look_at_one_record() {
     }
     assert_eq!(look(&rec(b"nb", &[(2, 1)]), b"", 0).unwrap().flag, 1);
     assert_eq!(look(&rec(b"nb", &[(8, 1), (4, 0x0F), (5, 0x27)]), b"", 0).unwrap().power, 9_999);
+    // A count is given as stored: one that is not that of what is inside, and the greatest.
+    for mark in [b"ar", b"ob"] {
+        for (stored, count) in [([0; 4], 0), ([1, 0, 0, 0], 1), ([0, 0, 1, 0], 65_536), ([255; 4], u32::MAX)] {
+            let fields: Vec<(usize, u8)> = (4..8).zip(stored).chain([(8, 1)]).collect();
+            let seen = look(&rec(mark, &fields), b"", 0).unwrap();
+            assert_eq!((seen.count, seen.end), (count.into(), 1));
+        }
+    }
     // A tape that ends inside a record: its whole records may be looked at.
     let cut = [rec(b"ar", &[(8, 1)]), vec![7; 3]].concat();
     assert_eq!(look(&cut, b"", 0).unwrap().end, 1);
@@ -127,14 +152,56 @@ fn well_formed_or_not() {
     wrong(&nu, b"x");
     wrong(&rec(b"ky", &[]), b"");
     wrong(&rec(b"st", &[(8, 1), (4, 1)]), b"ab");
-    wrong(&[rec(b"ar", &[(8, 3)]), rec(b"st", &[(4, 1)]), rec(b"st", &[(4, 1)])].concat(), b"a");
-    wrong(&[rec(b"ar", &[(8, 2)]), rec(b"ky", &[])].concat(), b"");
-    wrong(&[rec(b"ob", &[(8, 3)]), nu.clone(), nu.clone()].concat(), b"");
-    wrong(&[rec(b"ob", &[(8, 2)]), rec(b"ky", &[])].concat(), b"");
+    wrong(&[rec(b"ar", &[(4, 2), (8, 3)]), rec(b"st", &[(4, 1)]), rec(b"st", &[(4, 1)])].concat(), b"a");
+    wrong(&[rec(b"ar", &[(4, 1), (8, 2)]), rec(b"ky", &[])].concat(), b"");
+    wrong(&[rec(b"ob", &[(4, 1), (8, 3)]), nu.clone(), nu.clone()].concat(), b"");
+    for count in [0, 1] {
+        wrong(&[rec(b"ob", &[(4, count), (8, 2)]), rec(b"ky", &[])].concat(), b"");
+    }
     wrong(&[rec(b"ar", &[(8, 1)]), nu.clone()].concat(), b"");
-    let nested = |n: u8| (0..n).flat_map(|_| rec(b"ar", &[(8, n)])).collect::<Vec<_>>();
+    // The last one, the innermost, is empty.
+    let nested = |n: u8| (0..n).flat_map(|i| rec(b"ar", &[(4, (i + 1 < n).into()), (8, n)])).collect::<Vec<_>>();
     assert!(decode(&nested(64), b"").is_some());
     wrong(&nested(65), b"");
+}
+
+/// A tape whose counts are set, each of them the four bytes of the container at this index.
+fn counted(tape: &[u8], counts: &[(usize, u32)]) -> Vec<u8> {
+    let mut all = tape.to_vec();
+    for &(index, count) in counts {
+        all[16 * index + 4..16 * index + 8].copy_from_slice(&count.to_le_bytes());
+    }
+    all
+}
+
+#[test]
+fn the_writers_test_each_count() {
+    let (t, s) = of(b"[1,[],{a:1}]");
+    let mut out = [0; 100];
+    assert_eq!(write_jaxn(&t, &s, &mut out), Ok(Written { length: 14 }));
+    assert_eq!(&out[..14], b"[1,[],{\"a\":1}]");
+    let refuse = |t: &[u8]| {
+        assert_eq!(refused(write_jaxn(t, &s, &mut [0; 100])), (10, 0));
+        assert_eq!(refused(write_json(t, &s, &mut [0; 100])), (10, 0));
+    };
+    for (index, right) in [(0, 3), (2, 0), (3, 1)] {
+        for wrong in [0, 1, 2, 3, 4, 5, 6, 256, 1 << 16, 1 << 24, 1 << 31, u32::MAX - 1, u32::MAX] {
+            let damaged = counted(&t, &[(index, wrong)]);
+            assert_eq!(look(&damaged, &s, index as u64).unwrap().count, wrong.into());
+            if wrong != right {
+                refuse(&damaged);
+            }
+        }
+    }
+    // An older tape has 0 in each; an object counted by its records, 2; an array, by all the records inside, 5.
+    refuse(&counted(&t, &[(0, 0), (2, 0), (3, 0)]));
+    refuse(&counted(&t, &[(3, 2)]));
+    refuse(&counted(&t, &[(0, 5)]));
+    // Twice 2^31 is 0 in 32 bits, and an empty object has no step.
+    let empty = rec(b"ob", &[(8, 1)]);
+    for count in [1 << 31, u32::MAX] {
+        assert_eq!(decode(&counted(&empty, &[(0, count)]), b""), None);
+    }
 }
 
 #[test]
