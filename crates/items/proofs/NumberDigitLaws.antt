@@ -5,7 +5,7 @@ use mathlib.Core.Bool.{Bool, true, false}
 use mathlib.Core.Logic.{inl, inr}
 use mathlib.Core.List.{List}
 use lib.Dec.{leb}
-use borrow.Author.Tests.{leb-true, leb-false}
+use borrow.Author.Tests.{leb-true, leb-false, lt-ltb, le-ltb, eq-eqb, ne-eqb}
 use native.Mathlib.Nat.{mul-le-mul-right, div-add-mod', mul-one, pow-suc, mul-assoc, mul-le-mul-left, pow-le-pow-right, zero-mul}
 use native.Mathlib.Numerals.{add-one}
 use native.Mathlib.Omega.{arith}
@@ -13,7 +13,7 @@ use lib.ListN.{length, getD}
 use Rattle.meaning.specs.Letters.{ch}
 use Rattle.meaning.specs.Limits.{coefficientLimit}
 use Rattle.machine.specs.Numeric.{dig}
-use Rattle.items.specs.Between.NumberOrTime.{Held, Holds, Shifted, Span, Capped}
+use Rattle.items.specs.Between.NumberOrTime.{Held, Holds, Shifted, Span, Capped, accOf, pushed, raisedBy}
 use Rattle.items.specs.declared.number.Acc.{Acc}
 use Rattle.items.specs.declared.number.Coef.{Coef}
 use Rattle.items.specs.declared.number.Coef.the-variants.{Fits, Over}
@@ -66,6 +66,45 @@ module _ (m c z b : ℕ) (l : ch "0" ≤ b) (u : b ≤ ch "9") (n : b ≡ ch "0"
     pub held-fits : (r : Coef) (v : ℕ) → Shifted (c * 10 ^ (z + 1)) r → r ≡ Fits v → Held (dig m b) (v + (b - ch "0")) false 0
     held-fits r v s e = let y = shifted-fits r v s e in (omega (arith, mul-one (v + (b - ch "0"))), inr (λ q. n (omega arith)))
 
+-- ---- the accumulator after one more digit
+
+module _ (a : Acc) (b : ℕ) where
+  pub pushed-zero : b ≡ ch "0" → accOf (a .c) (a .over) (a .z + 1) ≡ pushed a b
+  unfolding pushed
+  pushed-zero e = rw (eq-eqb b (ch "0") e)
+
+  module _ (n : b ≡ ch "0" → ⊥) where
+    pub pushed-large : a .over ≡ true → accOf 0 true 0 ≡ pushed a b
+    unfolding pushed
+    pushed-large o = rw (ne-eqb b (ch "0") n, o)
+
+    module _ (o : a .over ≡ false) where
+      past : coefficientLimit ≤ a .c * 10 ^ (a .z + 1) + (b - ch "0") → accOf 0 true 0 ≡ pushed a b
+      unfolding pushed
+      past h = rw (ne-eqb b (ch "0") n, o, le-ltb _ _ h)
+
+      fit : a .c * 10 ^ (a .z + 1) + (b - ch "0") < coefficientLimit → accOf (a .c * 10 ^ (a .z + 1) + (b - ch "0")) false 0 ≡ pushed a b
+      unfolding pushed
+      fit h = rw (ne-eqb b (ch "0") n, o, lt-ltb _ _ h)
+
+      pub pushed-over : (r : Coef) → Shifted (a .c * 10 ^ (a .z + 1)) r → r ≡ Over → accOf 0 true 0 ≡ pushed a b
+      pushed-over r (Shifted.fits k) e = let y : _≡_ {A = ℕ} 0 1 = cc in absurd (omega arith)
+      pushed-over r (Shifted.over k) e = past (omega arith)
+
+      shifted-value : (r : Coef) (v : ℕ) → Shifted (a .c * 10 ^ (a .z + 1)) r → r ≡ Fits v → v ≡ a .c * 10 ^ (a .z + 1)
+      shifted-value r v (Shifted.fits k) e = cc
+      shifted-value r v (Shifted.over k) e = let y : _≡_ {A = ℕ} 0 1 = cc in absurd (omega arith)
+
+      pub pushed-past : (r : Coef) (v : ℕ) → Shifted (a .c * 10 ^ (a .z + 1)) r → r ≡ Fits v → ch "0" ≤ b → b ≤ ch "9"
+          → 18446744073709551615 - (b - ch "0") < v → accOf 0 true 0 ≡ pushed a b
+      pushed-past r v s e l u k = past (omega (arith, shifted-value r v s e))
+
+      pub pushed-fits : (r : Coef) (v : ℕ) → Shifted (a .c * 10 ^ (a .z + 1)) r → r ≡ Fits v → ch "0" ≤ b → b ≤ ch "9"
+          → v ≤ 18446744073709551615 - (b - ch "0") → accOf (v + (b - ch "0")) false 0 ≡ pushed a b
+      pushed-fits r v s e l u k =
+          let f = shifted-value r v s e in
+          ap (λ (x : ℕ). accOf (x + (b - ch "0")) false 0) f ∙ fit (omega (arith, f))
+
 -- ---- digits
 
 pub span-next : (s : List ℕ) (i m j w b : ℕ) → b ≡ getD s j 0 → Span s i m j w → j < length s → ch "0" ≤ b → b ≤ ch "9" → Span s i m (j + 1) (dig w b)
@@ -88,6 +127,14 @@ capped-low w e b l h (inr q) = absurd (omega arith)
 pub capped-high : (w e b : ℕ) → 1000000000 ≤ e → Capped w e → Capped (dig w b) e
 capped-high w e b h (inl q) = inr (h, omega arith)
 capped-high w e b h (inr q) = inr (h, omega arith)
+
+pub raised-low : (e b : ℕ) → e < 1000000000 → e * 10 + (b - ch "0") ≡ raisedBy e b
+unfolding raisedBy
+raised-low e b h = rw (lt-ltb e 1000000000 h) (omega arith)
+
+pub raised-high : (e b : ℕ) → 1000000000 ≤ e → e ≡ raisedBy e b
+unfolding raisedBy
+raised-high e b h = rw (le-ltb e 1000000000 h)
 
 abbrev pub Rises : List ℕ → ℕ → ℕ → ℕ → Type 0
 Rises s from e i = (w : ℕ) × Span s from 0 i w × Capped w e

@@ -69,13 +69,13 @@ module _ (q : ℕ) (g : Bool) (m up dn : ℕ) where
       let o = only-one m up d (z + up) f n in
       by-parts d (z + up) x (positive m up d (z + up) f n) (o .0) (o .1) h
 
-  of-none : (c z : ℕ) → c ≡ 0 → Held m c false z → settle q g m up dn ≡ finite g 0 (pos 0)
+  pub of-none : (c z : ℕ) → c ≡ 0 → Held m c false z → settle q g m up dn ≡ finite g 0 (pos 0)
   of-none c z e h = settle-to (G.Finite.nought (h .0 ∙ ap (λ (y : ℕ). y * 10 ^ z) e ∙ zero-mul (10 ^ z))) q
 
-  of-over : (c z : ℕ) → Held m c true z → settle q g m up dn ≡ breaks (BadNumber q)
+  pub of-over : (c z : ℕ) → Held m c true z → settle q g m up dn ≡ breaks (BadNumber q)
   of-over c z h = by (h .0) z _ (h .1) (h .3) (rw (le-ltb (h .0) coefficientLimit (h .2)))
 
-  of-fits : (c z : ℕ) → (c ≡ 0 → ⊥) → c < coefficientLimit → Held m c false z → settle q g m up dn ≡ ranged q g c (z + up) dn
+  pub of-fits : (c z : ℕ) → (c ≡ 0 → ⊥) → c < coefficientLimit → Held m c false z → settle q g m up dn ≡ ranged q g c (z + up) dn
   of-fits c z n l h = go (h .1)
     where
       go : (c ≡ 0) ⊎ (c % 10 ≡ 0 → ⊥) → settle q g m up dn ≡ ranged q g c (z + up) dn
@@ -83,16 +83,16 @@ module _ (q : ℕ) (g : Bool) (m up dn : ℕ) where
       go (inr k) = by c z _ (h .0) k (rw (lt-ltb c coefficientLimit l))
 
 module _ (q : ℕ) (g : Bool) (c u dn : ℕ) where
-  in-up : dn ≤ u → u - dn ≤ powerLimit → ranged q g c u dn ≡ finite g c (pos (u - dn))
+  pub in-up : dn ≤ u → u - dn ≤ powerLimit → ranged q g c u dn ≡ finite g c (pos (u - dn))
   in-up h k = rw (le-leb dn u h, le-leb (u - dn) powerLimit k)
 
-  out-up : dn ≤ u → powerLimit < u - dn → ranged q g c u dn ≡ breaks (BadNumber q)
+  pub out-up : dn ≤ u → powerLimit < u - dn → ranged q g c u dn ≡ breaks (BadNumber q)
   out-up h k = rw (le-leb dn u h, lt-leb (u - dn) powerLimit k)
 
-  in-dn : u < dn → dn - u ≤ powerLimit → ranged q g c u dn ≡ finite g c (negsuc (dn - u - 1))
+  pub in-dn : u < dn → dn - u ≤ powerLimit → ranged q g c u dn ≡ finite g c (negsuc (dn - u - 1))
   in-dn h k = rw (lt-leb dn u h, le-leb (dn - u) powerLimit k)
 
-  out-dn : u < dn → powerLimit < dn - u → ranged q g c u dn ≡ breaks (BadNumber q)
+  pub out-dn : u < dn → powerLimit < dn - u → ranged q g c u dn ≡ breaks (BadNumber q)
   out-dn h k = rw (lt-leb dn u h, lt-leb (dn - u) powerLimit k)
 
 -- ---- what `settle` answers

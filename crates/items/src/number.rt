@@ -17,7 +17,7 @@ ghost use Rattle.machine.specs.Numeric.{dig};
 ghost use Rattle.items.specs.declared.Item.the-variants as Item;
 ghost use Rattle.items.specs.declared.Scanned.the-variants as Scanned;
 ghost use Rattle.items.specs.Between.NumberOrTime.{Reads, IsDigit, Place, Edge, Holds, Shifted, Digited, Capped};
-ghost use Rattle.items.specs.Between.NumberOrTime.{Powered, Ready, From, Settles, PlainSays, EndsSays, Hexed};
+ghost use Rattle.items.specs.Between.NumberOrTime.{pushed, raisedBy, Powered, Ready, From, Settles, PlainSays, EndsSays, Hexed};
 
 // Ten times a number above this is no coefficient.
 const TENTH: u64 = COEFFICIENT_MOST / 10;
@@ -107,6 +107,7 @@ pub fn push(a: Acc, b: u8) -> Acc
     requires { ⌜ IsDigit b × (a .z ≤ textLimit) ⌝ }
     ensures within { λ r. ⌜ r .z ≤ a .z + 1 ⌝ }
     ensures holds { λ r. ⌜ ((m : ℕ) → Holds m a → Holds (dig m b) r) ⌝ }
+    ensures told { λ r. ⌜ r ≡ pushed a b ⌝ }
 {
     if b == b'0' {
         return Acc {
@@ -156,10 +157,11 @@ fn digits(s: &[u8], from: usize, a: Acc) -> Run
 }
 
 // One more digit of an exponent, exact below a thousand million.
-fn raise(e: usize, b: u8) -> usize
+pub fn raise(e: usize, b: u8) -> usize
     requires { ⌜ IsDigit b × (e < 10000000000) ⌝ }
     ensures small { λ r. ⌜ r < 10000000000 ⌝ }
     ensures capped { λ r. ⌜ ((w : ℕ) → Capped w e → Capped (dig w b) r) ⌝ }
+    ensures told { λ r. ⌜ r ≡ raisedBy e b ⌝ }
 {
     if e < EXACT {
         return e * 10 + (b - b'0') as usize;

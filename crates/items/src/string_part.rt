@@ -6,7 +6,7 @@ ghost use Prim.Native.Nat.{ℕ, _+_, _≤_, _<_, _^_};
 ghost use lib.ListN.{length, getD};
 ghost use Rattle.meaning.specs.Letters.{ch};
 ghost use Rattle.machine.specs.Strings.{lineByte};
-ghost use Rattle.items.specs.Between.StringPart.{EscapeSays, Halved, Grown, CharSays, gap, BlockSays, Passed, Earlier};
+ghost use Rattle.items.specs.Between.StringPart.{EscapeSays, Halved, Grown, grownTo, CharSays, gap, BlockSays, Passed, Earlier};
 ghost use Rattle.items.specs.Between.StringPart.{InnerSays, OneSays, ThreeSays, PartSays, Begun, LinesSays};
 
 // What a part comes to: the store bytes put and the bytes taken; the backslash of the first bad escape; a byte that no
@@ -66,9 +66,10 @@ fn four(s: &[u8], at: usize) -> Escape
 }
 
 // 16 v + d, or a number past the last character where it is past it.
-fn grown(v: u32, d: u32) -> u32
+pub fn grown(v: u32, d: u32) -> u32
     requires { ⌜ d < 16 ⌝ }
     ensures { λ r. ⌜ Grown v d r ⌝ }
+    ensures told { λ r. ⌜ r ≡ grownTo v d ⌝ }
 {
     if v < 0x110000 {
         return 16 * v + d;
@@ -370,7 +371,7 @@ fn lines_start(s: &[u8]) -> usize
 }
 
 // Whether a byte may stand in a multiline part.
-fn line_byte(b: u8) -> bool
+pub fn line_byte(b: u8) -> bool
     ensures { λ r. ⌜ r ≡ lineByte b ⌝ }
 {
     if 0x20 <= b {

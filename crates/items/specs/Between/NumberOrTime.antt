@@ -2,10 +2,10 @@
 -- from the place and the state that each stands for. Assumes nothing.
 use Prim.Native.Nat.{ℕ, zero, suc, _+_, _*_, _-_, _≤_, _<_, _%_, _^_}
 use mathlib.Core.Path.{_≡_}
-use mathlib.Core.Bool.{Bool, true, false}
+use mathlib.Core.Bool.{Bool, true, false, cond}
 use mathlib.Core.Logic.{_⊎_}
 use mathlib.Core.List.{List}
-use lib.Dec.{eqb}
+use lib.Dec.{eqb, ltb}
 use lib.ListN.{length, getD, drop}
 use Rattle.rules.specs.Rfc3629.{In}
 use Rattle.meaning.specs.declared.Number.{Number}
@@ -105,6 +105,16 @@ Held m c true z = (d : ℕ) × (m ≡ d * 10 ^ z) × (coefficientLimit ≤ d) ×
 abbrev pub Holds : ℕ → Acc → Type 0
 Holds m a = Held m (a .c) (a .over) (a .z)
 
+abbrev pub accOf : ℕ → Bool → ℕ → Acc
+accOf c o z = record { c = c; over = o; z = z }
+
+-- one more digit, whatever the accumulator
+unfoldable pub pushed : Acc → ℕ → Acc
+pushed a b =
+    let v = a .c * 10 ^ (a .z + 1) + (b - ch "0") in
+    cond (eqb b (ch "0")) (accOf (a .c) (a .over) (a .z + 1))
+    (cond (a .over) (accOf 0 true 0) (cond (ltb v coefficientLimit) (accOf v false 0) (accOf 0 true 0)))
+
 -- a coefficient times a power of ten: it fits, or is too large to keep
 pub data Shifted (v : ℕ) : Coef → Type 0 where
   fits : v < coefficientLimit → Shifted v (Fits v)
@@ -149,6 +159,10 @@ TimelySays s at false = (byteAt s at ≡ ch ":" → ⊥) × (byteAt s at ≡ ch 
 -- a number below a thousand million, or any two that are not
 abbrev pub Capped : ℕ → ℕ → Type 0
 Capped w e = (e ≡ w) ⊎ ((1000000000 ≤ e) × (1000000000 ≤ w))
+
+-- one more digit of an exponent, exact below a thousand million
+unfoldable pub raisedBy : ℕ → ℕ → ℕ
+raisedBy e b = cond (ltb e 1000000000) (10 * e + (b - ch "0")) e
 
 -- an exponent's digits
 pub record Powered (s : List ℕ) (from : ℕ) (r : Power) : Type 0 where

@@ -5,7 +5,7 @@ use Prim.Native.Nat.{ℕ, zero, suc, _+_, _*_, _-_, _≤_, _<_}
 use mathlib.Core.Bool.{Bool, true, false, cond}
 use mathlib.Core.List.{List, [], _++_}
 use lib.ListN.{length, drop, take, getD}
-use lib.Dec.{eqb}
+use lib.Dec.{eqb, ltb}
 use lib.Seq.{sets}
 use Rattle.rules.specs.Rfc3629.{encode}
 use Rattle.meaning.specs.declared.Refusal.the-variants.{NotGrammar, BadEscape}
@@ -99,6 +99,10 @@ pub data Like (v w : ℕ) : Type 0 where
 
 abbrev pub Grown : ℕ → ℕ → ℕ → Type 0
 Grown v d r = (w : ℕ) → Like v w → Like r (16 * w + d)
+
+-- one more digit; a number past the last character stays past it
+unfoldable pub grownTo : ℕ → ℕ → ℕ
+grownTo v d = cond (ltb v 0x110000) (16 * v + d) 0x110000
 
 -- an escape, or a pair of them, where no high surrogate waits: the character c
 pub record Read (s : List ℕ) (at next c : ℕ) : Type 0 where

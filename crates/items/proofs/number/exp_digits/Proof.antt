@@ -56,7 +56,7 @@ loop-again c = (
   rises-next (c .before .before .before .before .before .before .before .args .s .now)
       (c .before .before .before .before .before .before .before .args .from) (c .before .before .before .before .before .loop .e) (c .raise .result)
       (c .before .before .before .before .before .loop .i) _ refl (c .before .before .before .before .before .loop .inv .3)
-      (c .before .before .before .before .loop-test .taken) (omega arith) (omega arith) (c .raise .ensures .1),
+      (c .before .before .before .before .loop-test .taken) (omega arith) (omega arith) (c .raise .ensures .1 .0),
 )
 
 returns-3 : tie.Need-returns-3 Inv-loop μ-loop

@@ -34,7 +34,7 @@ add-at c = omega (arith, c .before .before .before .pre .short)
 loop-holds : tie.Need-loop-holds Inv-loop μ-loop
 loop-holds c = among-start (c .before .before .before .args .s .now) (c .before .before .before .args .q) (record { c = 0; over = false; z = 0 })
     (c .push .result) (c .before .before .before .pre .within) (c .before .before .before .pre .digit) refl (c .push .ensures .0) (refl, inl refl)
-    (c .push .ensures .1)
+    (c .push .ensures .1 .0)
 
 returns : tie.Need-returns Inv-loop μ-loop
 returns c = among-says _ _ _ _ _ _ (c .before .before .loop .inv) (inl (omega (arith, c .before .before .loop .inv .most)))
@@ -81,7 +81,7 @@ loop-again c = among-next (c .before .before .before .before .before .before .be
     (c .before .before .before .before .before .before .before .before .before .before .args .q) (c .before .before .before .before .before .before .loop .acc)
     (c .push2 .result) (c .before .before .before .before .before .before .loop .v) (c .before .before .before .before .before .before .loop .n)
     (c .before .before .before .before .before .before .loop .at) (c .before .before .before .before .before .before .loop .inv) (omega arith)
-    (c .before .before .before .before .before .loop-test .taken) (omega arith) (omega arith) (c .push2 .ensures .0) (c .push2 .ensures .1)
+    (c .before .before .before .before .before .loop-test .taken) (omega arith) (omega arith) (c .push2 .ensures .0) (c .push2 .ensures .1 .0)
 
 returns-4 : tie.Need-returns-4 Inv-loop μ-loop
 returns-4 c = among-says _ _ _ _ _ _ (c .before .loop .inv) (inr (Edge.ends (omega arith)))

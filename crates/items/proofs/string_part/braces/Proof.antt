@@ -109,7 +109,7 @@ loop-again c = brace-more (c .before .before .before .before .before .before .be
     (c .before .before .before .before .before .before .before .before .before .before .args .at) (c .before .before .before .before .before .before .loop .p)
     (c .before .before .before .before .before .before .loop .v) (c .before .before .before .before .before .before .loop .inv)
     (c .before .before .before .before .before .if2 .left) (c .before .before .before .if3 .left) (c .before .before .digit2 .result)
-    (c .before .before .digit2 .ensures) (c .before .if7 .left) (c .grown .result) (c .grown .ensures)
+    (c .before .before .digit2 .ensures) (c .before .if7 .left) (c .grown .result) (c .grown .ensures .0)
 
 pub braces-spec : {M : Type 1} → statement M
 braces-spec =
