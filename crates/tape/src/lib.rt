@@ -2,7 +2,7 @@
 mod fields;
 mod four_words;
 mod judging;
-mod little_endian;
+pub mod little_endian;
 
 ghost use mathlib.Core.Path.{_≡_};
 ghost use Rattle.tape.specs.Between.Putting.{putRecord};

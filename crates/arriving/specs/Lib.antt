@@ -1,0 +1,2 @@
+-- Nothing here has to be believed.
+pub mod Between
