@@ -39,7 +39,7 @@
 #include <stdint.h>
 
 /* One more whenever a call, a struct, a number or a meaning here changes or is added. */
-#define LR_VERSION 2
+#define LR_VERSION 3
 
 #ifdef __cplusplus
 extern "C" {
@@ -147,6 +147,16 @@ lr_sizes lanternrung_measure(const uint8_t *text, size_t text_length);
 /* The text's meaning into the tape and the store, from their start; what lies past it is as it was. As measure, then 8, then 9. */
 lr_sizes lanternrung_read(const uint8_t *text, size_t text_length, uint8_t *tape, size_t tape_length, uint8_t *store,
                           size_t store_length);
+
+/* A check of a text while it arrives, in parts cut anywhere, inside a character or an escape too. Start, feed each part, finish: the finish
+ * answers what measure answers for the parts joined. A part may have no length. The state is LR_CHECK_BYTES bytes that you lend, however long
+ * the text is. It may be copied, and several checks may go side by side; a finish does not spend it, and a start begins anew. A longer state is
+ * used from its start, and what lies past it is unchanged; of a shorter one the missing bytes count as zero. A state that did not come from a
+ * start by feeding gets some answer, which means nothing. */
+#define LR_CHECK_BYTES 640
+void lanternrung_check_start(uint8_t *state, size_t state_length);
+void lanternrung_check_feed(uint8_t *state, size_t state_length, const uint8_t *part, size_t part_length);
+lr_sizes lanternrung_check_finish(const uint8_t *state, size_t state_length);
 
 /* The record at this index: 14, then 10. */
 lr_record lanternrung_look(const uint8_t *tape, size_t tape_length, const uint8_t *store, size_t store_length, uint64_t index);

@@ -3,10 +3,10 @@
 use mathlib.Core.Path.{_≡_}
 use mathlib.Core.Logic.{_↔_}
 use mathlib.Core.Bool.{true}
-use mathlib.Core.List.{List}
+use mathlib.Core.List.{List, [], _++_}
 use mathlib.Core.Option.{none}
 use Prim.Native.Nat.{ℕ, _*_, _/_, _≤_}
-use lib.ListN.{length, take}
+use lib.ListN.{length, take, drop}
 use Rattle.rules.specs.declared.Utf8Answer.{Utf8Answer}
 use Rattle.rules.specs.declared.DateAnswer.{DateAnswer}
 use Rattle.rules.specs.Rfc3629.{Judged}
@@ -14,7 +14,7 @@ use Rattle.rules.specs.Rfc3339.{Dated}
 use Rattle.meaning.specs.declared.Refusal.{Refusal}
 use Rattle.meaning.specs.Bytes.{laid}
 use Rattle.meaning.specs.Canonical.{canonical}
-use Rattle.meaning.specs.Good.{Good}
+use Rattle.meaning.specs.Good.{Good, Bytes}
 use Rattle.meaning.specs.Json.{noJson}
 use Rattle.meaning.specs.Limits.{textLimit}
 use Rattle.meaning.specs.Meaning.{Meaning}
@@ -26,6 +26,8 @@ use Rattle.tape.specs.declared.Looked.{Looked}
 use Rattle.tape.specs.Looking.{Looks}
 use Rattle.reader.specs.declared.Answer.{Answer}
 use Rattle.reader.specs.Answers.{tapeBytes, Measures, Reads}
+use Rattle.arriving.specs.declared.Check.{Check}
+use Rattle.arriving.specs.Between.Arriving.{started, fed, feds, ended, joined}
 use Rattle.writer.specs.declared.Written.{Written}
 use Rattle.writer.specs.Written.{WritesJaxn, WritesJson}
 use Rattle.lanternrung.specs.declared.exports.Status.{Status}
@@ -33,6 +35,7 @@ use Rattle.lanternrung.specs.declared.exports.Sizes.{Sizes}
 use Rattle.lanternrung.specs.declared.exports.Text.{Text as TextStruct}
 use Rattle.lanternrung.specs.declared.exports.Fields.{Fields}
 use Rattle.lanternrung.specs.Told.{Utf8Told, DateTold, MeasureTold, ReadTold, LookTold, JaxnTold, JsonTold}
+use Rattle.lanternrung.specs.Told.{CheckStartTold, CheckFeedTold, CheckFinishTold}
 
 -- ---- reading
 
@@ -165,6 +168,37 @@ pub record ReadBack : Type 0 where
       → WritesJson tape store out (Written.Wrote n) out' → length t ≡ length tape → length s ≡ length store
       → Reads (take n out') t s a t' s' → Again tape store a t' s'
 
+-- ---- a text in parts
+
+-- the check that `check_start` and then `check_feed` answer, after all of the text has come in parts, cut anywhere
+pub data Came : List ℕ → Check → Type 0 where
+  start : Came [] started
+  feed : {text : List ℕ} {c : Check} (part : List ℕ) → Came text c → Came (text ++ part) (fed c part)
+
+-- the bytes of a state, once there are enough of them
+abbrev pub stateBytes : ℕ
+stateBytes = 640
+
+-- the bytes that C keeps, after the same two calls: whatever they held before the start; and copied elsewhere
+pub data CameC : List ℕ → List ℕ → Type 0 where
+  start : {held state : List ℕ} → stateBytes ≤ length held → CheckStartTold held state → CameC [] state
+  feed : {text state state' : List ℕ} (part : List ℕ) → CameC text state → CheckFeedTold state part state'
+      → CameC (text ++ part) state'
+  copied : {text state other : List ℕ} → CameC text state → stateBytes ≤ length other
+      → take stateBytes other ≡ take stateBytes state → CameC text other
+
+-- checked: for every list of parts, and however a check was come by, the finish answers what `measure` answers for the
+-- parts joined; nothing past the state's bytes is written, and no more bytes than there are
+pub record Checked : Type 0 where
+  pub parts : (ps : List (List ℕ)) → Bytes (joined ps) → Measures (joined ps) (ended (feds started ps))
+  pub finish : {text : List ℕ} {c : Check} → Came text c → Bytes text → Measures text (ended c)
+  pub finish-c : {text state : List ℕ} {r : Sizes} → CameC text state → Bytes text → CheckFinishTold state r
+      → MeasureTold text r
+  pub start-past : {state state' : List ℕ} → CheckStartTold state state'
+      → (length state' ≡ length state) × (drop stateBytes state' ≡ drop stateBytes state)
+  pub feed-past : {state state' : List ℕ} (part : List ℕ) → CheckFeedTold state part state'
+      → (length state' ≡ length state) × (drop stateBytes state' ≡ drop stateBytes state)
+
 -- ---- every call
 
 -- untouched: after a refusal each lent buffer holds what it held before the call; the other calls are lent none to
@@ -197,6 +231,9 @@ pub record OneOutcome : Type 0 where
   pub look : (tape store : List ℕ) (index : ℕ) → Single (Looks tape store index)
   pub write-jaxn : (tape store out : List ℕ) → Single₁ (WritesJaxn tape store out)
   pub write-json : (tape store out : List ℕ) → Single₁ (WritesJson tape store out)
+  pub check-start : Single (λ (c : Check). c ≡ started)
+  pub check-feed : (c : Check) (part : List ℕ) → Single (λ (d : Check). d ≡ fed c part)
+  pub check-finish : (c : Check) → Single (λ (a : Answer). a ≡ ended c)
 
 -- one-outcome-c-..: the same of the calls for C
 pub record OneOutcomeC : Type 0 where
@@ -207,6 +244,9 @@ pub record OneOutcomeC : Type 0 where
   pub look : (tape store : List ℕ) (index : ℕ) → Single (LookTold tape store index)
   pub write-jaxn : (tape store out : List ℕ) → Single₁ (JaxnTold tape store out)
   pub write-json : (tape store out : List ℕ) → Single₁ (JsonTold tape store out)
+  pub check-start : (state : List ℕ) → Single (CheckStartTold state)
+  pub check-feed : (state part : List ℕ) → Single (CheckFeedTold state part)
+  pub check-finish : (state : List ℕ) → Single (CheckFinishTold state)
 
 -- calls-for-c: where `refused` is 0 the library's answer is done, with these counts; where it is not, each lent buffer
 -- is as it was

@@ -3,6 +3,7 @@
 use mathlib.Core.Path.{_≡_}
 use mathlib.Core.List.{List}
 use Prim.Native.Nat.{ℕ, _+_}
+use lib.Seq.{sets}
 use lib.IntN.{ℤ, pos}
 use Rattle.rules.specs.declared.Utf8Answer.{Utf8Answer}
 use Rattle.rules.specs.declared.DateAnswer.{DateAnswer}
@@ -26,6 +27,9 @@ use Rattle.tape.specs.Looking.{Looks}
 use Rattle.writer.specs.declared.Written.{Written}
 use Rattle.writer.specs.declared.Written.the-variants as written
 use Rattle.writer.specs.Written.{WritesJaxn, WritesJson}
+use Rattle.arriving.specs.declared.Check.{Check}
+use Rattle.arriving.specs.Between.Arriving.{started, fed, ended}
+use Rattle.arriving.specs.Between.Packing.{packed, unpacked, padded}
 use Rattle.lanternrung.specs.declared.exports.Status.{Status}
 use Rattle.lanternrung.specs.declared.exports.Sizes.{Sizes}
 use Rattle.lanternrung.specs.declared.exports.Text.{Text}
@@ -139,3 +143,23 @@ JaxnTold tape store out r out' = Handed (λ a. WritesJaxn tape store out a out')
 
 abbrev pub JsonTold : List ℕ → List ℕ → List ℕ → Text → List ℕ → Type 0
 JsonTold tape store out r out' = Handed (λ a. WritesJson tape store out a out') textOf r
+
+-- ---- a check of a text in parts: its state lies in the bytes that C lends
+
+-- the check c is put over the first bytes, as far as there are any, and comes back out of them
+pub record Keeps (c : Check) (state state' : List ℕ) : Type 0 where
+  pub put : state' ≡ sets state 0 (packed c)
+  pub back : unpacked (packed c) ≡ c
+
+-- the check that lies in lent bytes: those that are missing count as zero
+abbrev pub keptIn : List ℕ → Check
+keptIn state = unpacked (padded state)
+
+abbrev pub CheckStartTold : List ℕ → List ℕ → Type 0
+CheckStartTold state state' = Keeps started state state'
+
+abbrev pub CheckFeedTold : List ℕ → List ℕ → List ℕ → Type 0
+CheckFeedTold state part state' = Keeps (fed (keptIn state) part) state state'
+
+abbrev pub CheckFinishTold : List ℕ → Sizes → Type 0
+CheckFinishTold state r = r ≡ sizesOf (ended (keptIn state))

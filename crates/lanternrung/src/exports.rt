@@ -3,8 +3,10 @@ ghost use mathlib.Core.Path.{_≡_};
 ghost use Rattle.meaning.specs.Bytes.{flag};
 ghost use Rattle.lanternrung.specs.Told.{sizesOf, textOf, refusedFields, plainFields, containerFields, numberFields, datedFields, timeFields, fieldsOf};
 ghost use Rattle.lanternrung.specs.Told.{Utf8Told, DateTold, MeasureTold, ReadTold, LookTold, JaxnTold, JsonTold};
+ghost use Rattle.lanternrung.specs.Told.{CheckStartTold, CheckFeedTold, CheckFinishTold};
 use crate::number;
 use crate::place;
+use arriving::packing;
 use meaning::Date;
 use meaning::Number;
 use meaning::Record;
@@ -348,4 +350,28 @@ pub extern "C" fn lanternrung_write_json(tape: &[u8], store: &[u8], out: &mut [u
     ensures { λ r. ⌜ JsonTold (now (tape .entry)) (now (store .entry)) (now (out .entry)) r (now (out .exit)) ⌝ }
 {
     text_of(writer::write_json(tape, store, out))
+}
+
+// A check of a text in parts begins: its state is put into the first bytes lent, whatever they held.
+#[no_mangle]
+pub extern "C" fn lanternrung_check_start(state: &mut [u8])
+    ensures { λ _. ⌜ CheckStartTold (now (state .entry)) (now (state .exit)) ⌝ }
+{
+    packing::keep(arriving::check_start(), state);
+}
+
+// The next part of the text.
+#[no_mangle]
+pub extern "C" fn lanternrung_check_feed(state: &mut [u8], part: &[u8])
+    ensures { λ _. ⌜ CheckFeedTold (now (state .entry)) (now (part .entry)) (now (state .exit)) ⌝ }
+{
+    packing::keep(arriving::check_feed(packing::kept(state), part), state);
+}
+
+// What `lanternrung_measure` hands over for the parts joined. The state stays as it is.
+#[no_mangle]
+pub extern "C" fn lanternrung_check_finish(state: &[u8]) -> Sizes
+    ensures { λ r. ⌜ CheckFinishTold (now (state .entry)) r ⌝ }
+{
+    sizes_of(arriving::check_finish(packing::kept(state)))
 }

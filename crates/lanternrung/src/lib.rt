@@ -5,6 +5,10 @@ ghost use Rattle.meaning.specs.Paper.{numberOf, placeOf};
 
 pub mod exports;
 
+pub use arriving::Check;
+pub use arriving::check_feed;
+pub use arriving::check_finish;
+pub use arriving::check_start;
 pub use meaning::Date;
 pub use meaning::Number;
 pub use meaning::Record;

@@ -17,6 +17,7 @@ use Rattle.lanternrung.specs.declared.exports.Sizes.{Sizes}
 use Rattle.lanternrung.specs.declared.exports.Text.{Text}
 use Rattle.lanternrung.specs.declared.exports.Fields.{Fields}
 use Rattle.lanternrung.specs.Told.{sizesOf, textOf, lookedFields, statusOf, Utf8Told, DateTold, MeasureTold, ReadTold, LookTold, JaxnTold, JsonTold}
+use Rattle.lanternrung.specs.Told.{CheckStartTold, CheckFeedTold, CheckFinishTold}
 use Rattle.lanternrung.specs.Claims.{OneOutcomeC, CallsForC}
 use Rattle.lanternrung.proofs.Claims.Outcomes.{untouched, one-outcome-utf8, one-outcome-date, one-outcome-measure, one-outcome-read, one-outcome-look}
 use Rattle.lanternrung.proofs.Claims.Outcomes.{one-outcome-write-jaxn, one-outcome-write-json}
@@ -47,6 +48,15 @@ pub one-outcome-c-write-json : {tape store out : List ℕ} {a b : Text} {x y : L
     × (x ≡ y)
 one-outcome-c-write-json p q = let e = one-outcome-write-json (p .allowed) (q .allowed) in (p .told ∙ ap textOf (e .0) ∙ sym (q .told), e .1)
 
+pub one-outcome-c-check-start : {state x y : List ℕ} → CheckStartTold state x → CheckStartTold state y → x ≡ y
+one-outcome-c-check-start p q = p .put ∙ sym (q .put)
+
+pub one-outcome-c-check-feed : (state part : List ℕ) {x y : List ℕ} → CheckFeedTold state part x → CheckFeedTold state part y → x ≡ y
+one-outcome-c-check-feed state part p q = p .put ∙ sym (q .put)
+
+pub one-outcome-c-check-finish : (state : List ℕ) {a b : Sizes} → CheckFinishTold state a → CheckFinishTold state b → a ≡ b
+one-outcome-c-check-finish state p q = p ∙ sym q
+
 pub one-outcome-c : OneOutcomeC
 one-outcome-c =
     record {
@@ -57,6 +67,9 @@ one-outcome-c =
       look = λ tape store index a b p q. one-outcome-c-look p q;
       write-jaxn = λ tape store out a b x y p q. one-outcome-c-write-jaxn p q;
       write-json = λ tape store out a b x y p q. one-outcome-c-write-json p q;
+      check-start = λ state x y p q. one-outcome-c-check-start p q;
+      check-feed = λ state part x y p q. one-outcome-c-check-feed state part p q;
+      check-finish = λ state a b p q. one-outcome-c-check-finish state p q;
     }
 
 -- ---- where `refused` is 0 the library's answer is done, with these counts; where it is not, each lent buffer is as it was

@@ -2,7 +2,7 @@
 -- Assumes nothing.
 use mathlib.Core.Path.{_≡_, refl, sym, ap, _∙_, subst}
 use mathlib.Core.Bool.{true, false}
-use mathlib.Core.List.{List, [], _∷_, _++_}
+use mathlib.Core.List.{List, [], _∷_, _++_, append-nil}
 use mathlib.Core.Option.{none as nowhere}
 use Prim.Native.Nat.{ℕ, _*_, _≤_, _<_, _^_}
 use native.Mathlib.Omega.{arith}
@@ -41,6 +41,7 @@ use Rattle.grammar.proofs.Utf8.{text-octets}
 use Rattle.grammar.proofs.Good.{text-good}
 use Rattle.grammar.proofs.Sizes.{text-fits}
 use Rattle.grammar.proofs.Canonical.{text-derived}
+use Rattle.arriving.specs.Between.Arriving.{joined}
 use Rattle.tape.specs.declared.Looked.{Looked}
 use Rattle.tape.specs.Looking.{Looks}
 use Rattle.meaning.specs.Between.Words.{get}
@@ -58,6 +59,7 @@ use Rattle.lanternrung.proofs.Claims.PList.{P-list, slips-hold}
 use Rattle.lanternrung.specs.Claims.{Counted, Takes, Holds, Room, Wrote, Prints}
 use Rattle.lanternrung.specs.Trials.Impostors.{Lent, Measurer, KeepsMeasure, Reader, KeepsRead, Writer, KeepsJaxn, KeepsJson}
 use Rattle.lanternrung.specs.Trials.Impostors.{Looker, KeepsLook, KeepsUtf8, Calendar, KeepsDate, WritesOnly, olderTape, Impostors}
+use Rattle.lanternrung.specs.Trials.Impostors.{Checker, answers, KeepsCheck}
 use Rattle.lanternrung.proofs.Claims.Reading.{accepted, measured}
 use Rattle.lanternrung.proofs.Claims.Writing.{written}
 
@@ -291,6 +293,44 @@ counts-all f g k =
     let d = g [] in
     subst (Says 3 0) (d .2) (x .measured (f []) (k [] (record { each = tt; few = lit< tt })))
 
+-- ---- a text in parts
+
+module _ (f : Checker) (k : KeepsCheck f) where
+  counted-parts : {m : Meaning} → Small m → (ps : List (List ℕ)) → canonical m ≡ joined ps → answers f ps ≡ Answer.Counts (records m) (bytes m)
+  counted-parts {m} s ps e =
+      let x : Text true (joined ps) m = subst (λ (t : List ℕ). Text true t m) e (derived s) in
+      measured (k ps (text-lent x)) .then m x .answer
+
+  -- two texts of one and of two records are not told apart
+  not-apart : (ps qs : List (List ℕ)) → canonical null ≡ joined ps → canonical (array (more none null)) ≡ joined qs → answers f ps ≡ answers f qs → ⊥
+  unfolding records
+  not-apart ps qs d e same =
+      let p = counted-parts small-null ps d in
+      let q = counted-parts small-array qs e in
+      let z : records null ≡ records (array (more none null)) = cc in
+      omega arith
+
+alone : (t : List ℕ) → t ≡ joined (t ∷ [])
+alone t = sym (append-nil t)
+
+one-answer : (f : Checker) (a : Answer) → ((ps : List (List ℕ)) → answers f ps ≡ a) → KeepsCheck f → ⊥
+one-answer f a g k =
+    let x = canonical null in
+    let y = canonical (array (more none null)) in
+    not-apart f k (x ∷ []) (y ∷ []) (alone x) (alone y) (g (x ∷ []) ∙ sym (g (y ∷ [])))
+
+forgets : (f : Checker) → ((s p : List ℕ) → f .feed s p ≡ f .feed (f .start) p) → KeepsCheck f → ⊥
+forgets f g k =
+    let x = canonical null in
+    let y = canonical (array (more none null)) in
+    not-apart f k (x ∷ [] ∷ []) (y ∷ [] ∷ []) (alone x) (alone y) (ap (f .finish) (g (f .feed (f .start) x) [] ∙ sym (g (f .feed (f .start) y) [])))
+
+first-only : (f : Checker) → ((s p q : List ℕ) → f .feed (f .feed s p) q ≡ f .feed s p) → KeepsCheck f → ⊥
+first-only f g k =
+    let x = canonical null in
+    let y = canonical (array (more none null)) in
+    not-apart f k ([] ∷ x ∷ []) ([] ∷ y ∷ []) (alone x) (alone y) (ap (f .finish) (g (f .start) [] x ∙ sym (g (f .start) [] y)))
+
 -- ---- look, utf8, date
 
 looked : {m : Meaning} (s : Small m) (f : Looker) → KeepsLook f → 0 < records m → f (tapeOf m) (storeOf m) 0
@@ -379,6 +419,9 @@ impostors =
       counts-all = counts-all;
       misplaces = misplaces;
       misplaces-reading = misplaces-reading;
+      one-answer = one-answer;
+      forgets = forgets;
+      first-only = first-only;
       looks-null = looks-null;
       looks-nowhere = looks-nowhere;
       all-utf8 = all-utf8;

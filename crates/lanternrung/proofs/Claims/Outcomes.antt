@@ -1,5 +1,5 @@
 -- untouched, one-outcome-X: what each promise says of every input, refused ones too. Assumes nothing.
-use mathlib.Core.Path.{_≡_, refl}
+use mathlib.Core.Path.{_≡_, refl, sym, _∙_}
 use mathlib.Core.List.{List}
 use Prim.Native.Nat.{ℕ}
 use Rattle.rules.specs.declared.Utf8Answer.{Utf8Answer}
@@ -14,6 +14,8 @@ use Rattle.tape.proofs.Outcomes as tapes
 use Rattle.reader.specs.declared.Answer.{Answer}
 use Rattle.reader.specs.Answers.{Measures, Reads}
 use Rattle.reader.proofs.Claims as reader
+use Rattle.arriving.specs.declared.Check.{Check}
+use Rattle.arriving.specs.Between.Arriving.{started, fed, ended}
 use Rattle.writer.specs.declared.Written.{Written}
 use Rattle.writer.specs.Written.{WritesJaxn, WritesJson}
 use Rattle.writer.proofs.Outcomes as writer
@@ -55,6 +57,19 @@ pub one-outcome-write-json : {tape store out : List ℕ} {a b : Written} {x y : 
     × (x ≡ y)
 one-outcome-write-json = writer.one-outcome-json
 
+-- a promise that is an equation
+same : {A : Type 0} {a b c : A} → a ≡ c → b ≡ c → a ≡ b
+same p q = p ∙ sym q
+
+pub one-outcome-check-start : {a b : Check} → a ≡ started → b ≡ started → a ≡ b
+one-outcome-check-start = same
+
+pub one-outcome-check-feed : (c : Check) (part : List ℕ) {a b : Check} → a ≡ fed c part → b ≡ fed c part → a ≡ b
+one-outcome-check-feed c part = same
+
+pub one-outcome-check-finish : (c : Check) {a b : Answer} → a ≡ ended c → b ≡ ended c → a ≡ b
+one-outcome-check-finish c = same
+
 pub one-outcome : OneOutcome
 one-outcome =
     record {
@@ -65,4 +80,7 @@ one-outcome =
       look = λ tape store index a b p q. one-outcome-look p q;
       write-jaxn = λ tape store out a b x y p q. one-outcome-write-jaxn p q;
       write-json = λ tape store out a b x y p q. one-outcome-write-json p q;
+      check-start = λ a b p q. one-outcome-check-start p q;
+      check-feed = λ c part a b p q. one-outcome-check-feed c part p q;
+      check-finish = λ c a b p q. one-outcome-check-finish c p q;
     }

@@ -21,6 +21,7 @@ use Rattle.tape.specs.declared.Looked.{Looked}
 use Rattle.tape.specs.Looking.{Looks}
 use Rattle.reader.specs.declared.Answer.{Answer}
 use Rattle.reader.specs.Answers.{Measures, Reads}
+use Rattle.arriving.specs.Between.Arriving.{joined}
 use Rattle.writer.specs.declared.Written.{Written}
 use Rattle.writer.specs.Written.{WritesJaxn, WritesJson}
 use Rattle.lanternrung.specs.Claims.{Counted, Takes, Holds, Wrote, Prints}
@@ -74,6 +75,23 @@ Calendar = ℕ → ℕ → ℕ → DateAnswer
 abbrev pub KeepsDate : Calendar → Type 0
 KeepsDate f = (y m d : ℕ) → y < 2 ^ 64 → m < 2 ^ 64 → d < 2 ^ 64 → Dated y m d (f y m d)
 
+-- a check of a text in parts: its state at the start, after a part, and what it answers at the end
+pub record Checker : Type 0 where
+  pub start : List ℕ
+  pub feed : List ℕ → List ℕ → List ℕ
+  pub finish : List ℕ → Answer
+
+-- the state s after these parts
+abbrev pub after : Checker → List ℕ → List (List ℕ) → List ℕ
+after f s [] = s
+after f s (p ∷ ps) = after f (f .feed s p) ps
+
+abbrev pub answers : Checker → List (List ℕ) → Answer
+answers f ps = f .finish (after f (f .start) ps)
+
+abbrev pub KeepsCheck : Checker → Type 0
+KeepsCheck f = (ps : List (List ℕ)) → Lent (joined ps) → Measures (joined ps) (answers f ps)
+
 -- whatever it writes is the text t
 abbrev pub WritesOnly : List ℕ → Writer → Type 0
 WritesOnly t f = (tape store out : List ℕ) (n : ℕ) → f tape store out .0 ≡ Written.Wrote n → f tape store out .1 ≡ t
@@ -125,6 +143,11 @@ pub record Impostors : Type 0 where
       → (f text ≡ Answer.Refused why → ⊥) → KeepsMeasure f → ⊥
   pub misplaces-reading : (f : Reader) {text : List ℕ} {why : Refusal} → Lent text → Text-refused text why
       → (f text [] [] .0 ≡ Answer.Refused why → ⊥) → KeepsRead f → ⊥
+  -- a check that answers the same whatever parts come; one that forgets all but the last part; one that takes the first
+  -- part only
+  pub one-answer : (f : Checker) (a : Answer) → ((ps : List (List ℕ)) → answers f ps ≡ a) → KeepsCheck f → ⊥
+  pub forgets : (f : Checker) → ((s p : List ℕ) → f .feed s p ≡ f .feed (f .start) p) → KeepsCheck f → ⊥
+  pub first-only : (f : Checker) → ((s p q : List ℕ) → f .feed (f .feed s p) q ≡ f .feed s p) → KeepsCheck f → ⊥
   -- a look that answers `null` for all, or refuses all
   pub looks-null : (f : Looker) → ((tape store : List ℕ) (index : ℕ) → index < wholeRecords tape → f tape store index
       ≡ Looked.Record Record.Null) → KeepsLook f → ⊥

@@ -1,0 +1,101 @@
+-- checked: a text that came in parts, cut anywhere, is answered for as `measure` answers for it; by Rattle's calls and by those for C.
+-- Assumes nothing.
+use mathlib.Core.Path.{_≡_, refl, sym, ap, _∙_, subst}
+use mathlib.Core.List.{List, [], _∷_, _++_, append-assoc, append-nil}
+use Prim.Native.Nat.{ℕ, _≤_, _<_}
+use native.Mathlib.Omega.{arith}
+use lib.ListN.{length, drop}
+use lib.Seq.{length-sets}
+use Rattle.rules.proofs.Characters.{Each, all-none, all-more}
+use Rattle.meaning.specs.Good.{Bytes}
+use Rattle.reader.specs.Answers.{Measures}
+use Rattle.arriving.specs.declared.Check.{Check}
+use Rattle.arriving.specs.Between.Arriving.{started, fed, feds, ended, joined}
+use Rattle.arriving.specs.Between.Packing.{packed, unpacked, padded}
+use Rattle.arriving.proofs.Checked.{checked-measures}
+use Rattle.arriving.proofs.PackingStateLaws.{padded-long, state-back, state-past}
+use Rattle.lanternrung.specs.Told.{Keeps, keptIn}
+use Rattle.lanternrung.specs.Claims.{Came, CameC, Checked}
+
+each-byte : (s : List ℕ) → Bytes s → Each (λ (b : ℕ). b < 256) s
+each-byte [] h = all-none
+each-byte (b ∷ s) h = all-more (h .0) (each-byte s (h .1))
+
+-- ---- one part more
+
+joined-more : (ps : List (List ℕ)) (p : List ℕ) → joined (ps ++ (p ∷ [])) ≡ joined ps ++ p
+joined-more [] p = append-nil p
+joined-more (q ∷ ps) p = ap (λ (s : List ℕ). q ++ s) (joined-more ps p) ∙ sym (append-assoc q (joined ps) p)
+
+feds-more : (c : Check) (ps : List (List ℕ)) (p : List ℕ) → feds c (ps ++ (p ∷ [])) ≡ fed (feds c ps) p
+unfolding feds
+feds-more c [] p = refl
+feds-more c (q ∷ ps) p = feds-more (fed c q) ps p
+
+-- the parts that a check has come from
+record Parts (text : List ℕ) (c : Check) : Type 0 where
+  parts : List (List ℕ)
+  joins : joined parts ≡ text
+  comes : feds started parts ≡ c
+
+none-yet : Parts [] started
+unfolding feds
+none-yet = record { parts = []; joins = refl; comes = refl }
+
+one-more : {text : List ℕ} {c : Check} (p : List ℕ) → Parts text c → Parts (text ++ p) (fed c p)
+one-more p x =
+    record {
+      parts = x .parts ++ (p ∷ []);
+      joins = joined-more (x .parts) p ∙ ap (λ (s : List ℕ). s ++ p) (x .joins);
+      comes = feds-more started (x .parts) p ∙ ap (λ (c : Check). fed c p) (x .comes);
+    }
+
+came : {text : List ℕ} {c : Check} → Came text c → Parts text c
+came Came.start = none-yet
+came (Came.feed p x) = one-more p (came x)
+
+-- ---- the bytes that C keeps
+
+record PartsC (text state : List ℕ) : Type 0 where
+  enough : 640 ≤ length state
+  of : Parts text (keptIn state)
+
+kept-enough : {c : Check} {s t : List ℕ} → Keeps c s t → 640 ≤ length s → 640 ≤ length t
+kept-enough {c} {s} k h = omega (arith, ap length (k .put), length-sets s 0 (packed c))
+
+kept-is : {c : Check} {s t : List ℕ} → Keeps c s t → 640 ≤ length s → keptIn t ≡ c
+kept-is {c} {s} k h = ap (λ (x : List ℕ). keptIn x) (k .put) ∙ state-back s c (k .back) h
+
+came-c : {text state : List ℕ} → CameC text state → PartsC text state
+came-c (CameC.start h k) = record { enough = kept-enough k h; of = subst (Parts []) (sym (kept-is k h)) none-yet }
+came-c (CameC.feed {text} {state} part x k) =
+    let y = came-c x in
+    record {
+      enough = kept-enough k (y .enough);
+      of = subst (Parts (text ++ part)) (sym (kept-is k (y .enough))) (one-more part (y .of));
+    }
+came-c (CameC.copied {text} {state} {other} x h e) =
+    let y = came-c x in
+    let f : padded state ≡ padded other = padded-long state (y .enough) ∙ sym e ∙ sym (padded-long other h) in
+    record { enough = h; of = subst (Parts text) (ap unpacked f) (y .of) }
+
+-- ---- the claim
+
+past : {c : Check} {s t : List ℕ} → Keeps c s t → (length t ≡ length s) × (drop 640 t ≡ drop 640 s)
+past {c} {s} k = (ap length (k .put) ∙ length-sets s 0 (packed c), ap (drop 640) (k .put) ∙ state-past s c (k .back))
+
+answered : {text : List ℕ} {c : Check} → Parts text c → Bytes text → Measures text (ended c)
+answered {text} {c} x b =
+    subst (λ (d : Check). Measures text (ended d)) (x .comes)
+    (subst (λ (s : List ℕ). Measures s (ended (feds started (x .parts)))) (x .joins)
+    (checked-measures (x .parts) (each-byte (joined (x .parts)) (subst Bytes (sym (x .joins)) b))))
+
+pub checked : Checked
+checked =
+    record {
+      parts = λ ps b. checked-measures ps (each-byte (joined ps) b);
+      finish = λ x b. answered (came x) b;
+      finish-c = λ {text} {state} x b e. record { answer = ended (keptIn state); allowed = answered (came-c x .of) b; told = e };
+      start-past = λ k. past k;
+      feed-past = λ part k. past k;
+    }
