@@ -105,6 +105,9 @@ struct Library {
     decltype(&lanternrung_read) read = lanternrung_read;
     decltype(&lanternrung_write_jaxn) write_jaxn = lanternrung_write_jaxn;
     decltype(&lanternrung_write_json) write_json = lanternrung_write_json;
+    decltype(&lanternrung_check_start) check_start = lanternrung_check_start;
+    decltype(&lanternrung_check_feed) check_feed = lanternrung_check_feed;
+    decltype(&lanternrung_check_finish) check_finish = lanternrung_check_finish;
 };
 
 // Those of a shared library.
@@ -118,6 +121,9 @@ static Library loaded(const char *name, const char *file) {
     library.read = (decltype(library.read))dlsym(so, "lanternrung_read");
     library.write_jaxn = (decltype(library.write_jaxn))dlsym(so, "lanternrung_write_jaxn");
     library.write_json = (decltype(library.write_json))dlsym(so, "lanternrung_write_json");
+    library.check_start = (decltype(library.check_start))dlsym(so, "lanternrung_check_start");
+    library.check_feed = (decltype(library.check_feed))dlsym(so, "lanternrung_check_feed");
+    library.check_finish = (decltype(library.check_finish))dlsym(so, "lanternrung_check_finish");
     return library;
 }
 
@@ -150,12 +156,30 @@ struct Ours {
         sizes = library.read(bytes(text), text.size(), tape.data(), tape.size(), store.data(), store.size());
         return sizes.refused ? 0 : sizes.records;
     }
+    // Fed in parts of `size` bytes.
+    size_t checked(const Text &text, size_t size) {
+        uint8_t state[LR_CHECK_BYTES];
+        library.check_start(state, sizeof state);
+        for (size_t at = 0; at < text.size(); at += size)
+            library.check_feed(state, sizeof state, bytes(text) + at, std::min(size, text.size() - at));
+        sizes = library.check_finish(state, sizeof state);
+        return sizes.refused ? 0 : sizes.records;
+    }
     size_t round(const Text &text) {
         if (!read(text)) return 0;
         written = write(tape.data(), 16 * sizes.records, store.data(), sizes.bytes, out.data(), out.size());
         return written.refused ? 0 : written.length;
     }
 };
+
+// Measured whole, and checked in parts of some sizes. A library from before has no such calls.
+static void add_parts(Ours &ours, const Texts &texts) {
+    if (!ours.library.check_feed) return;
+    const std::string &name = ours.library.name;
+    add("parts", name + " measure", each(texts, [&ours](const Text &text) { return (size_t)ours.library.measure(bytes(text), text.size()).records; }));
+    for (size_t size : {(size_t)65536, (size_t)4096, (size_t)1024, (size_t)64, (size_t)1})
+        add("parts", name + " check, parts of " + std::to_string(size), each(texts, [&ours, size](const Text &text) { return ours.checked(text, size); }));
+}
 
 static void add_ours(Ours &ours, const Texts &texts) {
     const std::string &name = ours.library.name;
@@ -374,6 +398,8 @@ static void run(const std::string &file, const std::string &folder, int rounds) 
     if (!many && !jaxn && name != "indented.json") add_checks(ours, texts[0], copy, folder);
     if (!ends(name, ".txt"))
         for (auto &one : ours) add_ours(one, texts);
+    if (!many && !ends(name, ".txt"))
+        for (auto &one : ours) add_parts(one, texts);
     if (json) add_peers(texts, folder);
     if (many && !jaxn) add_small_peers(texts);
     time_all(name, texts, rounds);

@@ -127,12 +127,24 @@ def aims(rows):
     return out
 
 
+def parts_table(rows):
+    """The check in parts beside measure: MB/s, and the ratio of the speeds."""
+    own = rows["parts", "Lanternrung measure"]
+    out = ["", "## Checked in parts, beside measure", "", "| MB/s (over measure's speed) | " + " | ".join(own) + " |", "|---" * (len(own) + 1) + "|"]
+    for (group, name), speeds in rows.items():
+        if group == "parts":
+            cells = [f"{speeds[f]:.0f}" if speeds is own else f"{speeds[f]:.0f} ({speeds[f] / own[f]:.2f})" for f in own]
+            out.append(f"| {name.replace('Lanternrung ', '')} | " + " | ".join(cells) + " |")
+    return out
+
+
 def own_only(rows):
     """Files that only Lanternrung reads."""
     out = []
     for file in unique(f for speeds in rows.values() for f in speeds):
         if file not in files_of(rows, "read") + files_of(rows, "utf8"):
-            parts = [f"{n.replace('Lanternrung ', '') if n != 'Lanternrung' else 'read, then write JAXN'} {s[file]:.0f} MB/s" for (_, n), s in rows.items() if file in s]
+            parts = [f"{n.replace('Lanternrung ', '') if n != 'Lanternrung' else 'read, then write JAXN'} {s[file]:.0f} MB/s" for (g, n), s in rows.items()
+                     if file in s and g != "parts"]
             out += ["", f"`{file}` (the records with comments, unquoted keys, single quotes and trailing commas): " + ", ".join(parts) + "."]
     return out
 
@@ -142,7 +154,7 @@ def figures(rows, small):
     out += aims(rows)
     for group in GROUPS:
         out += table(rows, group)
-    return "\n".join(out + own_only(rows) + small_tables(small) + ["", END])
+    return "\n".join(out + own_only(rows) + parts_table(rows) + small_tables(small) + ["", END])
 
 
 def page(path, rows, small):

@@ -1,7 +1,11 @@
 // Each call on the arguments of a case.
 use crate::showing;
 use crate::spelling;
+use lanternrung::exports::Sizes;
 use lanternrung::exports::Text;
+use lanternrung::exports::lanternrung_check_feed;
+use lanternrung::exports::lanternrung_check_finish;
+use lanternrung::exports::lanternrung_check_start;
 use lanternrung::exports::lanternrung_date;
 use lanternrung::exports::lanternrung_look;
 use lanternrung::exports::lanternrung_measure;
@@ -12,6 +16,9 @@ use lanternrung::exports::lanternrung_write_json;
 
 // What is lent for a tape or an output.
 const TAPE: usize = 8192;
+
+// The state of a check.
+const STATE: usize = 640;
 
 // What stands in a buffer before a call.
 const MARK: u8 = 170;
@@ -67,6 +74,53 @@ pub(crate) fn measure(rest: &[u8]) -> bool {
     let mut text = io::buffer();
     let n = spelling::decode(rest, false, &mut text);
     showing::sizes(lanternrung_measure(&text[..n]));
+    true
+}
+
+// What a check answers for a text in these two parts.
+fn in_two(first: &[u8], second: &[u8]) -> Sizes {
+    let mut state = [MARK; STATE];
+    lanternrung_check_start(&mut state);
+    lanternrung_check_feed(&mut state, first);
+    lanternrung_check_feed(&mut state, second);
+    lanternrung_check_finish(&state)
+}
+
+// Whether two answers are the same.
+fn alike(a: Sizes, b: Sizes) -> bool {
+    a.refused == b.refused && a.place == b.place && a.records == b.records && a.bytes == b.bytes
+}
+
+// Whether a check answers this for a text, wherever it is cut.
+fn cut_anywhere(text: &[u8], answer: Sizes) -> bool {
+    let mut cut: usize = 0;
+    while cut < text.len() {
+        if !alike(in_two(&text[..cut], &text[cut..]), answer) {
+            return false;
+        }
+        cut += 1;
+    }
+    true
+}
+
+// What a check answers for a text, and a fault where it is not what `measure` answers, for some place where the text is cut.
+fn check_all(text: &[u8]) {
+    let answer = in_two(text, b"");
+    showing::sizes(answer);
+    if !alike(answer, lanternrung_measure(text)) {
+        showing::fault(b"what measure answers");
+        return;
+    }
+    if !cut_anywhere(text, answer) {
+        showing::fault(b"the same for every cut");
+    }
+}
+
+// Prints what a check answers for a text in two parts, cut at each place.
+pub(crate) fn checked(rest: &[u8]) -> bool {
+    let mut text = io::buffer();
+    let n = spelling::decode(rest, false, &mut text);
+    check_all(&text[..n]);
     true
 }
 

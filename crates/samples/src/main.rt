@@ -4,6 +4,7 @@
 //   utf8 BYTES                     whether they are UTF-8
 //   date YEAR MONTH DAY            whether it is a date
 //   measure TEXT                   the records and store bytes that it needs
+//   check TEXT                     the same of the text in two parts, cut at each place
 //   read LENGTH LENGTH TEXT        the same, into a tape and a store of these lengths
 //   tape TEXT                      the tape and the store that it fills
 //   jaxn TEXT, json TEXT           its canonical text, which is read again
@@ -36,6 +37,9 @@ fn on_rules(name: &[u8], rest: &[u8]) -> bool {
 fn on_text(name: &[u8], rest: &[u8]) -> bool {
     if check::same(name, b"measure") {
         return calls::measure(rest);
+    }
+    if check::same(name, b"check") {
+        return calls::checked(rest);
     }
     if check::same(name, b"read") {
         return calls::read(rest);

@@ -79,6 +79,26 @@ static void writing(void) {
     tape[8 * 16 + 4] = 2;
 }
 
+/* The text in two parts, cut at each place. */
+static void arriving(void) {
+    static uint8_t state[LR_CHECK_BYTES];
+    for (size_t cut = 0; cut <= strlen(text); cut++) {
+        lanternrung_check_start(state, sizeof state);
+        lanternrung_check_feed(state, sizeof state, bytes(text), cut);
+        lanternrung_check_feed(state, sizeof state, bytes(text) + cut, strlen(text) - cut);
+        lr_sizes c = lanternrung_check_finish(state, sizeof state);
+        same("check: refused", c.refused, 0);
+        same("check: records", c.records, 11);
+        same("check: bytes", c.bytes, 9);
+    }
+    lanternrung_check_start(state, sizeof state);
+    lanternrung_check_feed(state, sizeof state, bytes("[,"), 2);
+    same("check of half a text: refused", lanternrung_check_finish(state, sizeof state).refused, 3);
+    lanternrung_check_feed(state, sizeof state, bytes("\xff"), 1);
+    same("check with a late fault: refused", lanternrung_check_finish(state, sizeof state).refused, 2);
+    same("check with a late fault: place", lanternrung_check_finish(state, sizeof state).place, 2);
+}
+
 /* With a length of 0 a pointer is not looked through. */
 static void nothing(void) {
     static uint8_t one[16];
@@ -91,12 +111,16 @@ static void nothing(void) {
     same("look at nothing: refused", lanternrung_look(NULL, 0, NULL, 0, 0).refused, 14);
     same("write_jaxn into nothing: refused", lanternrung_write_jaxn(one, sizeof one, NULL, 0, NULL, 0).refused, 12);
     same("write_json of nothing: refused", lanternrung_write_json(NULL, 0, NULL, 0, NULL, 0).refused, 10);
+    lanternrung_check_start(NULL, 0);
+    lanternrung_check_feed(NULL, 0, NULL, 0);
+    same("check of nothing: refused", lanternrung_check_finish(NULL, 0).refused, 3);
 }
 
 int main(void) {
     reading();
     looking();
     writing();
+    arriving();
     nothing();
     same("utf8: place", lanternrung_utf8(bytes("ab\xed\xa0\x80"), 5).place, 2);
     same("date: refused", lanternrung_date(2000, 2, 30).refused, 5);

@@ -14,6 +14,9 @@ fn count() {
     CALLS.fetch_add(1, Relaxed);
 }
 
+/// `LR_CHECK_BYTES`.
+pub const CHECK_BYTES: usize = 640;
+
 #[repr(C)]
 #[derive(Clone, Copy, PartialEq, Eq, Debug, Default)]
 pub struct LrStatus {
@@ -72,6 +75,9 @@ extern "C" {
         store: *mut u8,
         store_length: usize,
     ) -> LrSizes;
+    fn lanternrung_check_start(state: *mut u8, length: usize);
+    fn lanternrung_check_feed(state: *mut u8, length: usize, part: *const u8, part_length: usize);
+    fn lanternrung_check_finish(state: *const u8, length: usize) -> LrSizes;
     fn lanternrung_look(
         tape: *const u8,
         tape_length: usize,
@@ -120,6 +126,21 @@ pub fn read(text: &[u8], tape: &mut [u8], store: &mut [u8]) -> LrSizes {
     unsafe {
         lanternrung_read(text.as_ptr(), text.len(), tape.as_mut_ptr(), tape.len(), store.as_mut_ptr(), store.len())
     }
+}
+
+pub fn check_start(state: &mut [u8]) {
+    count();
+    unsafe { lanternrung_check_start(state.as_mut_ptr(), state.len()) }
+}
+
+pub fn check_feed(state: &mut [u8], part: &[u8]) {
+    count();
+    unsafe { lanternrung_check_feed(state.as_mut_ptr(), state.len(), part.as_ptr(), part.len()) }
+}
+
+pub fn check_finish(state: &[u8]) -> LrSizes {
+    count();
+    unsafe { lanternrung_check_finish(state.as_ptr(), state.len()) }
 }
 
 pub fn look(tape: &[u8], store: &[u8], index: u64) -> LrRecord {

@@ -2,7 +2,8 @@
 //! test.
 
 use crate::archive;
-use crate::check::{self, Check, Effort};
+use crate::check::{self, same, Check, Effort};
+use crate::parts::sliced;
 use std::hint::black_box;
 
 /// A text of just `size` bytes: `before`, `piece` as often as it fits, `filler` until it is full, `after`.
@@ -69,11 +70,36 @@ pub fn all() -> u64 {
         speed(&kind, &text);
         n += 2;
     }
+    println!("| text of 16 MiB, checked in parts of | 4,096 bytes, MB/s | 64 bytes | 1 byte | times per byte, 16 MiB / 1 MiB |");
+    println!("|---|---|---|---|---|");
+    for kind in kinds() {
+        let text = kind.text(FULL);
+        stop_at(kind.name, in_parts(&text));
+        stop_at(kind.name, in_parts(&[&text[..], b" "].concat()));
+        check_speed(&kind, &text);
+        n += 2;
+    }
     for (name, tape, store) in tapes() {
         stop_at(name, check::tape(&tape, &store, Effort::One(0)));
         n += 1;
     }
     n
+}
+
+/// A text checked in parts of some sizes, one of them no power of two.
+fn in_parts(text: &[u8]) -> Check {
+    let should = archive::measure(text);
+    [4096, 61].into_iter().try_for_each(|size| same(|| format!("check in parts of {size}"), sliced(text, size), should))
+}
+
+/// Prints how fast a text of this kind is checked in parts, byte by byte too, and how much more time a byte takes in a long text.
+fn check_speed(kind: &Kind, text: &[u8]) {
+    let sizes = [4096, 64, 1];
+    let short = kind.text(FULL / 16);
+    let long = sizes.map(|size| best(1, || sliced(black_box(text), size)));
+    let speeds = long.map(|t| format!("{:.0}", text.len() as f64 / 1e6 / t)).join(" | ");
+    let growth = [0, 1, 2].map(|i| long[i] / 16.0 / best(3, || sliced(black_box(&short), sizes[i])));
+    println!("| {} | {speeds} | {} |", kind.name, growth.map(|g| format!("{g:.2}")).join(", "));
 }
 
 /// As many records or store bytes as are allowed and one more, and a text over the limit with and without a JSON form.

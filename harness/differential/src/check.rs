@@ -4,6 +4,7 @@
 
 use crate::archive::{self, LrRecord, LrSizes, LrStatus, LrWritten};
 use crate::guard::Guard;
+use crate::parts;
 use second::{Refusal, Value};
 use std::cell::RefCell;
 use std::fmt::Debug;
@@ -33,25 +34,35 @@ pub enum Effort {
 const MARGIN: usize = 32;
 
 /// A lent buffer between margins. The front one varies, so that the buffer begins at any remainder of 8.
-struct Lent {
+pub struct Lent {
     bytes: Vec<u8>,
     front: usize,
     length: usize,
 }
 
 impl Lent {
-    fn new(length: usize, salt: u8) -> Lent {
+    pub fn new(length: usize, salt: u8) -> Lent {
         let front = MARGIN + (length ^ salt as usize) % 8;
-        let bytes = (0..front + length + MARGIN).map(|i| (i as u8).wrapping_mul(37) ^ salt).collect();
+        let bytes = (0..front + length + MARGIN).map(|i| Lent::pattern(i, salt)).collect();
         Lent { bytes, front, length }
     }
 
-    fn part(&mut self) -> &mut [u8] {
+    fn pattern(i: usize, salt: u8) -> u8 {
+        (i as u8).wrapping_mul(37) ^ salt
+    }
+
+    /// Whether the bytes before and after what is lent are as they were made.
+    pub fn margins_stand(&self, salt: u8) -> bool {
+        let outside = (0..self.front).chain(self.front + self.length..self.bytes.len());
+        outside.into_iter().all(|i| self.bytes[i] == Lent::pattern(i, salt))
+    }
+
+    pub fn part(&mut self) -> &mut [u8] {
         &mut self.bytes[self.front..self.front + self.length]
     }
 }
 
-fn same<T: PartialEq + Debug>(call: impl FnOnce() -> String, got: T, should: T) -> Check {
+pub fn same<T: PartialEq + Debug>(call: impl FnOnce() -> String, got: T, should: T) -> Check {
     if got == should {
         return Ok(());
     }
@@ -87,17 +98,18 @@ fn reading(text: &[u8]) -> Reading {
 }
 
 thread_local! {
+    pub static PART: RefCell<Guard> = RefCell::new(Guard::new());
     static TEXT: RefCell<Guard> = RefCell::new(Guard::new());
     static TAPE: RefCell<Guard> = RefCell::new(Guard::new());
     static STORE: RefCell<Guard> = RefCell::new(Guard::new());
 }
 
 /// What `with_borrow_mut` does, which Rust has from 1.73 on.
-fn lent<R>(guard: &'static LocalKey<RefCell<Guard>>, with: impl FnOnce(&mut Guard) -> R) -> R {
+pub fn lent<R>(guard: &'static LocalKey<RefCell<Guard>>, with: impl FnOnce(&mut Guard) -> R) -> R {
     guard.with(|g| with(&mut g.borrow_mut()))
 }
 
-/// A text through utf8, measure and read; where it is accepted, its tape through look and the writers.
+/// A text through utf8, measure, a check in parts and read; where it is accepted, its tape through look and the writers.
 pub fn text(text: &[u8], effort: Effort) -> Check {
     let should = reading(text);
     lent(&TEXT, |guard| {
@@ -114,6 +126,7 @@ pub fn text(text: &[u8], effort: Effort) -> Check {
 fn read_calls(text: &[u8], should: &Reading, effort: Effort) -> Check {
     same(|| "utf8".into(), archive::utf8(text), LrStatus::from(second::utf8(text)))?;
     same(|| "measure".into(), archive::measure(text), LrSizes::from(should.answer))?;
+    parts::text(text, LrSizes::from(should.answer), effort)?;
     for (tape_length, store_length) in read_lengths(should, effort) {
         read(text, should, tape_length, store_length)?;
     }

@@ -11,6 +11,7 @@ mod big;
 mod check;
 mod counted;
 mod guard;
+mod parts;
 mod program;
 mod random;
 mod shorten;
@@ -322,6 +323,7 @@ fn main() {
     random(&mut run, o.seed, o.count, &short);
     say("random", &run);
     println!("{} of {} random texts accepted (seed {})", run.accepted, o.count, o.seed);
+    println!("{} states by hand, {:.1} s", parts::wild(o.seed, o.count, &short), start.elapsed().as_secs_f64());
     utf8(&mut run);
     println!("{} times utf8 alone, {} dates, {:.1} s", run.bytes, dates(), start.elapsed().as_secs_f64());
     if let Some(program) = &o.program {
