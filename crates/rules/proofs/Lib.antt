@@ -16,7 +16,7 @@ pub mod Opens
 pub mod Decided
 -- Leap years and the days of a month.
 pub mod Months
--- The list of days in the code.
+-- The months but February, one by one.
 pub mod CalendarLaws
 -- Two outcomes that a promise allows are equal.
 pub mod Outcomes
