@@ -15,7 +15,7 @@ use Rattle.meaning.specs.Canonical.{quoted, elementsComma, membersComma, canoni
 use Rattle.grammar.specs.Checks.{Room}
 use Rattle.grammar.specs.Comments.{Ws, Last}
 use Rattle.grammar.specs.Keys.{Key}
-use Rattle.grammar.specs.Values.{Inside, elements, members, Closes, Value, Rest, After, Item, Text}
+use Rattle.grammar.specs.Values.{Inside, elements, members, Closes, Value, Rest, After, Item, Loose, Text}
 use Rattle.grammar.proofs.Canonical.Numbers.{number-derived}
 use Rattle.grammar.proofs.Canonical.Strings.{string-derived, binary-derived}
 use Rattle.grammar.proofs.Canonical.Times.{time-derived}
@@ -126,5 +126,8 @@ mutual
 
 -- `canonical` of every good meaning, within the text's limit, is a text with that meaning.
 pub text-derived : (m : Meaning) → Good m → length (canonical m) ≤ textLimit → Text true (canonical m) m
-text-derived m g h = rw (← append-nil (canonical m)) (Text.text Ws.none (value-derived m (g .parts) depthLimit (g .shallow)) (Last.ended Ws.none)
-    (rw append-nil h))
+text-derived m g h = record {
+  loose = rw (← append-nil (canonical m)) (Loose.text Ws.none (value-derived m (g .parts) depthLimit (g .shallow)) (Last.ended Ws.none)
+      (rw append-nil h));
+  single = g .single;
+}

@@ -14,6 +14,7 @@ use lib.ListN.{length}
 use Rattle.rules.specs.Rfc3629.{In, Scalar, encode}
 use Rattle.rules.specs.Rfc3339 as Calendar
 use Rattle.rules.proofs.Numbers.{row-1}
+use Rattle.meaning.specs.Once.{once, onceElements, onceMembers, held, same}
 use Rattle.meaning.specs.Letters.{letters, ch}
 use Rattle.meaning.specs.Limits.{depthLimit, textLimit}
 use Rattle.meaning.specs.declared.Number.{Number as Num}
@@ -28,7 +29,7 @@ use Rattle.grammar.specs.Strings.{Concat, String}
 use Rattle.grammar.specs.Times.{Fraction, Time-secfrac, Time-hour, Time-minute, Local-time, Local-date, Separator, Plus-minus, Time-offset, Time-value}
 use Rattle.grammar.specs.Binary.{B-escape, b-unescaped, B-part, B-direct, B-value, Binary}
 use Rattle.grammar.specs.Keys.{i-begin, i-continue, Identifier, Key}
-use Rattle.grammar.specs.Values.{Inside, elements, members, Closes, Value, Rest, After, Item, Text}
+use Rattle.grammar.specs.Values.{Inside, elements, members, Closes, Value, Rest, After, Item, Loose, Text}
 use Rattle.grammar.proofs.Examples.Texts.{plus, date, examples, Derived}
 use Rattle.grammar.proofs.Utf8.{both}
 
@@ -216,97 +217,107 @@ identifier b s h l = Key.identifier (Identifier.identifier (Ascii.byte (of i-beg
 
 -- ---- whole texts
 
-plain : {a : List ℕ} {m : Meaning} → Value true depthLimit a m → T (leb (length a) textLimit) → Text true a m
-plain {a} {m} v h = subst (λ (t : List ℕ). Text true t m) (append-nil a) (Text.text Ws.none v (Last.ended Ws.none)
-    (rw append-nil (leb→le (length a) textLimit h)))
+-- with no key
+once-each : {a : List ℕ} → Loose true a Meaning.null → Text true a Meaning.null
+unfolding once
+once-each x = record { loose = x; single = refl }
+
+plain : {a : List ℕ} {m : Meaning} → Value true depthLimit a m → T (leb (length a) textLimit) → once m ≡ true → Text true a m
+plain {a} {m} v h e = record {
+  loose = subst (λ (t : List ℕ). Loose true t m) (append-nil a) (Loose.text Ws.none v (Last.ended Ws.none)
+      (rw append-nil (leb→le (length a) textLimit h)));
+  single = e;
+}
 
 element : {d : ℕ} {x : Meanings} {c : ℕ} (b : ℕ) → Number true (b ∷ []) (Num.Finite false c (pos 0))
     → Item true d (elements x) (b ∷ []) (elements (Meanings.more x (plus c (pos 0))))
 element b n = Item.element (Value.number n)
 
 pub derived : Derived examples
-unfolding depthLimit encode
+unfolding depthLimit encode once onceElements onceMembers held same
 derived = (
-  Text.text (Ws.line (comment C-begin-line.hash (letters " single-line comment") tt) Line-end.line-feed Ws.none) Value.null-word (Last.ended Ws.none) (lit≤ tt),
+  once-each
+      (Loose.text (Ws.line (comment C-begin-line.hash (letters " single-line comment") tt) Line-end.line-feed Ws.none) Value.null-word
+      (Last.ended Ws.none) (lit≤ tt)),
   (
-    Text.text Ws.none Value.null-word (Last.unended Ws.none (comment C-begin-line.slashes (letters " single-line comment") tt)) (lit≤ tt),
+    once-each (Loose.text Ws.none Value.null-word (Last.unended Ws.none (comment C-begin-line.slashes (letters " single-line comment") tt)) (lit≤ tt)),
     (
-      Text.text (Ws.block (block (letters " block comment ") tt) Ws.none) Value.null-word (Last.ended Ws.none) (lit≤ tt),
+      once-each (Loose.text (Ws.block (block (letters " block comment ") tt) Ws.none) Value.null-word (Last.ended Ws.none) (lit≤ tt)),
       (
         plain (Value.array Room.falls (Rest.item (Ws.blank Blank.space (Ws.line (comment C-begin-line.hash (letters " 1") tt) Line-end.line-feed Ws.none))
-            (element (ch "2") (number (ch "2") [] 2 0 tt tt refl tt tt tt)) (After.end Ws.none Closes.bracket))) tt,
+            (element (ch "2") (number (ch "2") [] 2 0 tt tt refl tt tt tt)) (After.end Ws.none Closes.bracket))) tt refl,
         -- 42.
         (
           plain (Value.number (finite Sign.unsigned (Dec.whole (int (ch "4") (letters "2") tt tt) (Frac0.given Digits.over) Exp.absent)
-              (whole 42 0 refl tt tt tt))) tt,
+              (whole 42 0 refl tt tt tt))) tt refl,
           -- +.5
           (
             plain (Value.number (finite Sign.plus (Dec.part (Frac1.given (decimals (letters "5") 0 tt)) Exp.absent)
-                (Finite.part {c = 5} {n = 0} refl (λ e. omega arith) (lit< tt) (lit≤ tt)))) tt,
+                (Finite.part {c = 5} {n = 0} refl (λ e. omega arith) (lit< tt) (lit≤ tt)))) tt refl,
             (
-              plain (Value.number (Number.number Sign.unsigned Unsigned.nan)) tt,
+              plain (Value.number (Number.number Sign.unsigned Unsigned.nan)) tt refl,
               (
-                plain (Value.number (Number.number Sign.minus Unsigned.inf)) tt,
+                plain (Value.number (Number.number Sign.minus Unsigned.inf)) tt refl,
                 -- 0xDEADBEEF
                 (
                   plain (Value.number (Number.number Sign.unsigned (Unsigned.hex X.small (hexes (letters "DEADBEEF") tt) (lit< tt)
-                      (whole 3735928559 0 refl tt tt tt)))) tt,
+                      (whole 3735928559 0 refl tt tt tt)))) tt refl,
                   (
-                    plain (Value.number (number (ch "1") (letters "8446744073709551615") 18446744073709551615 0 tt tt refl tt tt tt)) tt,
+                    plain (Value.number (number (ch "1") (letters "8446744073709551615") 18446744073709551615 0 tt tt refl tt tt tt)) tt refl,
                     (
-                      plain (Value.number (number (ch "1") (letters "0000000000000000000000") 1 22 tt tt refl tt tt tt)) tt,
+                      plain (Value.number (number (ch "1") (letters "0000000000000000000000") 1 22 tt tt refl tt tt tt)) tt refl,
                       -- -0x0
                       (
-                        plain (Value.number (Number.number Sign.minus (Unsigned.hex X.small (hexes (letters "0") tt) (lit< tt) (Finite.nought refl)))) tt,
+                        plain (Value.number (Number.number Sign.minus (Unsigned.hex X.small (hexes (letters "0") tt) (lit< tt) (Finite.nought refl)))) tt refl,
                         -- 1e5
                         (
                           plain (Value.number (finite Sign.unsigned (Dec.whole (int (ch "1") [] tt tt) Frac0.absent
-                              (Exp.given E.small Sign.unsigned (decimals (letters "5") 0 tt))) (whole 1 5 refl tt tt tt))) tt,
+                              (Exp.given E.small Sign.unsigned (decimals (letters "5") 0 tt))) (whole 1 5 refl tt tt tt))) tt refl,
                           (
-                            plain (Value.number (number (ch "1") (letters "00000") 1 5 tt tt refl tt tt tt)) tt,
+                            plain (Value.number (number (ch "1") (letters "00000") 1 5 tt tt refl tt tt tt)) tt refl,
                             -- strings
                             (
                               plain (Value.string (Concat.part (in-quotes (the (letters "Add ") tt
                                   (Chars.escaped (Escape.short Short.nul) (the (letters " or ") tt
                                   (Chars.escaped (Escape.short Short.vtab) (the (letters ", even ") tt
-                                  (Chars.escaped (Escape.short Short.single-quote) (the (letters " is allowed in a string.") tt Chars.none)))))))))) tt,
+                                  (Chars.escaped (Escape.short Short.single-quote) (the (letters " is allowed in a string.") tt Chars.none)))))))))) tt refl,
                               (
                                 plain (Value.string (Concat.plus (in-quotes (Chars.escaped
                                     (Escape.braced (hexes (letters "1D11E") tt) (record { top = lit≤ tt; whole = inr (lit< tt) }))
                                     (the (letters " was my first love ") tt Chars.none))) sp sp
-                                    (Concat.part (in-quotes (the (letters "and it will be my last.") tt Chars.none))))) tt,
+                                    (Concat.part (in-quotes (the (letters "and it will be my last.") tt Chars.none))))) tt refl,
                                 (
                                   plain (Value.string (Concat.part (String-part.multiline double
                                       (m-chars (letters "String with a \\ and ") tt
                                       (Many.more (M-char.m-char Up-to-two.one-quote (among (source double) (ch " ") tt))
                                       (m-chars (letters "characters - no escape sequences,\nmay contain line breaks") tt Many.none)))
-                                      (No-newline.other-byte (λ e. omega arith) (λ e. omega arith))))) tt,
+                                      (No-newline.other-byte (λ e. omega arith) (λ e. omega arith))))) tt refl,
                                   (
                                     plain (Value.string (Concat.part (in-quotes (Chars.escaped
                                         (Escape.pair (hexes (letters "d834") tt) (within _ _ 0xD834 tt) (hexes (letters "dd1e") tt) (within _ _ 0xDD1E tt))
-                                        Chars.none)))) tt,
+                                        Chars.none)))) tt refl,
                                     (
-                                      plain (Value.string (Concat.part (String-part.multiline double Many.none No-newline.empty))) tt,
+                                      plain (Value.string (Concat.part (String-part.multiline double Many.none No-newline.empty))) tt refl,
                                       -- times
                                       (
-                                        plain (Value.time-value (Time-value.local-date leap-day)) tt,
+                                        plain (Value.time-value (Time-value.local-date leap-day)) tt refl,
                                         (
-                                          plain (Value.time-value (Time-value.local-time clock)) tt,
+                                          plain (Value.time-value (Time-value.local-time clock)) tt refl,
                                           (
-                                            plain (Value.time-value (Time-value.local-date-time september Separator.space clock)) tt,
+                                            plain (Value.time-value (Time-value.local-date-time september Separator.space clock)) tt refl,
                                             (
                                               plain (Value.time-value (Time-value.offset-date-time september Separator.letter clock
                                                   (Time-offset.numoffset Plus-minus.plus (hour (letters "02") (decimals _ 0 tt) tt)
-                                                  (minute (letters "00") (decimals _ 0 tt) tt)))) tt,
+                                                  (minute (letters "00") (decimals _ 0 tt) tt)))) tt refl,
                                               (
-                                                plain (Value.time-value (Time-value.local-time noon)) tt,
+                                                plain (Value.time-value (Time-value.local-time noon)) tt refl,
                                                 -- binary
                                                 (
                                                   plain (Value.binary (Concat.part
                                                       (B-value.string (Quoted.quoted double
                                                       (chars (lies-in b-unescaped) b-char (letters "Hello, ") tt
                                                       (Chars.escaped (B-escape.byte (pair (letters "77") tt refl))
-                                                      (chars (lies-in b-unescaped) b-char (letters "orld!") tt Chars.none))))))) tt,
+                                                      (chars (lies-in b-unescaped) b-char (letters "orld!") tt Chars.none))))))) tt refl,
                                                   (
                                                     plain (Value.binary (Concat.part
                                                         (B-value.direct (B-direct.dotted
@@ -319,9 +330,9 @@ derived = (
                                                         (B-part.more (pair (letters "6f") tt refl)
                                                         (B-part.more (pair (letters "72") tt refl)
                                                         (B-part.more (pair (letters "6c") tt refl) (B-part.last (pair (letters "64") tt refl))))))
-                                                        (B-direct.part (B-part.last (pair (letters "21") tt refl))))))))) tt,
+                                                        (B-direct.part (B-part.last (pair (letters "21") tt refl))))))))) tt refl,
                                                     (
-                                                      plain (Value.binary (Concat.part B-value.empty)) tt,
+                                                      plain (Value.binary (Concat.part B-value.empty)) tt refl,
                                                       -- keys and commas
                                                       (
                                                         plain (Value.object Room.falls
@@ -330,7 +341,7 @@ derived = (
                                                             (After.comma Ws.none
                                                             (Rest.item sp (Item.member (identifier (ch "b") (letters "ar") tt tt) Ws.none sp
                                                             (Value.number (number (ch "4") (letters "2") 42 0 tt tt refl tt tt tt)))
-                                                            (After.comma Ws.none (Rest.close sp Closes.brace)))))) tt,
+                                                            (After.comma Ws.none (Rest.close sp Closes.brace)))))) tt refl,
                                                         (
                                                           plain (Value.array Room.falls
                                                               (Rest.item sp (element (ch "1") (number (ch "1") [] 1 0 tt tt refl tt tt tt))
@@ -338,7 +349,7 @@ derived = (
                                                               (Rest.item sp (element (ch "2") (number (ch "2") [] 2 0 tt tt refl tt tt tt))
                                                               (After.comma Ws.none
                                                               (Rest.item sp (element (ch "3") (number (ch "3") [] 3 0 tt tt refl tt tt tt))
-                                                              (After.comma Ws.none (Rest.close sp Closes.bracket)))))))) tt,
+                                                              (After.comma Ws.none (Rest.close sp Closes.bracket)))))))) tt refl,
                                                           tt,
                                                         ),
                                                       ),

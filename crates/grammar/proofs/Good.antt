@@ -26,7 +26,7 @@ use Rattle.grammar.specs.Strings.{Quote, double, single, mark, other, Ch
 use Rattle.grammar.specs.Times.{Fraction, Time-secfrac, Time-hour, Time-minute, Local-time, Local-date, signed, Time-offset, Time-value}
 use Rattle.grammar.specs.Binary.{B-escape, b-unescaped, B-part, B-direct, B-value, Binary}
 use Rattle.grammar.specs.Keys.{Identifier, Key}
-use Rattle.grammar.specs.Values.{Inside, elements, members, Closes, Value, Rest, After, Item, Text}
+use Rattle.grammar.specs.Values.{Inside, elements, members, Closes, Value, Rest, After, Item, Loose, Text}
 use Rattle.grammar.proofs.Utf8.{ascii, among, under, below, m-chars, identifier-octets}
 
 -- ---- how large digits can be
@@ -285,5 +285,8 @@ value-within v =
       | Item.member {x = x} c v w (m → h) ↦ member-keeps x (key-good c) h
     ]
 
+loose-within : {t : List ℕ} {m : Meaning} → Loose true t m → Within depthLimit m
+loose-within (Loose.text w v l h) = value-within v
+
 pub text-good : {t : List ℕ} {m : Meaning} → Text true t m → Good m
-text-good (Text.text w v l h) = let r = value-within v in record { parts = r .parts; shallow = r .shallow }
+text-good x = let r = loose-within (x .loose) in record { parts = r .parts; shallow = r .shallow; single = x .single }

@@ -20,7 +20,7 @@ use Rattle.grammar.specs.Strings.{Quote, Chars, Quoted, joined, Escape, 
 use Rattle.grammar.specs.Times.{Local-time, Local-date, Time-value}
 use Rattle.grammar.specs.Binary.{B-escape, B-part, B-direct, B-value, Binary}
 use Rattle.grammar.specs.Keys.{Key}
-use Rattle.grammar.specs.Values.{Inside, elements, members, Value, Rest, After, Item, Text}
+use Rattle.grammar.specs.Values.{Inside, elements, members, Value, Rest, After, Item, Loose}
 
 -- ---- an item has a byte
 
@@ -199,8 +199,8 @@ value-fits v =
       | Item.member {c = c} {u = u} {v = v} {w = w} y p q (m → h) ↦ member c u v w (key y) h
     ]
 
-pub text-fits : {k : Bool} {t : List ℕ} {m : Meaning} → Text k t m → Fits t m
-text-fits (Text.text w v l h) = let f = value-fits v in record {
+pub text-fits : {k : Bool} {t : List ℕ} {m : Meaning} → Loose k t m → Fits t m
+text-fits (Loose.text w v l h) = let f = value-fits v in record {
   few = simp length-append (omega (arith, f .few));
   small = simp length-append (omega (arith, f .small));
 }

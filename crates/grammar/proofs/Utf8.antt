@@ -22,7 +22,7 @@ use Rattle.grammar.specs.Times.{Fraction, Time-secfrac, Time-hour, Time-
 use Rattle.grammar.specs.Times.{Time-value}
 use Rattle.grammar.specs.Binary.{B-escape, B-part, B-direct, B-value, Binary}
 use Rattle.grammar.specs.Keys.{Identifier, Key}
-use Rattle.grammar.specs.Values.{Inside, Closes, Value, Rest, After, Item, Text}
+use Rattle.grammar.specs.Values.{Inside, Closes, Value, Rest, After, Item, Loose}
 
 -- an ASCII byte before UTF-8
 pub ascii : {b : ℕ} {a : List ℕ} → b ≤ 0x7F → Octets a → Octets (b ∷ a)
@@ -332,5 +332,5 @@ value-octets v =
       | Item.member c v w (m → h) ↦ join (key-octets c) (join (ws v) (ascii (lit≤ tt) (join (ws w) h)))
     ]
 
-pub text-octets : {k : Bool} {t : List ℕ} {m : Meaning} → Text k t m → Octets t
-text-octets (Text.text w v l h) = join (ws w) (join (value-octets v) (last l))
+pub text-octets : {k : Bool} {t : List ℕ} {m : Meaning} → Loose k t m → Octets t
+text-octets (Loose.text w v l h) = join (ws w) (join (value-octets v) (last l))

@@ -1,5 +1,5 @@
--- Which refusal of 1 to 7 a text is given, and where, by the grammar alone (docs/FORMAT.md, 10). The bare grammar is
--- the grammar with its checks left out (Checks). Assumes nothing.
+-- Which refusal of 1 to 7 or 15 a text is given, and where, by the grammar alone (docs/FORMAT.md, 10). The bare grammar
+-- is the grammar with its checks left out (Checks). Assumes nothing.
 use Prim.Native.Nat.{ℕ, zero, suc, _+_, _≤_, _<_}
 use mathlib.Core.Path.{_≡_}
 use mathlib.Core.Bool.{true, false}
@@ -9,30 +9,31 @@ use Rattle.rules.specs.Rfc3629.{Octets, Fault}
 use Rattle.meaning.specs.Letters.{letters, ch}
 use Rattle.meaning.specs.Limits.{depthLimit, textLimit}
 use Rattle.meaning.specs.Meaning.{Meaning, Meanings, Members}
+use Rattle.meaning.specs.Once.{held}
 use Rattle.meaning.specs.declared.Number as N
 use Rattle.meaning.specs.declared.Time as T
 use Rattle.meaning.specs.declared.Refusal.{Refusal}
 use Rattle.meaning.specs.declared.Refusal.the-variants.{TextTooLong, NotUtf8, NotGrammar}
-use Rattle.meaning.specs.declared.Refusal.the-variants.{BadEscape, BadTime, BadNumber, TooDeep}
+use Rattle.meaning.specs.declared.Refusal.the-variants.{BadEscape, BadTime, BadNumber, TooDeep, RepeatedKey}
 use Rattle.grammar.specs.Characters.{Among}
 use Rattle.grammar.specs.Comments.{Ws}
 use Rattle.grammar.specs.Numbers.{Number}
 use Rattle.grammar.specs.Times.{Time-value}
 use Rattle.grammar.specs.Strings.{Quote, mark, Chars, Escape, unescaped, String-part}
 use Rattle.grammar.specs.Keys.{Key}
-use Rattle.grammar.specs.Values.{Inside, elements, members, Item, Text}
+use Rattle.grammar.specs.Values.{Inside, elements, members, Item, Loose}
 
 -- ---- 3: "first byte no rule allows there, or the text's length"
 
 -- some text of the bare grammar begins with a
 pub data Opens (a : List ℕ) : Type 0 where
-  opens : (s : List ℕ) (m : Meaning) → Text false (a ++ s) m → Opens a
+  opens : (s : List ℕ) (m : Meaning) → Loose false (a ++ s) m → Opens a
 
 -- `Stuck t p`: the bytes before p begin such a text, and with the byte at p they begin none;
 -- or p is the length, and t begins such a text and is none itself
 pub data Stuck : List ℕ → ℕ → Type 0 where
   byte : (a : List ℕ) (b : ℕ) (r : List ℕ) → Opens a → (Opens (a ++ (b ∷ [])) → ⊥) → Stuck (a ++ (b ∷ r)) (length a)
-  end : (t : List ℕ) → Opens t → ((m : Meaning) → Text false t m → ⊥) → Stuck t (length t)
+  end : (t : List ℕ) → Opens t → ((m : Meaning) → Loose false t m → ⊥) → Stuck t (length t)
 
 -- ---- 4 to 7: the first item that fails its check
 
@@ -95,7 +96,20 @@ pub data Refused (t : List ℕ) : Refusal → Type 0 where
   grammar : {p : ℕ} → ((r : Refusal) → Item-fault t r → ⊥) → Stuck t p → Refused t (NotGrammar p)
 
 -- ---- 1, then 2 over the whole text, then 3 to 7 from left to right
+pub data Loose-refused (t : List ℕ) : Refusal → Type 0 where
+  too-long : textLimit < length t → Loose-refused t TextTooLong
+  not-utf8 : {k : ℕ} → length t ≤ textLimit → Fault t k → Loose-refused t (NotUtf8 k)
+  refused : {r : Refusal} → length t ≤ textLimit → Octets t → Refused t r → Loose-refused t r
+
+-- ---- 15: "first byte of the first key in the text that repeats an earlier one"
+
+-- `Repeats t p`: at p begins a key, with its colon, of an object whose members so far have that key already
+pub data Repeats : List ℕ → ℕ → Type 0 where
+  key : {d : ℕ} {x : Members} {l c u v : List ℕ} (r : List ℕ) → Left d (among (members x)) l → Key true c u → Ws v
+      → held u x ≡ true → Repeats (l ++ (c ++ (v ++ (ch ":" ∷ r)))) (length l)
+
+-- ---- 1 to 7; and 15 where none of them is given
 pub data Text-refused (t : List ℕ) : Refusal → Type 0 where
-  too-long : textLimit < length t → Text-refused t TextTooLong
-  not-utf8 : {k : ℕ} → length t ≤ textLimit → Fault t k → Text-refused t (NotUtf8 k)
-  refused : {r : Refusal} → length t ≤ textLimit → Octets t → Refused t r → Text-refused t r
+  loose : {r : Refusal} → Loose-refused t r → Text-refused t r
+  repeated : {m : Meaning} {p : ℕ} → Loose true t m → Repeats t p → ((q : ℕ) → Repeats t q → p ≤ q)
+      → Text-refused t (RepeatedKey p)

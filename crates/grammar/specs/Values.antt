@@ -1,11 +1,13 @@
 -- Values, arrays and objects, and the whole text (docs/FORMAT.md, 1.2 and 7). Assumes nothing.
 use Prim.Native.Nat.{ℕ, _≤_}
+use mathlib.Core.Path.{_≡_}
 use mathlib.Core.Bool.{Bool, true, false}
 use mathlib.Core.List.{List, [], _∷_, _++_}
 use lib.ListN.{length}
 use Rattle.meaning.specs.declared.Number as N
 use Rattle.meaning.specs.declared.Time as T
 use Rattle.meaning.specs.Meaning.{Meaning, Meanings, Members}
+use Rattle.meaning.specs.Once.{once}
 use Rattle.meaning.specs.Limits.{depthLimit, textLimit}
 use Rattle.meaning.specs.Letters.{letters, ch}
 use Rattle.grammar.specs.Checks.{Checked, Room}
@@ -72,7 +74,12 @@ mutual
     member : {d : ℕ} {x : Members} {c u v w a : List ℕ} {m : Meaning} → Key k c u → Ws v → Ws w → Value k d a m
         → Item k d (members x) (c ++ (v ++ (ch ":" ∷ (w ++ a)))) (members (Members.member x u m))
 
--- A text is layout, one value, layout; at most 16,777,216 bytes, and at most 64 arrays and objects open.
-pub data Text (k : Bool) : List ℕ → Meaning → Type 0 where
+-- Layout, one value, layout; at most 16,777,216 bytes, and at most 64 arrays and objects open. Keys may repeat.
+pub data Loose (k : Bool) : List ℕ → Meaning → Type 0 where
   text : {w a v : List ℕ} {m : Meaning} → Ws w → Value k depthLimit a m → Last v
-      → Checked k (length (w ++ (a ++ v)) ≤ textLimit) → Text k (w ++ (a ++ v)) m
+      → Checked k (length (w ++ (a ++ v)) ≤ textLimit) → Loose k (w ++ (a ++ v)) m
+
+-- A text is all of this, and no object in it holds two equal keys.
+pub record Text (k : Bool) (t : List ℕ) (m : Meaning) : Type 0 where
+  pub loose : Loose k t m
+  pub single : Checked k (once m ≡ true)

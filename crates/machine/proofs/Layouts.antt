@@ -18,16 +18,14 @@ use Rattle.grammar.specs.Comments.{C-begin-line, c-char, C-line, c-no-star, c-n
 use Rattle.machine.specs.Machine
 use Rattle.machine.specs.Machine.{Base, want, wantKey, wantString, wantBinary, got, Mode, base, slash, line, block, star, Frame, Conf, at, fail, step}
 use Rattle.machine.specs.Machine.{read, finish, Verdict, classOf, blankC, noteOf, Note, lineEnd, starN, slashN, plainN, controlN}
+use Rattle.machine.specs.Heard.{hears, tell}
 use Rattle.machine.proofs.Tables.{_&_, cut-is}
 use Rattle.machine.proofs.Runs.{adv}
+use Rattle.machine.proofs.Heard.{read-alike, told-step}
 
 pub adv-join : (p : ℕ) (a b : List ℕ) → adv p (a ++ b) ≡ adv (adv p a) b
 adv-join p [] b = refl
 adv-join p (x ∷ a) b = adv-join (suc p) a b
-
-pub stepped : (p : ℕ) (c : Conf) (b : ℕ) (t : List ℕ) (c' : Conf) {v : Verdict} → step p c b ≡ c' → read (suc p) c' t ≡ v → read p c (b ∷ t) ≡ v
-unfolding read
-stepped p c b t c' e h = ap (λ (x : Conf). read (suc p) x t) e ∙ h
 
 -- ---- the bytes of a character of a class: one ASCII byte of the class, or high ones
 
@@ -160,57 +158,60 @@ module _ (s : Base) (d : ℕ) (k : List Frame) where
   star-byte : (p b : ℕ) → BlockByte b → (b ≡ ch "*" → ⊥) → (b ≡ ch "/" → ⊥) → step p (at (star s) d k) b ≡ at (block s) d k
   star-byte p b h f g = star-on p (after-star b (noteOf b) (note-is b) h f g)
 
-  high-lines : {c : List ℕ} → Each High c → (p : ℕ) (r : List ℕ) → read p (at (line s) d k) (c ++ r) ≡ read (adv p c) (at (line s) d k) r
+  high-lines : {c : List ℕ} → Each High c → (p : ℕ) (r : List ℕ) → tell p (at (line s) d k) (c ++ r) ≡ tell (adv p c) (at (line s) d k) r
   high-lines all-none p r = refl
-  high-lines (all-more {b = b} x y) p r = stepped _ _ _ _ _ (line-byte p b (high-line b x)) (high-lines y (suc p) r)
+  high-lines (all-more {b = b} x y) p r = told-step _ _ _ _ _ _ (line-byte p b (high-line b x)) refl (high-lines y (suc p) r)
 
-  high-blocks : {c : List ℕ} → Each High c → (p : ℕ) (r : List ℕ) → read p (at (block s) d k) (c ++ r) ≡ read (adv p c) (at (block s) d k) r
+  high-blocks : {c : List ℕ} → Each High c → (p : ℕ) (r : List ℕ) → tell p (at (block s) d k) (c ++ r) ≡ tell (adv p c) (at (block s) d k) r
   high-blocks all-none p r = refl
-  high-blocks (all-more {b = b} x y) p r = stepped _ _ _ _ _ (block-byte p b (high-block b x) (λ e. omega arith)) (high-blocks y (suc p) r)
+  high-blocks (all-more {b = b} x y) p r = told-step _ _ _ _ _ _ (block-byte p b (high-block b x) (λ e. omega arith)) refl (high-blocks y (suc p) r)
 
-  line-char : {c : List ℕ} → CharBytes c-char c → (p : ℕ) (r : List ℕ) → read p (at (line s) d k) (c ++ r) ≡ read (adv p c) (at (line s) d k) r
-  line-char (CharBytes.ascii {b = b} l o) p r = stepped _ _ _ _ _ (line-byte p b (line-class b o)) refl
+  line-char : {c : List ℕ} → CharBytes c-char c → (p : ℕ) (r : List ℕ) → tell p (at (line s) d k) (c ++ r) ≡ tell (adv p c) (at (line s) d k) r
+  line-char (CharBytes.ascii {b = b} l o) p r = told-step _ _ _ _ _ _ (line-byte p b (line-class b o)) refl refl
   line-char (CharBytes.wide x y) p r = high-lines (all-more x y) p r
 
-  block-char : {c : List ℕ} → CharBytes c-no-star c → (p : ℕ) (r : List ℕ) → read p (at (block s) d k) (c ++ r) ≡ read (adv p c) (at (block s) d k) r
-  block-char (CharBytes.ascii {b = b} l o) p r = let w = star-class b o in stepped _ _ _ _ _ (block-byte p b (w .0) (w .1)) refl
+  block-char : {c : List ℕ} → CharBytes c-no-star c → (p : ℕ) (r : List ℕ) → tell p (at (block s) d k) (c ++ r) ≡ tell (adv p c) (at (block s) d k) r
+  block-char (CharBytes.ascii {b = b} l o) p r = let w = star-class b o in told-step _ _ _ _ _ _ (block-byte p b (w .0) (w .1)) refl refl
   block-char (CharBytes.wide x y) p r = high-blocks (all-more x y) p r
 
-  star-char : {c : List ℕ} → CharBytes c-no-star-or-slash c → (p : ℕ) (r : List ℕ) → read p (at (star s) d k) (c ++ r) ≡ read (adv p c) (at (block s) d k) r
-  star-char (CharBytes.ascii {b = b} l o) p r = let w = slash-class b o in stepped _ _ _ _ _ (star-byte p b (w .0) (w .1) (w .2)) refl
+  star-char : {c : List ℕ} → CharBytes c-no-star-or-slash c → (p : ℕ) (r : List ℕ) → tell p (at (star s) d k) (c ++ r) ≡ tell (adv p c) (at (block s) d k) r
+  star-char (CharBytes.ascii {b = b} l o) p r = let w = slash-class b o in told-step _ _ _ _ _ _ (star-byte p b (w .0) (w .1) (w .2)) refl refl
   star-char (CharBytes.wide {b = b} x y) p r =
-      stepped _ _ _ _ _ (star-byte p b (high-block b x) (λ e. omega arith) (λ e. omega arith)) (high-blocks y (suc p) r)
+      told-step _ _ _ _ _ _ (star-byte p b (high-block b x) (λ e. omega arith) (λ e. omega arith)) refl (high-blocks y (suc p) r)
 
-  line-chars : {c : List ℕ} → Many (Among c-char) c → (p : ℕ) (r : List ℕ) → read p (at (line s) d k) (c ++ r) ≡ read (adv p c) (at (line s) d k) r
+  line-chars : {c : List ℕ} → Many (Among c-char) c → (p : ℕ) (r : List ℕ) → tell p (at (line s) d k) (c ++ r) ≡ tell (adv p c) (at (line s) d k) r
   line-chars Many.none p r = refl
   line-chars (Many.more {c = c} {a = a} x y) p r =
       simp (append-assoc, adv-join) (line-char (char-bytes x) p (a ++ r) ∙ line-chars y (adv p c) r)
 
-  stars-star : {c : List ℕ} → Stars c → (p : ℕ) (r : List ℕ) → read p (at (star s) d k) (c ++ r) ≡ read (adv p c) (at (star s) d k) r
-  stars-star Stars.one p r = stepped _ _ _ _ _ refl refl
-  stars-star (Stars.more x) p r = stepped _ _ _ _ _ refl (stars-star x (suc p) r)
+  stars-star : {c : List ℕ} → Stars c → (p : ℕ) (r : List ℕ) → tell p (at (star s) d k) (c ++ r) ≡ tell (adv p c) (at (star s) d k) r
+  stars-star Stars.one p r = told-step _ _ _ _ _ _ refl refl refl
+  stars-star (Stars.more x) p r = told-step _ _ _ _ _ _ refl refl (stars-star x (suc p) r)
 
-  stars-block : {c : List ℕ} → Stars c → (p : ℕ) (r : List ℕ) → read p (at (block s) d k) (c ++ r) ≡ read (adv p c) (at (star s) d k) r
-  stars-block Stars.one p r = stepped _ _ _ _ _ refl refl
-  stars-block (Stars.more x) p r = stepped _ _ _ _ _ refl (stars-star x (suc p) r)
+  stars-block : {c : List ℕ} → Stars c → (p : ℕ) (r : List ℕ) → tell p (at (block s) d k) (c ++ r) ≡ tell (adv p c) (at (star s) d k) r
+  stars-block Stars.one p r = told-step _ _ _ _ _ _ refl refl refl
+  stars-block (Stars.more x) p r = told-step _ _ _ _ _ _ refl refl (stars-star x (suc p) r)
 
-  block-inner : {c : List ℕ} → C-inner c → (p : ℕ) (r : List ℕ) → read p (at (block s) d k) (c ++ r) ≡ read (adv p c) (at (block s) d k) r
+  block-inner : {c : List ℕ} → C-inner c → (p : ℕ) (r : List ℕ) → tell p (at (block s) d k) (c ++ r) ≡ tell (adv p c) (at (block s) d k) r
   block-inner (C-inner.no-star x) p r = block-char (char-bytes x) p r
   block-inner (C-inner.stars {s = z} {c = c} x y) p r =
       simp (append-assoc, adv-join) (stars-block x p (c ++ r) ∙ star-char (char-bytes y) (adv p z) r)
 
-  block-inners : {c : List ℕ} → Many C-inner c → (p : ℕ) (r : List ℕ) → read p (at (block s) d k) (c ++ r) ≡ read (adv p c) (at (block s) d k) r
+  block-inners : {c : List ℕ} → Many C-inner c → (p : ℕ) (r : List ℕ) → tell p (at (block s) d k) (c ++ r) ≡ tell (adv p c) (at (block s) d k) r
   block-inners Many.none p r = refl
   block-inners (Many.more {c = c} {a = a} x y) p r =
       simp (append-assoc, adv-join) (block-inner x p (a ++ r) ∙ block-inners y (adv p c) r)
 
--- the bytes that begin layout stay at each base
-on-blank : (p d : ℕ) (k : List Frame) (b : ℕ) (s : Base) → classOf b ≡ blankC → step p (at (base s) d k) b ≡ at (base s) d k
-on-blank p d k b want e = rw e
-on-blank p d k b wantKey e = rw e
-on-blank p d k b (wantString z u) e = rw e
-on-blank p d k b (wantBinary u) e = rw e
-on-blank p d k b (got g) e = rw e
+-- the bytes that begin layout stay at each base, and say nothing
+abbrev Quiet : ℕ → Conf → ℕ → Conf → Type 0
+Quiet p c b d = (step p c b ≡ d) × (hears p c b ≡ [])
+
+on-blank : (p d : ℕ) (k : List Frame) (b : ℕ) (s : Base) → classOf b ≡ blankC → Quiet p (at (base s) d k) b (at (base s) d k)
+on-blank p d k b want e = (rw e, rw e)
+on-blank p d k b wantKey e = (rw e, rw e)
+on-blank p d k b (wantString z u) e = (rw e, refl)
+on-blank p d k b (wantBinary u) e = (rw e, refl)
+on-blank p d k b (got g) e = (rw e, rw e)
 
 blank-class : {b : ℕ} → Blank b → classOf b ≡ blankC
 blank-class Blank.space = refl
@@ -222,45 +223,62 @@ end-class : {b : ℕ} → Line-end b → noteOf b ≡ lineEnd
 end-class Line-end.line-feed = refl
 end-class Line-end.carriage-return = refl
 
-on-hash : (p d : ℕ) (k : List Frame) (s : Base) → step p (at (base s) d k) (ch "#") ≡ at (line s) d k
-on-hash p d k want = refl
-on-hash p d k wantKey = refl
-on-hash p d k (wantString z u) = refl
-on-hash p d k (wantBinary u) = refl
-on-hash p d k (got g) = refl
+on-hash : (p d : ℕ) (k : List Frame) (s : Base) → Quiet p (at (base s) d k) (ch "#") (at (line s) d k)
+on-hash p d k want = (refl, refl)
+on-hash p d k wantKey = (refl, refl)
+on-hash p d k (wantString z u) = (refl, refl)
+on-hash p d k (wantBinary u) = (refl, refl)
+on-hash p d k (got g) = (refl, refl)
 
-on-slash : (p d : ℕ) (k : List Frame) (s : Base) → step p (at (base s) d k) (ch "/") ≡ at (slash s) d k
-on-slash p d k want = refl
-on-slash p d k wantKey = refl
-on-slash p d k (wantString z u) = refl
-on-slash p d k (wantBinary u) = refl
-on-slash p d k (got g) = refl
+on-slash : (p d : ℕ) (k : List Frame) (s : Base) → Quiet p (at (base s) d k) (ch "/") (at (slash s) d k)
+on-slash p d k want = (refl, refl)
+on-slash p d k wantKey = (refl, refl)
+on-slash p d k (wantString z u) = (refl, refl)
+on-slash p d k (wantBinary u) = (refl, refl)
+on-slash p d k (got g) = (refl, refl)
 
-begin-line : {b : List ℕ} → C-begin-line b → (s : Base) (p d : ℕ) (k : List Frame) (r : List ℕ) → read p (at (base s) d k) (b ++ r)
-    ≡ read (adv p b) (at (line s) d k) r
-begin-line C-begin-line.hash s p d k r = stepped _ _ _ _ _ (on-hash p d k s) refl
-begin-line C-begin-line.slashes s p d k r = stepped _ _ _ _ _ (on-slash p d k s) (stepped _ _ _ _ _ refl refl)
+begin-line : {b : List ℕ} → C-begin-line b → (s : Base) (p d : ℕ) (k : List Frame) (r : List ℕ) → tell p (at (base s) d k) (b ++ r)
+    ≡ tell (adv p b) (at (line s) d k) r
+begin-line C-begin-line.hash s p d k r = let w = on-hash p d k s in told-step _ _ _ _ _ _ (w .0) (w .1) refl
+begin-line C-begin-line.slashes s p d k r =
+    let w = on-slash p d k s in told-step _ _ _ _ _ _ (w .0) (w .1) (told-step _ _ _ _ _ _ refl refl refl)
+
+pub line-told : {c : List ℕ} → C-line c → (s : Base) (p d : ℕ) (k : List Frame) (r : List ℕ) → tell p (at (base s) d k) (c ++ r)
+    ≡ tell (adv p c) (at (line s) d k) r
+line-told (C-line.c-line {b = b} {c = c} x y) s p d k r =
+    simp (append-assoc, adv-join) (begin-line x s p d k (c ++ r) ∙ line-chars s d k y (adv p b) r)
+
+block-told : {c : List ℕ} → C-block c → (s : Base) (p d : ℕ) (k : List Frame) (r : List ℕ) → tell p (at (base s) d k) (c ++ r)
+    ≡ tell (adv p c) (at (base s) d k) r
+block-told (C-block.c-block {a = a} {s = z} x y) s p d k r =
+    let w = on-slash p d k s in
+    simp (append-assoc, adv-join)
+    (told-step p _ (ch "/") _ _ _ (w .0) (w .1)
+    (told-step (suc p) _ (ch "*") _ _ _ refl refl
+    (block-inners s d k x (suc (suc p)) (z ++ (ch "/" ∷ r)) ∙ stars-block s d k y (adv (suc (suc p)) a) (ch "/" ∷ r) ∙ told-step _ _ _ _ _ _ refl refl refl)))
+
+pub layout-told : {w : List ℕ} → Ws w → (s : Base) (p d : ℕ) (k : List Frame) (r : List ℕ) → tell p (at (base s) d k) (w ++ r)
+    ≡ tell (adv p w) (at (base s) d k) r
+layout-told Ws.none s p d k r = refl
+layout-told (Ws.blank {b = b} x w) s p d k r =
+    let y = on-blank p d k b s (blank-class x) in told-step _ _ _ _ _ _ (y .0) (y .1) (layout-told w s (suc p) d k r)
+layout-told (Ws.line {b = b} {c = c} {a = a} x y w) s p d k r =
+    simp (append-assoc, adv-join)
+    (line-told x s p d k (b ∷ (a ++ r)) ∙ told-step (adv p c) (at (line s) d k) b (a ++ r) (at (base s) d k) _ (rw (end-class y)) refl
+    (layout-told w s (suc (adv p c)) d k r))
+layout-told (Ws.block {c = c} {a = a} x w) s p d k r =
+    simp (append-assoc, adv-join) (block-told x s p d k (a ++ r) ∙ layout-told w s (adv p c) d k r)
+
+-- ---- the same of what is read
+
+pub stepped : (p : ℕ) (c : Conf) (b : ℕ) (t : List ℕ) (c' : Conf) {v : Verdict} → step p c b ≡ c' → read (suc p) c' t ≡ v → read p c (b ∷ t) ≡ v
+unfolding read
+stepped p c b t c' e h = ap (λ (x : Conf). read (suc p) x t) e ∙ h
 
 pub line-run : {c : List ℕ} → C-line c → (s : Base) (p d : ℕ) (k : List Frame) (r : List ℕ) → read p (at (base s) d k) (c ++ r)
     ≡ read (adv p c) (at (line s) d k) r
-line-run (C-line.c-line {b = b} {c = c} x y) s p d k r =
-    simp (append-assoc, adv-join) (begin-line x s p d k (c ++ r) ∙ line-chars s d k y (adv p b) r)
-
-block-run : {c : List ℕ} → C-block c → (s : Base) (p d : ℕ) (k : List Frame) (r : List ℕ) → read p (at (base s) d k) (c ++ r)
-    ≡ read (adv p c) (at (base s) d k) r
-block-run (C-block.c-block {a = a} {s = z} x y) s p d k r =
-    simp (append-assoc, adv-join)
-    (stepped p _ (ch "/") _ _ (on-slash p d k s)
-    (stepped (suc p) _ (ch "*") _ _ refl
-    (block-inners s d k x (suc (suc p)) (z ++ (ch "/" ∷ r)) ∙ stars-block s d k y (adv (suc (suc p)) a) (ch "/" ∷ r) ∙ stepped _ _ _ _ _ refl refl)))
+line-run x s p d k r = read-alike [] _ _ _ _ _ _ (line-told x s p d k r)
 
 pub layout-run : {w : List ℕ} → Ws w → (s : Base) (p d : ℕ) (k : List Frame) (r : List ℕ) → read p (at (base s) d k) (w ++ r)
     ≡ read (adv p w) (at (base s) d k) r
-layout-run Ws.none s p d k r = refl
-layout-run (Ws.blank {b = b} x w) s p d k r = stepped _ _ _ _ _ (on-blank p d k b s (blank-class x)) (layout-run w s (suc p) d k r)
-layout-run (Ws.line {b = b} {c = c} {a = a} x y w) s p d k r =
-    simp (append-assoc, adv-join)
-    (line-run x s p d k (b ∷ (a ++ r)) ∙ stepped (adv p c) (at (line s) d k) b (a ++ r) (at (base s) d k) (rw (end-class y))
-    (layout-run w s (suc (adv p c)) d k r))
-layout-run (Ws.block {c = c} {a = a} x w) s p d k r =
-    simp (append-assoc, adv-join) (block-run x s p d k (a ++ r) ∙ layout-run w s (adv p c) d k r)
+layout-run w s p d k r = read-alike [] _ _ _ _ _ _ (layout-told w s p d k r)

@@ -12,10 +12,16 @@ pub mod Binaries
 pub mod Names
 -- What a byte's class says of it.
 pub mod Classes
+-- What is heard beside the machine.
+pub mod Heard
 -- Layout, forwards.
 pub mod Layouts
+-- The keys of a derivation, with their places.
+pub mod Derived
 -- What the grammar derives, the pushdown reads.
 pub mod Complete
+-- What is heard of keys, against the grammar.
+pub mod Repeated
 -- What the pushdown accepts, the grammar derives.
 pub mod Sound
 -- Every refusal's place is at most the text's length.
@@ -28,3 +34,5 @@ pub mod Lift
 pub mod Vectors
 -- Which of 3 to 7, and where, by the grammar alone.
 pub mod Refusals
+-- What is accepted and what is refused, 15 too.
+pub mod Accepted

@@ -21,6 +21,7 @@ use Rattle.meaning.specs.Paper.{placeOf}
 use Rattle.meaning.specs.declared.Refusal.{Refusal}
 use Rattle.meaning.specs.declared.Refusal.the-variants.{TextTooLong, NotUtf8, NotGrammar, BadEscape, BadTime, BadNumber, TooDeep, TapeTooShort, StoreTooShort}
 use Rattle.meaning.specs.declared.Refusal.the-variants.{NotWellFormed, NoJsonForm, OutputTooShort, WrittenTooLong, NoSuchRecord}
+use Rattle.meaning.specs.declared.Refusal.the-variants.{RepeatedKey}
 use Rattle.grammar.specs.Values.{Inside, elements, members}
 use Rattle.machine.specs.Scan.{Out, takes, stops, breaks, over}
 use Rattle.machine.specs.Strings as S
@@ -64,6 +65,7 @@ fault-within p (NoJsonForm i) h = absurd h
 fault-within p (OutputTooShort n) h = absurd h
 fault-within p (WrittenTooLong n) h = absurd h
 fault-within p (NoSuchRecord i) h = absurd h
+fault-within p (RepeatedKey q) h = absurd h
 
 -- ---- string parts
 

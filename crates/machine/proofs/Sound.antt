@@ -23,7 +23,7 @@ use Rattle.grammar.specs.Times.{Time-value}
 use Rattle.grammar.specs.Strings.{String-part, Concat, String}
 use Rattle.grammar.specs.Binary.{B-value, Binary}
 use Rattle.grammar.specs.Keys.{Identifier, Key}
-use Rattle.grammar.specs.Values.{Inside, elements, members, Closes, Value, Rest, After, Item, Text}
+use Rattle.grammar.specs.Values.{Inside, elements, members, Closes, Value, Rest, After, Item, Loose}
 use Rattle.grammar.proofs.Utf8 as Utf8
 use Rattle.grammar.proofs.Bytewise
 use Rattle.machine.specs.Scan.{Out, takes, stops, breaks, over}
@@ -1091,8 +1091,8 @@ derived t m o e =
     }
 
 -- in UTF-8 and within the length, what the machine accepts, the grammar derives
-pub derives : (t : List ℕ) (m : Meaning) → Octets t → length t ≤ textLimit → reading t ≡ Ok m → Text true t m
+pub derives : (t : List ℕ) (m : Meaning) → Octets t → length t ≤ textLimit → reading t ≡ Ok m → Loose true t m
 derives t m o l e =
     let h = derived t m o e in
-    subst (λ (s : List ℕ). Text true s m) (sym (h .split)) (Text.text (h .layout) (h .value) (h .last)
+    subst (λ (s : List ℕ). Loose true s m) (sym (h .split)) (Loose.text (h .layout) (h .value) (h .last)
     (subst (λ (s : List ℕ). length s ≤ textLimit) (h .split) l))

@@ -15,7 +15,7 @@ use Rattle.meaning.specs.Limits.{textLimit, depthLimit}
 use Rattle.meaning.specs.Meaning.{Meaning}
 use Rattle.meaning.specs.declared.Refusal.{Refusal}
 use Rattle.meaning.specs.declared.Refusal.the-variants.{TextTooLong}
-use Rattle.grammar.specs.Values.{Value, Text}
+use Rattle.grammar.specs.Values.{Value, Loose}
 use Rattle.meaning.specs.Good.{Good}
 use Rattle.meaning.specs.Canonical.{canonical}
 use Rattle.grammar.proofs.Utf8.{text-octets}
@@ -26,33 +26,33 @@ use Rattle.machine.proofs.Runs.{adv}
 use Rattle.machine.proofs.Complete.{value-reads, reads}
 use Rattle.machine.proofs.Sound.{derives}
 
-text-length : {t : List ℕ} {m : Meaning} → Text true t m → length t ≤ textLimit
-text-length (Text.text w v l h) = h
+loose-length : {t : List ℕ} {m : Meaning} → Loose true t m → length t ≤ textLimit
+loose-length (Loose.text w v l h) = h
 
 -- what the grammar derives, the machine reads, with that meaning
-pub complete : {t : List ℕ} {m : Meaning} → Text true t m → verdict t ≡ Ok m
+pub complete : {t : List ℕ} {m : Meaning} → Loose true t m → verdict t ≡ Ok m
 unfolding verdict decoded
-complete {t} x = rw (le-leb (length t) textLimit (text-length x), done-judged (text-octets x)) (reads x)
+complete {t} x = rw (le-leb (length t) textLimit (loose-length x), done-judged (text-octets x)) (reads x)
 
 refused : {r : Refusal} {m : Meaning} → No r ≡ Ok m → ⊥
 refused e = let z : _≡_ {A = ℕ} 0 1 = cc in omega arith
 
 -- what the machine accepts, the grammar derives
-pub sound : (t : List ℕ) (m : Meaning) → verdict t ≡ Ok m → Text true t m
+pub sound : (t : List ℕ) (m : Meaning) → verdict t ≡ Ok m → Loose true t m
 unfolding verdict decoded
 sound t m e = by-length (leb (length t) textLimit) refl e
   where
-    by-utf8 : length t ≤ textLimit → (a : Utf8Answer) → judged t ≡ a → decoded a t ≡ Ok m → Text true t m
+    by-utf8 : length t ≤ textLimit → (a : Utf8Answer) → judged t ≡ a → decoded a t ≡ Ok m → Loose true t m
     by-utf8 l Done f g = derives t m (judged-done f) l g
     by-utf8 l (IllFormed k) f g = absurd (refused g)
 
-    by-length : (x : Bool) → leb (length t) textLimit ≡ x → cond x (decoded (judged t) t) (No TextTooLong) ≡ Ok m → Text true t m
+    by-length : (x : Bool) → leb (length t) textLimit ≡ x → cond x (decoded (judged t) t) (No TextTooLong) ≡ Ok m → Loose true t m
     by-length true f g = by-utf8 (leb-true _ _ f) (judged t) refl g
     by-length false f g = absurd (refused g)
 
 -- the grammar gives no text two meanings
-pub unambiguous : {t : List ℕ} {m n : Meaning} → Text true t m → Text true t n → m ≡ n
-unambiguous x y = let e = complete x in let f = complete y in cc
+pub loosely-unambiguous : {t : List ℕ} {m n : Meaning} → Loose true t m → Loose true t n → m ≡ n
+loosely-unambiguous x y = let e = complete x in let f = complete y in cc
 
 -- two good meanings with one canonical text are one, however long it is
 pub same-canonical : (m n : Meaning) → Good m → Good n → canonical m ≡ canonical n → m ≡ n

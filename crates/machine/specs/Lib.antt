@@ -16,3 +16,5 @@ pub mod Names
 pub mod Machine
 -- Verdict: what a whole text comes to
 pub mod Verdict
+-- Heard: what a text says of objects and keys
+pub mod Heard

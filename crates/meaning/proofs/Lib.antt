@@ -11,4 +11,5 @@ pub mod Text
 pub mod Values
 pub mod Json
 pub mod Paper
+pub mod Events
 pub mod Vectors

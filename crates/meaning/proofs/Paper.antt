@@ -6,6 +6,7 @@ use lib.Dec.{eqb}
 use Rattle.meaning.specs.declared.Refusal.{Refusal}
 use Rattle.meaning.specs.declared.Refusal.the-variants.{TextTooLong, NotUtf8, NotGrammar, BadEscape, BadTime, BadNumber, TooDeep, TapeTooShort}
 use Rattle.meaning.specs.declared.Refusal.the-variants.{StoreTooShort, NotWellFormed, NoJsonForm, OutputTooShort, WrittenTooLong, NoSuchRecord}
+use Rattle.meaning.specs.declared.Refusal.the-variants.{RepeatedKey}
 use Rattle.rules.specs.Paper.{Said, numberSaid, placeSaid}
 use Rattle.meaning.specs.Paper.{numberOf, placeOf, refusalSaid}
 
@@ -24,7 +25,8 @@ refusal n p =
     (cond (eqb n 12) (OutputTooShort p)
     (cond (eqb n 13) (WrittenTooLong p)
     (cond (eqb n 14) (NoSuchRecord p)
-    TextTooLong))))))))))))
+    (cond (eqb n 15) (RepeatedKey p)
+    TextTooLong)))))))))))))
 
 told : (r : Refusal) → refusal (numberOf r) (placeOf r) ≡ r
 unfolding refusal
@@ -42,6 +44,7 @@ told (NoJsonForm p) = refl
 told (OutputTooShort p) = refl
 told (WrittenTooLong p) = refl
 told (NoSuchRecord p) = refl
+told (RepeatedKey p) = refl
 
 pub same-refusal : {X : Type 0} (r s : Refusal) → _≡_ {A = Said X} (refusalSaid r) (refusalSaid s) → r ≡ s
 same-refusal r s e = sym (told r) ∙ ap₂ refusal (ap numberSaid e) (ap placeSaid e) ∙ told s

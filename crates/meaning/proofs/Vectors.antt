@@ -18,6 +18,7 @@ use Rattle.meaning.specs.declared.Record.{Record}
 use Rattle.meaning.specs.Letters.{letters}
 use Rattle.meaning.specs.Bytes.{le}
 use Rattle.meaning.specs.Clock.{timeOfDay}
+use Rattle.meaning.specs.Once.{once, onceElements, onceMembers, held, same}
 use Rattle.meaning.specs.Meaning.{Meaning, null, bool, number, string, binary, time, array, object, none, more, bare, member}
 use Rattle.meaning.specs.Good.{GoodFinite, nonzero, GoodDate, most, depth, Good}
 use Rattle.meaning.specs.Tape.{records, elementsCount, membersCount, storeOf, bytes, recordsOf, recordBytes}
@@ -140,7 +141,7 @@ march-good : GoodDate march
 march-good = record { year = omega arith; days = 31; month = Days.march; from = omega arith; to = omega arith }
 
 pub sample-good : Good sample
-unfolding depth most depthLimit
+unfolding depth most depthLimit once onceElements onceMembers held same
 sample-good =
     let run = ascii-octets (letters "run") (omega arith) in
     let eta = ascii-octets (letters "eta") (omega arith) in
@@ -152,6 +153,7 @@ sample-good =
     record {
       parts = ((((tt, run, melt), eta, tt), at, (march-good, omega arith, omega arith)), t, ((tt, half), tenths));
       shallow = omega arith;
+      single = refl;
     }
 
 abbrev one : Number

@@ -1,6 +1,7 @@
--- A meaning within the limits (docs/FORMAT.md, 8 and 9): its parts one by one, and its depth. Assumes nothing.
+-- A meaning within the limits (docs/FORMAT.md, 8 and 9): its parts one by one, its depth, and each key once in its
+-- object. Assumes nothing.
 use mathlib.Core.Path.{_≡_}
-use mathlib.Core.Bool.{cond}
+use mathlib.Core.Bool.{cond, true}
 use mathlib.Core.List.{List, [], _∷_}
 use Prim.Native.Nat.{ℕ, _+_, _%_, _≤_, _<_}
 use lib.Dec.{leb}
@@ -15,6 +16,7 @@ use Rattle.meaning.specs.declared.Time.the-variants.{LocalDate, LocalTim
 use Rattle.meaning.specs.Limits.{depthLimit, coefficientLimit, powerLimit, offsetLimit, day}
 use Rattle.meaning.specs.Meaning.{Meaning, Meanings, Members, null, bool, number, string, binary, time, array}
 use Rattle.meaning.specs.Meaning.{object, none, more, bare, member}
+use Rattle.meaning.specs.Once.{once}
 
 -- A coefficient and a power of ten: the coefficient is below 2^64 and doesn't end in the digit 0, the power lies from
 -- -9,999 to 9,999. Zero has coefficient 0 and power 0.
@@ -90,3 +92,4 @@ unfoldable mutual
 pub record Good (m : Meaning) : Type 0 where
   pub parts : GoodParts m
   pub shallow : depth m ≤ depthLimit
+  pub single : once m ≡ true

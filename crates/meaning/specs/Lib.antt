@@ -2,6 +2,7 @@ pub mod Letters
 pub mod Limits
 pub mod Meaning
 pub mod Clock
+pub mod Once
 pub mod Good
 pub mod Bytes
 pub mod Tape

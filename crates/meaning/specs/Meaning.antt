@@ -6,7 +6,7 @@ use Rattle.meaning.specs.declared.Number.{Number}
 use Rattle.meaning.specs.declared.Time.{Time}
 
 -- Arrays and objects are sequences, the last element or member outermost; an object keeps its members in the order
--- written, repeated keys included. Strings and keys are their UTF-8 bytes.
+-- written. Strings and keys are their UTF-8 bytes.
 mutual
   pub data Meaning : Type 0 where
     null : Meaning

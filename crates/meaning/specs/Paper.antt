@@ -4,7 +4,7 @@ use Rattle.meaning.specs.declared.Refusal.{Refusal}
 use Rattle.meaning.specs.declared.Refusal.the-variants.{TextTooLong, NotUtf8, NotGrammar, BadEscape, BadTime}
 use Rattle.meaning.specs.declared.Refusal.the-variants.{BadNumber, TooDeep, TapeTooShort, StoreTooShort}
 use Rattle.meaning.specs.declared.Refusal.the-variants.{NotWellFormed, NoJsonForm, OutputTooShort}
-use Rattle.meaning.specs.declared.Refusal.the-variants.{WrittenTooLong, NoSuchRecord}
+use Rattle.meaning.specs.declared.Refusal.the-variants.{WrittenTooLong, NoSuchRecord, RepeatedKey}
 use Rattle.rules.specs.Paper.{Said, refused}
 use Rattle.meaning.specs.Limits.{textLimit}
 
@@ -37,6 +37,8 @@ row (OutputTooShort needed) = (12, needed)
 row (WrittenTooLong size) = (13, size)
 -- index not below the number of whole records: the index
 row (NoSuchRecord index) = (14, index)
+-- repeated key: first byte of the first key in the text that repeats an earlier one of its object
+row (RepeatedKey place) = (15, place)
 
 abbrev pub numberOf : Refusal → ℕ
 numberOf why = row why .0

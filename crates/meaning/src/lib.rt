@@ -75,6 +75,7 @@ pub enum Refusal {
     OutputTooShort(usize),
     WrittenTooLong(usize),
     NoSuchRecord(usize),
+    RepeatedKey(usize),
 }
 
 // One record of the tape. A string's start is its place in the store, a count how many elements or members are directly inside,

@@ -12,6 +12,7 @@ use Rattle.meaning.specs.declared.Time.the-variants.{LocalDate, LocalTime, Loca
 use Rattle.meaning.specs.declared.Refusal.{Refusal}
 use Rattle.meaning.specs.declared.Refusal.the-variants.{TextTooLong, NotUtf8, NotGrammar, BadEscape, BadTime, BadNumber, TooDeep, TapeTooShort, StoreTooShort}
 use Rattle.meaning.specs.declared.Refusal.the-variants.{NotWellFormed, NoJsonForm, OutputTooShort, WrittenTooLong, NoSuchRecord}
+use Rattle.meaning.specs.declared.Refusal.the-variants.{RepeatedKey}
 use Rattle.meaning.specs.Limits.{coefficientLimit}
 use Rattle.meaning.specs.Letters.{ch}
 use Rattle.meaning.specs.Clock.{timeOfDay}
@@ -61,6 +62,7 @@ Blame p (NoJsonForm i) = ⊥
 Blame p (OutputTooShort n) = ⊥
 Blame p (WrittenTooLong n) = ⊥
 Blame p (NoSuchRecord i) = ⊥
+Blame p (RepeatedKey q) = ⊥
 
 -- an outcome at the place p: the next state began no later, a refusal's place is as above
 abbrev Placed : ℕ → Res → Type 0

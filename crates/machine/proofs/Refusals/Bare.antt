@@ -14,7 +14,7 @@ use Rattle.meaning.specs.declared.Refusal.the-variants.{NotGrammar, TooDeep}
 use Rattle.grammar.specs.Comments.{Ws, Last}
 use Rattle.grammar.specs.Strings.{String-part, Concat, String}
 use Rattle.grammar.specs.Keys.{Key}
-use Rattle.grammar.specs.Values.{Inside, elements, members, Closes, Value, Rest, After, Item, Text}
+use Rattle.grammar.specs.Values.{Inside, elements, members, Closes, Value, Rest, After, Item, Loose}
 use Rattle.machine.specs.Scan.{Out, takes, stops, breaks, over}
 use Rattle.machine.specs.Machine
 use Rattle.machine.specs.Machine.{Use, as-value, as-key, Got, Base, want, wantKey, wantString, got, base, item, Frame, inside, pair, at, fail, step, read}
@@ -279,8 +279,8 @@ last-mild (Last.unended {a = a} {c = c} w l) p d g (m, e) =
     mild-by (layout-run w (got g) p d [] c ∙ rw (← append-nil c) (line-run l (got g) (adv p a) d [] [] ∙ rw e)) (mild-ok {m = m})
 
 -- a text of the bare grammar is never refused with 3
-pub never-3 : {t : List ℕ} {m : Meaning} → Text false t m → Mild (reading t)
+pub never-3 : {t : List ℕ} {m : Meaning} → Loose false t m → Mild (reading t)
 unfolding reading
-never-3 (Text.text {w = w} {a = a} {v = v} l x y h) =
+never-3 (Loose.text {w = w} {a = a} {v = v} l x y h) =
     mild-by (layout-run l want 0 depthLimit [] (a ++ v)) (value-mild x (adv 0 w) depthLimit [] v (last-follows y)
     (λ g i. last-mild y (adv (adv 0 w) a) depthLimit g i))

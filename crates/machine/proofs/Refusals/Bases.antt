@@ -20,7 +20,7 @@ use Rattle.machine.proofs.Refusals.Loose.{loose-value, loose-key}
 
 -- ---- layout on the left
 
-left-more : {d : ℕ} {s : Spot} {l w : List ℕ} → Left d s l → Ws w → Left d s (l ++ w)
+pub left-more : {d : ℕ} {s : Spot} {l w : List ℕ} → Left d s l → Ws w → Left d s (l ++ w)
 left-more (Left.text v) w = Left.text (lay-join v w)
 left-more {w = w} (Left.array {d = d} {l = l} {w = v} h x) y = subst (Left d _) (sym (append-assoc l (ch "[" ∷ v) w)) (Left.array h (lay-join x y))
 left-more {w = w} (Left.object {d = d} {l = l} {w = v} h x) y = subst (Left d _) (sym (append-assoc l (ch "{" ∷ v) w)) (Left.object h (lay-join x y))

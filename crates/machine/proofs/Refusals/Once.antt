@@ -10,7 +10,7 @@ use lib.ListN.{length, length-append}
 use Rattle.rules.specs.Rfc3629.{Octets}
 use Rattle.rules.proofs.Characters.{same-head, same-tail}
 use Rattle.meaning.specs.Meaning.{Meaning}
-use Rattle.grammar.specs.Values.{Text}
+use Rattle.grammar.specs.Values.{Loose}
 use Rattle.machine.specs.Machine.{Ok, reading}
 use Rattle.grammar.specs.Refused.{Opens, Stuck}
 use Rattle.machine.proofs.Sound.{derived}
@@ -38,7 +38,7 @@ record Byte (t : List ℕ) (p : ℕ) : Type 0 where
   stops : Opens (front ++ (at ∷ [])) → ⊥
 
 abbrev Found : List ℕ → ℕ → Type 0
-Found t p = Byte t p ⊎ (Opens t × (p ≡ length t) × ((m : Meaning) → Text false t m → ⊥))
+Found t p = Byte t p ⊎ (Opens t × (p ≡ length t) × ((m : Meaning) → Loose false t m → ⊥))
 
 found : {t : List ℕ} {p : ℕ} → Stuck t p → Found t p
 found (Stuck.byte a b r h n) = inl (record { front = a; at = b; rest = r; split = refl; place = refl; opens = h; stops = n })
@@ -70,10 +70,10 @@ stuck-once t p q x y = go (found x) (found y)
 pub accepted : (t : List ℕ) (m : Meaning) (p : ℕ) → Octets t → reading t ≡ Ok m → Stuck t p → ⊥
 accepted t m p o e x = go (found x)
   where
-    means : Text false t m
-    means = let h = derived t m o e in subst (λ (s : List ℕ). Text false s m) (sym (h .split)) (Text.text (h .layout) (loose-value (h .value)) (h .last) tt)
+    means : Loose false t m
+    means = let h = derived t m o e in subst (λ (s : List ℕ). Loose false s m) (sym (h .split)) (Loose.text (h .layout) (loose-value (h .value)) (h .last) tt)
 
     go : Found t p → ⊥
     go (inl h) =
-        h .stops (Opens.opens (h .rest) m (subst (λ (s : List ℕ). Text false s m) (h .split ∙ sym (append-assoc (h .front) (h .at ∷ []) (h .rest))) means))
+        h .stops (Opens.opens (h .rest) m (subst (λ (s : List ℕ). Loose false s m) (h .split ∙ sym (append-assoc (h .front) (h .at ∷ []) (h .rest))) means))
     go (inr h) = h .2 m means

@@ -11,7 +11,7 @@ use Rattle.grammar.specs.Comments.{Ws, Last}
 use Rattle.grammar.specs.Strings.{double, Chars, Quoted, String-part, Concat, String}
 use Rattle.grammar.specs.Binary.{B-value, Binary}
 use Rattle.grammar.specs.Keys.{Key}
-use Rattle.grammar.specs.Values.{elements, members, Closes, Value, Rest, After, Item, Text}
+use Rattle.grammar.specs.Values.{elements, members, Closes, Value, Rest, After, Item, Loose}
 use Rattle.machine.specs.Machine.{Use, as-value, as-key, Got, Base, want, wantKey, wantString, wantBinary, got, Frame, inside, pair}
 use Rattle.grammar.specs.Refused.{Opens}
 use Rattle.machine.proofs.Refusals.Loose.{loose-value, loose-key, loose-string}
@@ -19,13 +19,13 @@ use Rattle.machine.proofs.Refusals.Bases
 
 -- less begins it too
 pub fewer : (a b : List ℕ) → Opens (a ++ b) → Opens a
-fewer a b (Opens.opens s m x) = Opens.opens (b ++ s) m (subst (λ (t : List ℕ). Text false t m) (append-assoc a b s) x)
+fewer a b (Opens.opens s m x) = Opens.opens (b ++ s) m (subst (λ (t : List ℕ). Loose false t m) (append-assoc a b s) x)
 
 -- ---- a value without checks, where one may begin
 
 -- with layout behind it: all brackets are closed after it
 pub plug : (k : List Frame) (d : ℕ) (l : List ℕ) → Bases.ValAt k d l → (b w : List ℕ) (m : Meaning) → Value false depthLimit b m → Ws w → Opens (l ++ (b ++ w))
-plug [] d l h b w m v x = Opens.opens [] m (rw append-nil (Text.text (h .1) v (Last.ended x) tt))
+plug [] d l h b w m v x = Opens.opens [] m (rw append-nil (Loose.text (h .1) v (Last.ended x) tt))
 plug (inside (elements y) ∷ k) d l h b w m v x =
     let i = h .inner in
     let y' = elements (Meanings.more y m) in

@@ -9,7 +9,7 @@ use Rattle.rules.specs.Rfc3629.{Octets}
 use Rattle.meaning.specs.declared.Refusal.the-variants.{NotGrammar}
 use Rattle.meaning.specs.Meaning.{Meaning}
 use Rattle.grammar.specs.Comments.{Ws}
-use Rattle.grammar.specs.Values.{Text}
+use Rattle.grammar.specs.Values.{Loose}
 use Rattle.machine.specs.Machine.{No, reading, Conf, at, fail, step}
 use Rattle.grammar.specs.Refused.{Opens, Stuck}
 use Rattle.machine.proofs.Runs.{adv}
@@ -22,7 +22,7 @@ use Rattle.machine.proofs.Refusals.Viable.{Fails, conf-opens, opens-bef
 -- ---- with the byte at the place, or at the end
 
 -- at the end the text is none of the bare grammar
-no-text : (t : List ℕ) (q : ℕ) → reading t ≡ No (NotGrammar q) → (m : Meaning) → Text false t m → ⊥
+no-text : (t : List ℕ) (q : ℕ) → reading t ≡ No (NotGrammar q) → (m : Meaning) → Loose false t m → ⊥
 no-text t q e m x = never-3 x q e
 
 -- with the byte there the bytes begin none

@@ -18,8 +18,8 @@ use Rattle.meaning.specs.Limits.{textLimit}
 use Rattle.meaning.specs.Meaning.{Meaning}
 use Rattle.meaning.specs.declared.Refusal.{Refusal}
 use Rattle.meaning.specs.declared.Refusal.the-variants.{TextTooLong, NotGrammar}
-use Rattle.grammar.specs.Values.{Text}
-use Rattle.grammar.specs.Refused.{Stuck, Item-fault, Refused, Text-refused, too-long, not-utf8}
+use Rattle.grammar.specs.Values.{Loose}
+use Rattle.grammar.specs.Refused.{Stuck, Item-fault, Refused, Loose-refused, too-long, not-utf8}
 use Rattle.machine.specs.Machine.{Verdict, Ok, No, reading}
 use Rattle.machine.specs.Verdict.{decoded, verdict}
 use Rattle.machine.proofs.Whole.{complete}
@@ -85,30 +85,30 @@ short-verdict : (t : List ℕ) (a : Utf8Answer) → length t ≤ textLimit → j
 unfolding verdict
 short-verdict t a l e = rw (le-leb (length t) textLimit l, e)
 
-from-verdict : (t : List ℕ) (r : Refusal) → verdict t ≡ No r → Text-refused t r
+from-verdict : (t : List ℕ) (r : Refusal) → verdict t ≡ No r → Loose-refused t r
 unfolding verdict decoded
 from-verdict t r e = by-length (leb (length t) textLimit) refl e
   where
-    by-utf8 : length t ≤ textLimit → (a : Utf8Answer) → judged t ≡ a → decoded a t ≡ No r → Text-refused t r
-    by-utf8 l Done f g = let o = judged-done f in Text-refused.refused l o (refusals t o r .0 g)
-    by-utf8 l (IllFormed k) f g = subst (Text-refused t) (same-no g) (not-utf8 l (utf8-fault (subst (Judged t) f (judged-is t))))
+    by-utf8 : length t ≤ textLimit → (a : Utf8Answer) → judged t ≡ a → decoded a t ≡ No r → Loose-refused t r
+    by-utf8 l Done f g = let o = judged-done f in Loose-refused.refused l o (refusals t o r .0 g)
+    by-utf8 l (IllFormed k) f g = subst (Loose-refused t) (same-no g) (not-utf8 l (utf8-fault (subst (Judged t) f (judged-is t))))
 
-    by-length : (x : Bool) → leb (length t) textLimit ≡ x → cond x (decoded (judged t) t) (No TextTooLong) ≡ No r → Text-refused t r
+    by-length : (x : Bool) → leb (length t) textLimit ≡ x → cond x (decoded (judged t) t) (No TextTooLong) ≡ No r → Loose-refused t r
     by-length true f g = by-utf8 (leb-true _ _ f) (judged t) refl g
-    by-length false f g = subst (Text-refused t) (same-no g) (too-long (leb-false _ _ f))
+    by-length false f g = subst (Loose-refused t) (same-no g) (too-long (leb-false _ _ f))
 
-to-verdict : (t : List ℕ) (r : Refusal) → Text-refused t r → verdict t ≡ No r
+to-verdict : (t : List ℕ) (r : Refusal) → Loose-refused t r → verdict t ≡ No r
 unfolding verdict decoded
 to-verdict t r (too-long h) = rw (lt-leb (length t) textLimit h)
 to-verdict t r (not-utf8 {k = k} l f) = short-verdict t (IllFormed k) l (one-outcome-utf8 (judged-is t) (ill f refl))
-to-verdict t r (Text-refused.refused l o x) = short-verdict t Done l (done-judged o) ∙ refusals t o r .1 x
+to-verdict t r (Loose-refused.refused l o x) = short-verdict t Done l (done-judged o) ∙ refusals t o r .1 x
 
-pub text-refusals : (t : List ℕ) (r : Refusal) → (verdict t ≡ No r) ↔ Text-refused t r
-text-refusals t r = (from-verdict t r, to-verdict t r)
+pub loose-refusals : (t : List ℕ) (r : Refusal) → (verdict t ≡ No r) ↔ Loose-refused t r
+loose-refusals t r = (from-verdict t r, to-verdict t r)
 
-pub one-text-refusal : {t : List ℕ} {r s : Refusal} → Text-refused t r → Text-refused t s → r ≡ s
-one-text-refusal {t} {r} {s} x y = same-no (sym (to-verdict t r x) ∙ to-verdict t s y)
+pub one-loose-refusal : {t : List ℕ} {r s : Refusal} → Loose-refused t r → Loose-refused t s → r ≡ s
+one-loose-refusal {t} {r} {s} x y = same-no (sym (to-verdict t r x) ∙ to-verdict t s y)
 
 -- a text that has a meaning is not refused
-pub not-refused : {t : List ℕ} {m : Meaning} {r : Refusal} → Text true t m → Text-refused t r → ⊥
-not-refused {t} {m} {r} x y = no-not-ok (sym (complete x) ∙ to-verdict t r y)
+pub loose-not-refused : {t : List ℕ} {m : Meaning} {r : Refusal} → Loose true t m → Loose-refused t r → ⊥
+loose-not-refused {t} {m} {r} x y = no-not-ok (sym (complete x) ∙ to-verdict t r y)
