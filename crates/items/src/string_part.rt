@@ -26,7 +26,7 @@ enum Escape {
 }
 
 // What the escapes at a backslash come to: a character, a bad one, or a byte that no rule allows.
-enum Char {
+pub enum Char {
     Whole { character: u32, next: usize },
     BadEscape(usize),
     NotGrammar(usize),
@@ -202,7 +202,7 @@ fn unit(s: &[u8], next: usize, w: u32) -> Char
 }
 
 // One escape, or two that make one character.
-fn character(s: &[u8], at: usize) -> Char
+pub fn character(s: &[u8], at: usize) -> Char
     requires { ⌜ (at < length (now s)) × (getD (now s) at 0 ≡ ch "\\") ⌝ }
     ensures { λ r. ⌜ CharSays (now (s .entry)) at r ⌝ }
 {
@@ -279,7 +279,7 @@ fn plain_bytes(s: &[u8], from: usize, q: u8) -> usize
 }
 
 // The same, in blocks of 16 as long as all of a block is plain.
-fn plain_end(s: &[u8], from: usize, q: u8) -> usize
+pub fn plain_end(s: &[u8], from: usize, q: u8) -> usize
     requires { ⌜ from ≤ length (now s) ⌝ }
     ensures { λ r. ⌜ Passed (now (s .entry)) q from r ⌝ }
 {
@@ -347,7 +347,7 @@ fn inner(s: &[u8], q: u8, store: &mut [u8], at: usize) -> Part
 }
 
 // Past one LF, or one CR LF, right after the opening.
-fn lines_start(s: &[u8]) -> usize
+pub fn lines_start(s: &[u8]) -> usize
     requires { ⌜ 2 < length (now s) ⌝ }
     ensures { λ r. ⌜ Begun (now (s .entry)) r ⌝ }
 {

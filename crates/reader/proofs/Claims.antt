@@ -1,6 +1,7 @@
 -- What the promises of `measure` and `read` come to. Each holds of any outcome that a promise allows. Assumes nothing.
 use mathlib.Core.Path.{_≡_, refl, sym, ap, ap₂, _∙_, subst}
 use mathlib.Core.Bool.{true}
+use mathlib.Core.Logic.{_⊎_, inl, inr}
 use mathlib.Core.List.{List, _++_}
 use Prim.Native.Nat.{ℕ, _*_, _≤_, _<_}
 use native.Mathlib.Omega.{arith}
@@ -8,19 +9,21 @@ use lib.ListN.{length, drop}
 use Rattle.rules.specs.Paper.{Said, done, refused}
 use Rattle.rules.proofs.Outcomes.{done-apart}
 use Rattle.meaning.specs.declared.Refusal.{Refusal}
+use Rattle.meaning.specs.declared.Refusal.the-variants.{RepeatedKey}
 use Rattle.meaning.specs.Bytes.{laid}
 use Rattle.meaning.specs.Meaning.{Meaning}
 use Rattle.meaning.specs.Paper.{refusalSaid}
 use Rattle.meaning.specs.Tape.{records, bytes, tapeOf, storeOf}
 use Rattle.meaning.proofs.Paper.{same-refusal}
 use Rattle.grammar.specs.Values.{Text}
-use Rattle.grammar.specs.Refused.{Text-refused}
+use Rattle.grammar.specs.Refused.{Text-refused, loose, repeated}
 use Rattle.grammar.proofs.Sizes.{Fits, text-fits}
-use Rattle.machine.proofs.Whole.{unambiguous}
-use Rattle.machine.proofs.Refusals.Whole.{one-text-refusal, not-refused}
+use Rattle.machine.proofs.Whole.{loosely-unambiguous}
+use Rattle.machine.proofs.Refusals.Whole.{one-loose-refusal, loose-not-refused}
+use Rattle.machine.proofs.Accepted.{unambiguous, one-text-refusal, not-refused}
 use Rattle.reader.specs.declared.Answer.{Answer}
 use Rattle.reader.specs.declared.Answer.the-variants.{Counts, Refused}
-use Rattle.reader.specs.Answers.{answerSaid, tapeBytes, Measures, Reads, sizes, filled, tape-short, store-short}
+use Rattle.reader.specs.Answers.{answerSaid, tapeBytes, Measures, Loosely, Reads, filled, tape-short, store-short}
 
 -- ---- what is said tells the answer
 
@@ -59,10 +62,32 @@ pub one-outcome-measure : (text : List ℕ) (a b : Answer) → Measures text a �
 one-outcome-measure text a b p q = same-answer a b (said p q)
   where
     said : Measures text a → Measures text b → answerSaid a ≡ answerSaid b
-    said (sizes x e) (sizes y f) = e ∙ same-sizes x y ∙ sym f
-    said (sizes x e) (Measures.no-text y f) = absurd (not-refused x y)
-    said (Measures.no-text x e) (sizes y f) = absurd (not-refused y x)
+    said (Measures.sizes x e) (Measures.sizes y f) = e ∙ same-sizes x y ∙ sym f
+    said (Measures.sizes x e) (Measures.no-text y f) = absurd (not-refused x y)
+    said (Measures.no-text x e) (Measures.sizes y f) = absurd (not-refused y x)
     said (Measures.no-text x e) (Measures.no-text y f) = e ∙ same-told x y ∙ sym f
+
+-- ---- with 15 left out
+
+pub one-outcome-loosely : (text : List ℕ) (a b : Answer) → Loosely text a → Loosely text b → a ≡ b
+one-outcome-loosely text a b p q = same-answer a b (said p q)
+  where
+    said : Loosely text a → Loosely text b → answerSaid a ≡ answerSaid b
+    said (Loosely.sizes x e) (Loosely.sizes y f) = e ∙ ap (λ (m : Meaning). done (records m, bytes m)) (loosely-unambiguous x y) ∙ sym f
+    said (Loosely.sizes x e) (Loosely.no-text y f) = absurd (loose-not-refused x y)
+    said (Loosely.no-text x e) (Loosely.sizes y f) = absurd (loose-not-refused y x)
+    said (Loosely.no-text x e) (Loosely.no-text y f) = e ∙ ap refusalSaid (one-loose-refusal x y) ∙ sym f
+
+-- the two answers are one, or the text is refused for a repeated key alone
+pub left-out : (text : List ℕ) (a b : Answer) → Measures text a → Loosely text b
+    → (a ≡ b) ⊎ ((q : ℕ) × (a ≡ Refused (RepeatedKey q)) × ((r : ℕ) × (s : ℕ) × (b ≡ Counts r s)))
+left-out text a b (Measures.sizes x e) q = inl (one-outcome-loosely text a b (Loosely.sizes (x .loose) e) q)
+left-out text a b (Measures.no-text (loose x) e) q = inl (one-outcome-loosely text a b (Loosely.no-text x e) q)
+left-out text a b (Measures.no-text (repeated {m = m} {p = p} x y z) e) q =
+    let w = one-outcome-loosely text (Counts (records m) (bytes m)) b (Loosely.sizes x refl) q in
+    inr (p, same-answer a (Refused (RepeatedKey p)) e, (records m, bytes m, sym w))
+
+-- ---- one outcome of `read`
 
 abbrev Same : Answer → Answer → List ℕ → List ℕ → List ℕ → List ℕ → Type 0
 Same a b t u s v = (a ≡ b) × (t ≡ u) × (s ≡ v)
@@ -117,11 +142,11 @@ pub record Sized (text : List ℕ) (r s : ℕ) : Type 0 where
   pub held : s ≡ bytes meaning
 
 pub measure-accepts : (text : List ℕ) (r s : ℕ) → Measures text (Counts r s) → Sized text r s
-measure-accepts text r s (sizes {m = m} x e) = record { meaning = m; text-means = x; counted = counts-records e; held = counts-bytes e }
+measure-accepts text r s (Measures.sizes {m = m} x e) = record { meaning = m; text-means = x; counted = counts-records e; held = counts-bytes e }
 measure-accepts text r s (Measures.no-text x e) = absurd (done-apart e)
 
 pub accepts-measure : {text : List ℕ} {m : Meaning} → Text true text m → Measures text (Counts (records m) (bytes m))
-accepts-measure x = sizes x refl
+accepts-measure x = Measures.sizes x refl
 
 -- ---- accepted: done just where the grammar gives the text a meaning and there is room; then the tape and the store hold it
 
@@ -154,7 +179,7 @@ module _ (text tape store : List ℕ) where
   read-untouched tape' store' why (store-short x h k e) = (refl, refl)
   read-untouched tape' store' why (Reads.no-text x e) = (refl, refl)
 
--- ---- refused: a refusal of 1 to 7 is given by both, whatever is lent
+-- ---- refused: a refusal of 1 to 7 or 15 is given by both, whatever is lent
 
 pub measure-refuses : {text : List ℕ} {a : Answer} {why : Refusal} → Text-refused text why → Measures text a → a ≡ Refused why
 measure-refuses {text} {a} {why} x p = one-outcome-measure text a (Refused why) p (Measures.no-text x refl)
@@ -166,4 +191,4 @@ read-refuses x p = one-outcome-read p (Reads.no-text x refl) .0
 -- ---- bounded: records and store bytes are each at most the text's length
 
 pub bounded : {text : List ℕ} {r s : ℕ} → Sized text r s → (r ≤ length text) × (s ≤ length text)
-bounded h = let f = text-fits (h .text-means) in (omega (arith, f .few, h .counted), omega (arith, f .small, h .held))
+bounded h = let f = text-fits (h .text-means .loose) in (omega (arith, f .few, h .counted), omega (arith, f .small, h .held))

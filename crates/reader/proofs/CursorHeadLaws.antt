@@ -15,25 +15,27 @@ use Rattle.meaning.specs.Meaning.{Meaning}
 use Rattle.meaning.specs.Tape.{storeOf, recordsOf, bytes}
 use Rattle.machine.specs.Scan.{Out, takes, stops, breaks, over, Ran, ended, broke, unended, goesOn, ran}
 use Rattle.machine.specs.Machine.{Use, as-value, as-key, Item, word, numeric, Got, value, string, binary, Base, want, got, base}
-use Rattle.machine.specs.Machine.{item, Frame, Conf, at, step, finish, onGot, onWant, onOut, odd, closeWanted, read, Bracket}
+use Rattle.machine.specs.Machine.{item, Frame, Conf, at, step, finish, onWant, onOut, odd, closeWanted, read, Bracket}
 use Rattle.machine.specs.Machine.{square, curly, Class, classOf, blankC, hashC, slashC, commaC, colonC, plusC, quoteC, dollarC}
 use Rattle.machine.specs.Machine.{letterN, letterT, letterF, letterC, otherC, openC, closeC}
 use Rattle.machine.specs.Machine as Machine
+use Rattle.machine.specs.Heard.{Heard, hears, atWant}
 use Rattle.machine.specs.Names.{wordScan}
 use Rattle.machine.specs.Numeric
-use Rattle.reader.specs.Between.Scanning.{Goes, Refuses, Bare, Shut}
-use Rattle.reader.specs.Between.Joined.{Plusless, Joined, BytesSays, stringPart, binaryPart, wholeBinary}
+use Rattle.reader.specs.Between.Scanning.{Goes, Refuses, Shut}
+use Rattle.reader.specs.Between.Joined.{Joined, BytesSays, stringPart, binaryPart, wholeBinary}
 use Rattle.items.specs.Between.NumberOrTime.{Means, NumericSays}
 use Rattle.items.specs.Between.NumberOrTime as NumberOrTime
 use Rattle.reader.specs.Between.Cursor.{recordItem, itemBytes, Scalar, Unwanted, ScalarSays, SpeltSays, Quoted, AtScalar}
 use Rattle.reader.specs.declared.joined.Bytes.{Bytes as Joint}
 use Rattle.items.specs.declared.Item.{Item as Taken}
 use Rattle.items.specs.declared.Scanned.{Scanned}
-use Rattle.reader.proofs.ScanningLaws.{alike, alike-on}
+use Rattle.reader.proofs.ScanningLaws.{move, both, alike-hearing, alike-comes, then-refused}
 use Rattle.machine.proofs.Classes.{ClassIs, class-is}
 use Rattle.reader.proofs.KeyLaws.{not-quote}
 use Rattle.reader.proofs.ScanningItemLaws.{lift-done, lift-refused}
-use Rattle.machine.proofs.Lift.{item-ends}
+use Rattle.reader.proofs.JoinedLaws.{whole-is}
+use Rattle.machine.proofs.Lift.{item-ends, string-quiet, binary-quiet, word-quiet, numeric-quiet}
 use Rattle.items.proofs.PlacesLaws.{run-break}
 
 -- ---- words
@@ -100,77 +102,35 @@ module _ (text : List ℕ) (p start : ℕ) (entry : List ℕ) where
       rw (s .2)
       (of-means i m q v (word-past (drop p text) p q c a (rw e at (s .0))) (s .1)
       (λ d k. g d k ∙ lift-done wordScan (λ l. word l m) (λ l. value m) (λ p s b. refl) d k text p w tt q (s .0)))
-  of-word w c a e i m v g (Scanned.Refused why) s = λ d k x. g d k ∙ lift-refused wordScan (λ l. word l m) (λ l. value m) (λ p s b. refl) d k text p w why s
+  of-word w c a e i m v g (Scanned.Refused why) s =
+      λ d k x. then-refused (g d k) (lift-refused wordScan (λ l. word l m) (λ l. value m) (λ p s b. refl) d k text p w why s)
 
   module _ (h : p < length text) where
-    pub at-word : (w : List ℕ) (m : Meaning)
-        → ((d : ℕ) (k : List Frame) → onWant p d k (getD text p 0) (classOf (getD text p 0)) ≡ step p (at (item (word w m)) d k) (getD text p 0))
-        → (d : ℕ) (k : List Frame) → Goes text (at (base want) d k) p (at (item (word w m)) d k) p
-    at-word w m e d k = alike-on (at (base want) d k) (at (item (word w m)) d k) text p h (e d k)
+    pub at-word : (c : ℕ) (a : List ℕ) (m : Meaning)
+        → ((d : ℕ) (k : List Frame) → move p (at (base want) d k) (getD text p 0) ≡ (step p (at (item (word (c ∷ a) m)) d k) (getD text p 0), []))
+        → (d : ℕ) (k : List Frame) → Goes text (at (base want) d k) p (at (item (word (c ∷ a) m)) d k) p
+    at-word c a m e d k =
+        alike-hearing (at (base want) d k) (at (item (word (c ∷ a) m)) d k) text p [] h (e d k) (word-quiet m c a p (getD text p 0))
 
 -- ---- strings and binary
 
-module _ (p d : ℕ) (k : List Frame) (u : List ℕ) where
-  string-class : (c : Class) → (c ≡ blankC → ⊥) → (c ≡ hashC → ⊥) → (c ≡ slashC → ⊥) → (c ≡ plusC → ⊥)
-      → onGot p d k (string as-value u) c ≡ onGot p d k (value (Meaning.string u)) c
-  string-class blankC a b e f = absurd (a refl)
-  string-class hashC a b e f = absurd (b refl)
-  string-class slashC a b e f = absurd (e refl)
-  string-class plusC a b e f = absurd (f refl)
-  string-class commaC a b e f = refl
-  string-class colonC a b e f = refl
-  string-class quoteC a b e f = refl
-  string-class dollarC a b e f = refl
-  string-class letterN a b e f = refl
-  string-class letterT a b e f = refl
-  string-class letterF a b e f = refl
-  string-class letterC a b e f = refl
-  string-class otherC a b e f = refl
-  string-class (openC c) a b e f = refl
-  string-class (closeC c) a b e f = refl
-
-  binary-class : (c : Class) → (c ≡ blankC → ⊥) → (c ≡ hashC → ⊥) → (c ≡ slashC → ⊥) → (c ≡ plusC → ⊥)
-      → onGot p d k (binary u) c ≡ onGot p d k (value (Meaning.binary u)) c
-  binary-class blankC a b e f = absurd (a refl)
-  binary-class hashC a b e f = absurd (b refl)
-  binary-class slashC a b e f = absurd (e refl)
-  binary-class plusC a b e f = absurd (f refl)
-  binary-class commaC a b e f = refl
-  binary-class colonC a b e f = refl
-  binary-class quoteC a b e f = refl
-  binary-class dollarC a b e f = refl
-  binary-class letterN a b e f = refl
-  binary-class letterT a b e f = refl
-  binary-class letterF a b e f = refl
-  binary-class letterC a b e f = refl
-  binary-class otherC a b e f = refl
-  binary-class (openC c) a b e f = refl
-  binary-class (closeC c) a b e f = refl
-
-module _ (text : List ℕ) (p : ℕ) (b : Bare text p) (n : Plusless text p) (u : List ℕ) (d : ℕ) (k : List Frame) where
-  string-value : Goes text (at (base (got (string as-value u))) d k) p (at (base (got (value (Meaning.string u)))) d k) p
-  string-value = alike (at (base (got (string as-value u))) d k) (at (base (got (value (Meaning.string u)))) d k) text p
-      (λ h. string-class p d k u (classOf (getD text p 0)) (b .no-blank h) (b .no-hash h) (b .no-slash h) (n h)) (λ h. refl)
-
-  binary-value : Goes text (at (base (got (binary u))) d k) p (at (base (got (value (Meaning.binary u)))) d k) p
-  binary-value = alike (at (base (got (binary u))) d k) (at (base (got (value (Meaning.binary u)))) d k) text p
-      (λ h. binary-class p d k u (classOf (getD text p 0)) (b .no-blank h) (b .no-hash h) (b .no-slash h) (n h)) (λ h. refl)
-
-quote-opens : (b : ℕ) (c : Class) → c ≡ quoteC → (p d : ℕ) (k : List Frame) → onWant p d k b c ≡ onOut p d k b (Machine.scan p (stringPart as-value []) b)
+quote-opens : (b : ℕ) (c : Class) → c ≡ quoteC → (p d : ℕ) (k : List Frame)
+    → _≡_ {A = Conf × List Heard} (onWant p d k b c, atWant c) (onOut p d k b (Machine.scan p (stringPart as-value []) b), [])
 quote-opens b c e p d k = rw e
 
 module _ (text : List ℕ) (p start : ℕ) (entry : List ℕ) where
   module _ (h : Quoted text p) where
     opens-string : (d : ℕ) (k : List Frame) → Goes text (at (base want) d k) p (at (item (stringPart as-value [])) d k) p
     opens-string d k =
-        alike-on (at (base want) d k) (at (item (stringPart as-value [])) d k) text p (h .inside)
-        (quote-opens (getD text p 0) (classOf (getD text p 0)) (h .quote) p d k)
+        alike-hearing (at (base want) d k) (at (item (stringPart as-value [])) d k) text p [] (h .inside)
+        (quote-opens (getD text p 0) (classOf (getD text p 0)) (h .quote) p d k) (string-quiet as-value [] p (getD text p 0))
 
     pub string-whole : (exit : List ℕ) (q n : ℕ) → Joined Use stringPart string text p start entry exit q n → Scalar text p start entry exit (Taken.Str n) q
     unfolding recordsOf storeOf
     string-whole exit q n w = let c = w .meant .counted in record {
       m = Meaning.string (w .u);
-      runs = λ d k. opens-string d k ∙ w .runs as-value d k ∙ string-value text q (w .bare) (w .plusless) (w .u) d k;
+      runs = λ d k. opens-string d k ∙ w .runs as-value d k
+          ∙ whole-is (string as-value (w .u)) (value (Meaning.string (w .u))) refl refl text q (w .bare) (w .plusless) d k;
       taped = λ index. rw c;
       filled = w .meant .filled;
       counted = c;
@@ -180,18 +140,19 @@ module _ (text : List ℕ) (p start : ℕ) (entry : List ℕ) where
     }
 
     pub string-refused : (why : Refusal) → ((z : Use) (d : ℕ) (k : List Frame) → Refuses text (at (item (stringPart z [])) d k) p why) → Unwanted text p why
-    string-refused why w = λ d k s. opens-string d k ∙ w as-value d k
+    string-refused why w = λ d k s. then-refused (opens-string d k) (w as-value d k)
 
   module _ (h : p < length text) (e : getD text p 0 ≡ ch "$") where
     opens-binary : (d : ℕ) (k : List Frame) → Goes text (at (base want) d k) p (at (item (binaryPart tt [])) d k) p
-    opens-binary d k = alike-on (at (base want) d k) (at (item (binaryPart tt [])) d k) text p h (rw e)
+    opens-binary d k = alike-hearing (at (base want) d k) (at (item (binaryPart tt [])) d k) text p [] h (rw e) (binary-quiet [] p (getD text p 0))
 
     pub binary-whole : (exit : List ℕ) (q n : ℕ) → Joined (Unit {0}) binaryPart wholeBinary text p start entry exit q n
         → Scalar text p start entry exit (Taken.Bin n) q
     unfolding recordsOf storeOf
     binary-whole exit q n w = let c = w .meant .counted in record {
       m = Meaning.binary (w .u);
-      runs = λ d k. opens-binary d k ∙ w .runs tt d k ∙ binary-value text q (w .bare) (w .plusless) (w .u) d k;
+      runs = λ d k. opens-binary d k ∙ w .runs tt d k
+          ∙ whole-is (binary (w .u)) (value (Meaning.binary (w .u))) refl refl text q (w .bare) (w .plusless) d k;
       taped = λ index. rw c;
       filled = w .meant .filled;
       counted = c;
@@ -202,7 +163,7 @@ module _ (text : List ℕ) (p start : ℕ) (entry : List ℕ) where
 
     pub binary-refused : (why : Refusal)
         → ((z : Unit {0}) (d : ℕ) (k : List Frame) → Refuses text (at (item (binaryPart z [])) d k) p why) → Unwanted text p why
-    binary-refused why w = λ d k s. opens-binary d k ∙ w tt d k
+    binary-refused why w = λ d k s. then-refused (opens-binary d k) (w tt d k)
 
 -- ---- numbers and times
 
@@ -222,9 +183,10 @@ numeric-odd : (p d : ℕ) (k : List Frame) (b : ℕ) → Numeric.scan p Numeric.
 numeric-odd p d k b e = sym (ap (λ (o : Out Numeric.St Meaning). onOut p d k b (Machine.lift numeric value o)) e)
 
 module _ (p d : ℕ) (k : List Frame) where
+  -- and where no bracket closes, nothing is heard
   other-class : (b : ℕ) (c : Class) → ClassIs b c → Others b → (c ≡ blankC → ⊥) → (c ≡ hashC → ⊥) → (c ≡ slashC → ⊥)
       → (c ≡ quoteC → ⊥) → ((y : Bracket) → c ≡ closeC y → closeWanted p d y k ≡ odd p)
-      → onWant p d k b c ≡ step p (at (item (numeric Numeric.begin)) d k) b
+      → (onWant p d k b c ≡ step p (at (item (numeric Numeric.begin)) d k) b) × (((y : Bracket) → c ≡ closeC y → ⊥) → atWant c ≡ [])
   other-class b blankC x o i j l q s = absurd (i refl)
   other-class b hashC x o i j l q s = absurd (j refl)
   other-class b slashC x o i j l q s = absurd (l refl)
@@ -233,35 +195,45 @@ module _ (p d : ℕ) (k : List Frame) where
   other-class b letterN x o i j l q s = absurd (o .n x)
   other-class b letterT x o i j l q s = absurd (o .t x)
   other-class b letterF x o i j l q s = absurd (o .f x)
-  other-class b letterC x o i j l q s = refl
-  other-class b otherC x o i j l q s = refl
-  other-class b plusC x o i j l q s = refl
-  other-class b commaC x o i j l q s = numeric-odd p d k b (rw x)
-  other-class b colonC x o i j l q s = numeric-odd p d k b (rw x)
+  other-class b letterC x o i j l q s = (refl, λ n. refl)
+  other-class b otherC x o i j l q s = (refl, λ n. refl)
+  other-class b plusC x o i j l q s = (refl, λ n. refl)
+  other-class b commaC x o i j l q s = (numeric-odd p d k b (rw x), λ n. refl)
+  other-class b colonC x o i j l q s = (numeric-odd p d k b (rw x), λ n. refl)
   other-class b (openC square) x o i j l q s = absurd (o .square x)
   other-class b (openC curly) x o i j l q s = absurd (o .curly x)
-  other-class b (closeC square) x o i j l q s = s square refl ∙ numeric-odd p d k b (rw x)
-  other-class b (closeC curly) x o i j l q s = s curly refl ∙ numeric-odd p d k b (rw x)
+  other-class b (closeC square) x o i j l q s = (s square refl ∙ numeric-odd p d k b (rw x), λ n. absurd (n square refl))
+  other-class b (closeC curly) x o i j l q s = (s curly refl ∙ numeric-odd p d k b (rw x), λ n. absurd (n curly refl))
 
 closes-none : (p b : ℕ) (c : Class) → ClassIs b c → (y : Bracket) → c ≡ closeC y → Numeric.scan p Numeric.begin b ≡ breaks (NotGrammar p)
 closes-none p b c x square e = let z : ClassIs b (closeC square) = rw e at x in rw z
 closes-none p b c x curly e = let z : ClassIs b (closeC curly) = rw e at x in rw z
 
 module _ (text : List ℕ) (p start : ℕ) (entry : List ℕ) (v : AtScalar text p start) (o : Others (getD text p 0)) where
-  opens-numeric : (d : ℕ) (k : List Frame) → Shut text p d k → Goes text (at (base want) d k) p (at (item (numeric Numeric.begin)) d k) p
-  opens-numeric d k s = let h = v .inside in alike-on (at (base want) d k) (at (item (numeric Numeric.begin)) d k) text p h
-      (other-class p d k (getD text p 0) (classOf (getD text p 0)) (class-is (getD text p 0)) o (v .bare .no-blank h)
-      (v .bare .no-hash h) (v .bare .no-slash h) (not-quote (getD text p 0) (o .double) (o .single)) (s h))
+  begins-numeric : (d : ℕ) (k : List Frame) → Shut text p d k
+      → (step p (at (base want) d k) (getD text p 0) ≡ step p (at (item (numeric Numeric.begin)) d k) (getD text p 0))
+      × (((y : Bracket) → classOf (getD text p 0) ≡ closeC y → ⊥) → hears p (at (base want) d k) (getD text p 0) ≡ [])
+  begins-numeric d k s = let h = v .inside in
+      other-class p d k (getD text p 0) (classOf (getD text p 0)) (class-is (getD text p 0)) o (v .bare .no-blank h)
+      (v .bare .no-hash h) (v .bare .no-slash h) (not-quote (getD text p 0) (o .double) (o .single)) (s h)
 
-  -- where an item is taken, no bracket closes
-  never-shut : (m : Meaning) (q : ℕ) → ran Numeric.scan p Numeric.begin (drop p text) ≡ ended m q → (d : ℕ) (k : List Frame) → Shut text p d k
-  never-shut m q e d k h c f =
-      let r = run-break Numeric.scan text p Numeric.begin (NotGrammar p) h
-      (closes-none p (getD text p 0) (classOf (getD text p 0)) (class-is (getD text p 0)) c f) in
-      absurd (let z : _≡_ {A = ℕ} 0 1 = cc in omega arith)
+  module _ (m : Meaning) (q : ℕ) (e : ran Numeric.scan p Numeric.begin (drop p text) ≡ ended m q) where
+    -- where an item is taken, no bracket closes
+    never-closes : (y : Bracket) → classOf (getD text p 0) ≡ closeC y → ⊥
+    never-closes y f =
+        let r = run-break Numeric.scan text p Numeric.begin (NotGrammar p) (v .inside)
+        (closes-none p (getD text p 0) (classOf (getD text p 0)) (class-is (getD text p 0)) y f) in
+        let z : _≡_ {A = ℕ} 0 1 = cc in omega arith
+
+    opens-numeric : (d : ℕ) (k : List Frame) → Goes text (at (base want) d k) p (at (item (numeric Numeric.begin)) d k) p
+    opens-numeric d k = let z = begins-numeric d k (λ h y f. absurd (never-closes y f)) in
+        alike-hearing (at (base want) d k) (at (item (numeric Numeric.begin)) d k) text p [] (v .inside) (both (z .0) (z .1 never-closes))
+        (numeric-quiet p (getD text p 0))
 
   pub of-numeric : (r : Scanned) → NumericSays text p r → ScalarSays text p start entry entry r
   of-numeric (Scanned.Item i q) w = of-means text p start entry i (w .m) q (w .means) (w .past) (w .within)
-      (λ d k. opens-numeric d k (never-shut (w .m) q (w .runs) d k) ∙ lift-done Numeric.scan numeric value
+      (λ d k. opens-numeric (w .m) q (w .runs) d k ∙ lift-done Numeric.scan numeric value
       (λ p s b. refl) d k text p Numeric.begin (w .m) q (w .runs))
-  of-numeric (Scanned.Refused why) w = λ d k s. opens-numeric d k s ∙ lift-refused Numeric.scan numeric value (λ p s b. refl) d k text p Numeric.begin why w
+  of-numeric (Scanned.Refused why) w =
+      λ d k s. alike-comes (at (base want) d k) (at (item (numeric Numeric.begin)) d k) text p (v .inside) (begins-numeric d k s .0)
+      ∙ lift-refused Numeric.scan numeric value (λ p s b. refl) d k text p Numeric.begin why w

@@ -1,7 +1,7 @@
 -- A round of the loops over the elements of an array and the members of an object: what both have in common, once. Assumes nothing.
 use mathlib.Core.Path.{_≡_, refl, sym, ap, ap₂, _∙_, subst}
 use mathlib.Core.List.{List, [], _∷_, _++_, append-assoc, append-nil}
-use Prim.Native.Nat.{ℕ, suc, _+_, _*_, _/_, _≤_, _<_}
+use Prim.Native.Nat.{ℕ, suc, _+_, _*_, _-_, _/_, _≤_, _<_}
 use native.Mathlib.Omega.{arith}
 use lib.ListN.{length, getD, set, length-append}
 use lib.Seq.{sets, length-sets, set-comm}
@@ -11,6 +11,7 @@ use Rattle.meaning.specs.Limits.{textLimit}
 use Rattle.meaning.specs.Meaning.{Meaning, Meanings, Members}
 use Rattle.meaning.specs.Tape.{records, elementsRecords, membersRecords, storeOf, elementsStore, membersStore, recordsOf}
 use Rattle.meaning.specs.Tape.{elementsCount, membersCount, elementsOf, membersOf, recordBytes, recordsBytes, endOf}
+use Rattle.meaning.specs.Between.Events.{Event, named}
 use Rattle.meaning.specs.Look.{wholeRecords}
 use Rattle.meaning.proofs.Records.{record-length, records-append, records-bytes-length}
 use Rattle.meaning.proofs.Sizes.{records-length, elements-length, members-length, elements-few, members-few}
@@ -21,10 +22,18 @@ use Rattle.meaning.specs.declared.Refusal.{Refusal}
 use Rattle.tape.specs.Between.Putting.{putRecord}
 use Rattle.tape.proofs.PuttingLaws.{record-room, sets-append, put-record-length}
 use Rattle.reader.specs.declared.cursor.Cursor.{Cursor}
-use Rattle.reader.specs.Between.Scanning.{Goes, Shut}
+use Rattle.reader.specs.Between.Scanning.{Tells, Shut}
 use Rattle.reader.specs.Between.Cursor.{Ready, AtValue, Inner, Moved, Begins, Took, Named, Adds, element, member, closer, closed}
-use Rattle.reader.specs.Between.Cursor.{within, bareIn, wants, always, Left, Says, AheadSays, MemberAheadSays, OneItem, Opened}
-use Rattle.reader.specs.Between.Cursor.{recordItem, StepReady, FollowedSays}
+use Rattle.reader.specs.Between.Cursor.{within, bareIn, wants, always, Left, AheadSays, MemberAheadSays, OneItem, Opened}
+use Rattle.reader.specs.Between.Cursor.{recordItem, StepReady, FollowedSays, openingOf, closingOf, Stood, keeping, keepingBefore, Seen, MemberBegins}
+use Rattle.reader.specs.Between.Cursor.{ValueSays, InsideSays}
+use Rattle.reader.specs.Between.Repeat.{Led}
+use Rattle.reader.proofs.ScanningLaws.{then-refused, then-tells, then-goes}
+use Rattle.reader.proofs.CursorTableLaws.{Of, Noted, Opening, Closing, seen-further, opening-leads, opening-entered, noted-none, noted-seen}
+use Rattle.reader.proofs.CursorTableLaws.{noted-sane, noted-further, noted-more, closing-level, closing-leads}
+use Rattle.once.specs.Groups.{Sane}
+use Rattle.once.specs.Windows.{level}
+use Rattle.once.proofs.KeepingLaws.{keeps-further, goes-none}
 use Rattle.items.specs.declared.Item.{Item}
 use Rattle.reader.specs.declared.cursor.Step.{Step}
 use Rattle.meaning.specs.declared.Refusal.the-variants.{TooDeep}
@@ -52,12 +61,6 @@ countIn (members x) = membersCount x
 abbrev pub header : Bracket → ℕ → ℕ → Record
 header square n e = Record.Array n e
 header curly n e = Record.Object n e
-
-abbrev pub Of : Bracket → Inside → Type 0
-Of square (elements x) = Unit {0}
-Of square (members x) = ⊥
-Of curly (elements x) = ⊥
-Of curly (members x) = Unit {0}
 
 of-bare : (b : Bracket) → Of b (bareOf b)
 of-bare square = tt
@@ -135,6 +138,16 @@ headed t own r inner h =
     ∙ sets-append t (own * 16) ((own + 1) * 16) (recordBytes r) inner (omega (arith, record-length r))
 
 -- ---- what has been put of what is inside
+
+-- the table behind a container's opening bracket
+abbrev pub keepingInside : List ℕ → List ℕ → Bracket → Cursor → Stood
+keepingInside text seen b o f s = Led text seen (o .at) f s (openingOf b)
+
+-- a container has been read, from behind its opening bracket, with this many elements or members
+abbrev pub Closed : List ℕ → List ℕ → List ℕ → List ℕ → List ℕ → List ℕ → List ℕ → Bracket → Cursor → ℕ → ℕ → Cursor → Type 0
+Closed text tape₀ tape store₀ store seen₀ seen' b o depth count n =
+    Took text (bareIn b depth) (suc depth) (openingOf b) (keepingInside text seen₀ b o) o
+    tape₀ (putRecord tape (o .records) (header b count (n .records))) store₀ store seen' n
 
 -- in the container that opened before o, up to c
 pub record Content (text tape₀ tape store₀ store : List ℕ) (b : Bracket) (o : Cursor) (count : ℕ) (c : Cursor) (y : Inside) : Type 0 where
@@ -252,14 +265,17 @@ module _ {text tape₀ tape store₀ store : List ℕ} {b : Bracket} {o : Cursor
       }
 
   -- the closing bracket: the header goes in front
-  content-took : (depth : ℕ) (n : Cursor) → Moved text c n → ((k : List Frame) → Goes text (bareIn b depth k) (o .at) (closed y depth k) (n .at))
-      → Took text (bareIn b depth) (suc depth) o tape₀ (putRecord tape (o .records) (header b count (n .records))) store₀ store n
+  content-took : {seen₀ seen : List ℕ} {keys : List Event} (depth : ℕ) (n : Cursor) → Moved text c n
+      → ((k : List Frame) → Tells text (bareIn b depth k) (o .at) (keys ++ closingOf y) (closed y depth k) (n .at))
+      → Noted text seen₀ seen b (o .at) (c .at) keys → (seen' : List ℕ) → Closing b seen seen'
+      → Closed text tape₀ tape store₀ store seen₀ seen' b o depth count n
   unfolding recordsBytes
-  content-took depth n h g =
+  content-took {keys = keys} depth n h g v seen' e =
       let own = o .records in
       let start = o .stored in
       record {
         m = shut y;
+        keys = keys ++ closingOf y;
         runs = g;
         recorded = omega (arith, shut-records y, t .recorded, h .records);
         stored = omega (arith, ap length (shut-store y), t .stored, h .stored);
@@ -273,6 +289,8 @@ module _ {text tape₀ tape store₀ store : List ℕ} {b : Bracket} {o : Cursor
             (ap₂ (λ (i k : ℕ). recordBytes (header b i k) ++ recordsBytes (listIn y (own + 1) start)) (t .counted) e
             ∙ ap recordsBytes (sym (shut-list b y (t .kind) own start)));
         filled = t .filled ∙ ap (λ (v : List ℕ). sets store₀ start v) (sym (shut-store y));
+        level-kept = closing-level b v y (t .kind);
+        noted = closing-leads b v y (t .kind) seen' (n .at) e (omega (arith, h .past)) (omega (arith, h .within, t .opened .short));
         past = omega (arith, t .past, h .past);
         few = omega (arith, t .few, h .records, h .past);
         short = omega (arith, t .short, h .stored, h .past);
@@ -288,56 +306,95 @@ closer-of curly (elements x) o = absurd o
 closer-of curly (members x) o = refl
 
 -- where an element or a member may stand
-pub record Round (text tape₀ tape store₀ store : List ℕ) (b : Bracket) (o : Cursor) (depth count : ℕ) (c : Cursor) : Type 0 where
+pub record Round (text tape₀ tape store₀ store seen₀ seen : List ℕ) (b : Bracket) (o : Cursor) (depth count : ℕ) (c : Cursor) : Type 0 where
   pub y : Inside
   pub content : Content text tape₀ tape store₀ store b o count c y
-  pub goes : (k : List Frame) → Goes text (bareIn b depth k) (o .at) (within y depth k) (c .at)
+  pub keys : List Event
+  pub goes : (k : List Frame) → Tells text (bareIn b depth k) (o .at) keys (within y depth k) (c .at)
+  pub noted : Noted text seen₀ seen b (o .at) (c .at) keys
 
-pub round-first : (text tape store : List ℕ) (b : Bracket) (depth : ℕ) (o : Cursor) → Inner text o
-    → Round text tape tape store store b o depth 0 (entered o)
-round-first text tape store b depth o h = record { y = bareOf b; content = content-none text tape store b o h; goes = λ k. refl }
+module _ {text : List ℕ} {o : Cursor} (h : Inner text o) (seen₀ seen : List ℕ) (b : Bracket) (e : Opening b seen₀ seen) where
+  -- behind the opening bracket
+  pub round-first : (tape store : List ℕ) (depth : ℕ) → length seen ≡ length seen₀ → Seen text seen₀ (o .at - 1)
+      → Round text tape tape store store seen seen b o depth 0 (entered o)
+  round-first tape store depth l t = record {
+    y = bareOf b;
+    content = content-none text tape store b o h;
+    keys = [];
+    goes = λ k. refl;
+    noted = noted-none (opening-entered text seen₀ seen (omega (arith, h .records)) (omega (arith, h .within, h .short)) b e l t);
+  }
+
+  -- of the table before the opening bracket
+  pub closed-took : {tape tape' store store' seen' : List ℕ} {depth : ℕ} {n : Cursor}
+      → Took text (bareIn b depth) (suc depth) (openingOf b) (keepingInside text seen b o) o tape tape' store store' seen' n
+      → Took text (bareIn b depth) (suc depth) (openingOf b) (keepingBefore text seen₀ o) o tape tape' store store' seen' n
+  closed-took w = record {
+    m = w .m;
+    keys = w .keys;
+    runs = w .runs;
+    recorded = w .recorded;
+    stored = w .stored;
+    taped = w .taped;
+    filled = w .filled;
+    level-kept = w .level-kept;
+    noted = λ f s k.
+        w .noted f s (opening-leads text seen₀ seen (omega (arith, h .records)) (omega (arith, h .within, h .short)) b e f s k);
+    past = w .past;
+    few = w .few;
+    short = w .short;
+    within = w .within;
+  }
 
 -- where a value is wanted, in a frame to which it adds
-pub record Waiting (text tape₀ tape store₀ store : List ℕ) (b : Bracket) (o : Cursor) (depth count : ℕ) (v : Cursor) : Type 0 where
+pub record Waiting (text tape₀ tape store₀ store seen₀ seen : List ℕ) (b : Bracket) (o : Cursor) (depth count : ℕ) (v : Cursor) : Type 0 where
   pub f : Frame
   pub y : Meaning → Inside
   pub adds : Adds f (closing b) y
   pub ready : AtValue text v
-  pub goes : (k : List Frame) → Goes text (bareIn b depth k) (o .at) (wants depth (f ∷ k)) (v .at)
+  pub keys : List Event
+  pub goes : (k : List Frame) → Tells text (bareIn b depth k) (o .at) keys (wants depth (f ∷ k)) (v .at)
+  pub noted : Noted text seen₀ seen b (o .at) (v .at) keys
   pub shut-there : (k : List Frame) → Shut text (v .at) depth (f ∷ k)
-  pub grown : (last : Cursor) (tape' store' : List ℕ) (w : Took text (wants depth) depth v tape tape' store store' last)
+  pub grown : (last : Cursor) (tape' store' seen' : List ℕ)
+      (w : Took text (wants depth) depth [] (keeping text seen v) v tape tape' store store' seen' last)
       → length tape' ≡ length tape → Content text tape₀ tape' store₀ store' b o (count + 1) last (y (w .m))
 
 -- what is made of what stands ahead of c
-abbrev pub Onward : List ℕ → List ℕ → List ℕ → List ℕ → List ℕ → Bracket → Cursor → ℕ → ℕ → Cursor → Ahead → Type 0
-Onward text tape₀ tape store₀ store b o depth count c (Ahead.Refused why) = Left text (bareIn b depth) always (o .at) why
-Onward text tape₀ tape store₀ store b o depth count c (Ahead.Close n) =
-    Took text (bareIn b depth) (suc depth) o tape₀ (putRecord tape (o .records) (header b count (n .records))) store₀ store n
-Onward text tape₀ tape store₀ store b o depth count c (Ahead.More v) = Waiting text tape₀ tape store₀ store b o depth count v × (c .at ≤ v .at)
+abbrev pub Onward : List ℕ → List ℕ → List ℕ → List ℕ → List ℕ → List ℕ → List ℕ → Bracket → Cursor → ℕ → ℕ → Cursor → Ahead → Type 0
+Onward text tape₀ tape store₀ store seen₀ seen b o depth count c (Ahead.Refused why) = Left text (bareIn b depth) always (o .at) why
+Onward text tape₀ tape store₀ store seen₀ seen b o depth count c (Ahead.Close n) =
+    Sane seen × ((seen' : List ℕ) → Closing b seen seen' → Closed text tape₀ tape store₀ store seen₀ seen' b o depth count n)
+Onward text tape₀ tape store₀ store seen₀ seen b o depth count c (Ahead.More v) =
+    Waiting text tape₀ tape store₀ store seen₀ seen b o depth count v × (c .at ≤ v .at)
 
 -- and of what follows the value at v
-abbrev pub Further : List ℕ → List ℕ → List ℕ → List ℕ → List ℕ → Bracket → Cursor → ℕ → ℕ → Cursor → After → Type 0
-Further text tape₀ tape store₀ store b o depth count v (After.Refused why) = Left text (bareIn b depth) always (o .at) why
-Further text tape₀ tape store₀ store b o depth count v (After.Close n) =
-    Took text (bareIn b depth) (suc depth) o tape₀ (putRecord tape (o .records) (header b (count + 1) (n .records))) store₀ store n
-Further text tape₀ tape store₀ store b o depth count v (After.Comma n) =
-    Round text tape₀ tape store₀ store b o depth (count + 1) n × (v .at < n .at)
+abbrev pub Further : List ℕ → List ℕ → List ℕ → List ℕ → List ℕ → List ℕ → List ℕ → Bracket → Cursor → ℕ → ℕ → Cursor → After → Type 0
+Further text tape₀ tape store₀ store seen₀ seen b o depth count v (After.Refused why) = Left text (bareIn b depth) always (o .at) why
+Further text tape₀ tape store₀ store seen₀ seen b o depth count v (After.Close n) =
+    Sane seen × ((seen' : List ℕ) → Closing b seen seen' → Closed text tape₀ tape store₀ store seen₀ seen' b o depth (count + 1) n)
+Further text tape₀ tape store₀ store seen₀ seen b o depth count v (After.Comma n) =
+    Round text tape₀ tape store₀ store seen₀ seen b o depth (count + 1) n × (v .at < n .at)
 
-module _ {text tape₀ tape store₀ store : List ℕ} {b : Bracket} {o : Cursor} {depth count : ℕ} {c : Cursor}
-    (t : Round text tape₀ tape store₀ store b o depth count c) where
+module _ {text tape₀ tape store₀ store seen₀ seen : List ℕ} {b : Bracket} {o : Cursor} {depth count : ℕ} {c : Cursor}
+    (t : Round text tape₀ tape store₀ store seen₀ seen b o depth count c) where
   pub round-ready : Ready text c
   round-ready = content-ready (t .content)
+
+  pub round-seen : Seen text seen (c .at)
+  round-seen = noted-seen (t .noted)
 
   -- there is room for one more
   pub round-counts : count < textLimit
   round-counts = content-counts (t .content)
 
   round-refused : {why : Refusal} → AheadSays text c (closing b) (Ahead.Refused why) → Left text (bareIn b depth) always (o .at) why
-  round-refused r = λ k q. t .goes k ∙ r (t .y) (closer-of b (t .y) (t .content .kind)) depth k
+  round-refused r = λ k q. then-refused (t .goes k) (r (t .y) (closer-of b (t .y) (t .content .kind)) depth k)
 
-  round-close : (n : Cursor) → AheadSays text c (closing b) (Ahead.Close n)
-      → Took text (bareIn b depth) (suc depth) o tape₀ (putRecord tape (o .records) (header b count (n .records))) store₀ store n
-  round-close n g = content-took (t .content) depth n (g .1) (λ k. t .goes k ∙ g .0 (t .y) (closer-of b (t .y) (t .content .kind)) depth k)
+  round-close : (n : Cursor) → AheadSays text c (closing b) (Ahead.Close n) → (seen' : List ℕ) → Closing b seen seen'
+      → Closed text tape₀ tape store₀ store seen₀ seen' b o depth count n
+  round-close n g = content-took (t .content) depth n (g .1)
+      (λ k. then-tells (t .keys) (closingOf (t .y)) _ (t .goes k) (g .0 (t .y) (closer-of b (t .y) (t .content .kind)) depth k)) (t .noted)
 
 same-refusal : {x why : Refusal} → After.Refused x ≡ After.Refused why → why ≡ x
 same-refusal e = cc
@@ -348,31 +405,49 @@ no-close e = let z : _≡_ {A = ℕ} 0 1 = cc in omega arith
 no-comma : {n : Cursor} {why : Refusal} → After.Comma n ≡ After.Refused why → ⊥
 no-comma e = let z : _≡_ {A = ℕ} 0 1 = cc in omega arith
 
-module _ {text tape₀ tape store₀ store : List ℕ} {b : Bracket} {o : Cursor} {depth count : ℕ} {v : Cursor}
-    (t : Waiting text tape₀ tape store₀ store b o depth count v) (tape' store' : List ℕ) (l : length tape' ≡ length tape) where
-  -- after the value
-  pub value-ready : (s : Step) → Says text (wants depth) (λ k. Shut text (v .at) depth k) depth v tape tape' store store' s → StepReady text s
-  value-ready (Step.Refused why) w = tt
-  value-ready (Step.Value last) w = content-ready (t .grown last tape' store' w l)
+pub waiting-seen : {text tape₀ tape store₀ store seen₀ seen : List ℕ} {b : Bracket} {o : Cursor} {depth count : ℕ} {v : Cursor}
+    → Waiting text tape₀ tape store₀ store seen₀ seen b o depth count v → Seen text seen (v .at)
+waiting-seen t = noted-seen (t .noted)
 
-  pub value-followed : (s : Step) → Says text (wants depth) (λ k. Shut text (v .at) depth k) depth v tape tape' store store' s
-      → (r : After) → FollowedSays text s (closing b) r → Further text tape₀ tape' store₀ store' b o depth count v r
-  value-followed (Step.Refused why) w (After.Refused x) e = λ k q. t .goes k ∙ w (t .f ∷ k) (t .shut-there k) ∙ ap No (same-refusal e)
-  value-followed (Step.Refused why) w (After.Close n) e = absurd (no-close e)
-  value-followed (Step.Refused why) w (After.Comma n) e = absurd (no-comma e)
-  value-followed (Step.Value last) w (After.Refused why) g =
-      λ k q. t .goes k ∙ w .runs (t .f ∷ k) ∙ g (t .f) (t .y) (t .adds) (w .m) depth k
-  value-followed (Step.Value last) w (After.Close n) g =
-      content-took (t .grown last tape' store' w l) depth n (g .1)
-      (λ k. t .goes k ∙ w .runs (t .f ∷ k) ∙ g .0 (t .f) (t .y) (t .adds) (w .m) depth k)
-  value-followed (Step.Value last) w (After.Comma n) g = (
-    record {
-      y = t .y (w .m);
-      content = further (t .grown last tape' store' w l) n (g .1);
-      goes = λ k. t .goes k ∙ w .runs (t .f ∷ k) ∙ g .0 (t .f) (t .y) (t .adds) (w .m) depth k;
-    },
-    omega (arith, w .past, g .1 .past),
-  )
+module _ {text tape₀ tape store₀ store seen₀ seen : List ℕ} {b : Bracket} {o : Cursor} {depth count : ℕ} {v : Cursor}
+    (t : Waiting text tape₀ tape store₀ store seen₀ seen b o depth count v) (tape' store' seen' : List ℕ) (l : length tape' ≡ length tape) where
+  -- after the value
+  pub value-ready : (s : Step) → ValueSays text depth v tape tape' store store' seen seen' s → StepReady text s
+  value-ready (Step.Refused why) w = tt
+  value-ready (Step.Value last) w = content-ready (t .grown last tape' store' seen' w l)
+
+  module _ (e : length seen' ≡ length seen) where
+    value-noted : (last : Cursor) (w : Took text (wants depth) depth [] (keeping text seen v) v tape tape' store store' seen' last)
+        → Noted text seen₀ seen' b (o .at) (last .at) (t .keys ++ w .keys)
+    value-noted last w = noted-more (t .noted) (w .keys) seen' (last .at) e (w .level-kept) (λ f s h i. w .noted f s h)
+
+    pub value-followed : (s : Step) → ValueSays text depth v tape tape' store store' seen seen' s
+        → (r : After) → FollowedSays text s (closing b) r → Further text tape₀ tape' store₀ store' seen₀ seen' b o depth count v r
+    value-followed (Step.Refused why) w (After.Refused x) e = λ k q. then-refused (t .goes k) (w (t .f ∷ k) (t .shut-there k) ∙ ap No (same-refusal e))
+    value-followed (Step.Refused why) w (After.Close n) e = absurd (no-close e)
+    value-followed (Step.Refused why) w (After.Comma n) e = absurd (no-comma e)
+    value-followed (Step.Value last) w (After.Refused why) g =
+        λ k q. then-refused (t .goes k) (then-refused (w .runs (t .f ∷ k)) (g (t .f) (t .y) (t .adds) (w .m) depth k))
+    value-followed (Step.Value last) w (After.Close n) g =
+        let y = t .y (w .m) in
+        let i = value-noted last w in (
+          noted-sane i,
+          content-took (t .grown last tape' store' seen' w l) depth n (g .1)
+              (λ k. then-tells (t .keys ++ w .keys) (closingOf y) _ (then-tells (t .keys) (w .keys) _ (t .goes k) (w .runs (t .f ∷ k)))
+              (g .0 (t .f) (t .y) (t .adds) (w .m) depth k)) i,
+        )
+    value-followed (Step.Value last) w (After.Comma n) g =
+        let i = t .grown last tape' store' seen' w l in (
+          record {
+            y = t .y (w .m);
+            content = further i n (g .1);
+            keys = t .keys ++ w .keys;
+            goes = λ k. then-tells (t .keys) (w .keys) _ (t .goes k)
+                (then-goes (w .keys) (w .runs (t .f ∷ k)) (g .0 (t .f) (t .y) (t .adds) (w .m) depth k));
+            noted = noted-further (value-noted last w) (n .at) (omega (arith, g .1 .past)) (omega (arith, g .1 .within, i .opened .short));
+          },
+          omega (arith, w .past, g .1 .past),
+        )
 
 -- ---- elements
 
@@ -398,21 +473,25 @@ shut-by : (p d : ℕ) (x : Meanings) (k : List Frame) (z : Bracket) (v : ℕ) �
 shut-by p d x k square v h e = absurd (h e)
 shut-by p d x k curly v h e = refl
 
-element-waits : {text tape₀ tape store₀ store : List ℕ} {o : Cursor} {depth count : ℕ} {c : Cursor} (y : Inside)
+element-waits : {text tape₀ tape store₀ store seen₀ seen : List ℕ} {o : Cursor} {depth count : ℕ} {c : Cursor} (y : Inside)
     → Content text tape₀ tape store₀ store square o count c y
-    → ((k : List Frame) → Goes text (bareIn square depth k) (o .at) (within y depth k) (c .at)) → (n : Cursor) → Begins text c (ch "]") n
-    → Waiting text tape₀ tape store₀ store square o depth count n
-element-waits (members x) t g n h = absurd (t .kind)
-element-waits {text} {tape₀} {tape} {store₀} {store} {o} {depth} {count} {c} (elements x) t g n h =
+    → (keys : List Event) → ((k : List Frame) → Tells text (bareIn square depth k) (o .at) keys (within y depth k) (c .at))
+    → Noted text seen₀ seen square (o .at) (c .at) keys
+    → (n : Cursor) → Begins text c (ch "]") n
+    → Waiting text tape₀ tape store₀ store seen₀ seen square o depth count n
+element-waits (members x) t keys g j n h = absurd (t .kind)
+element-waits {text} {tape₀} {tape} {store₀} {store} {o = o} {depth} {count} {c} (elements x) t keys g j n h =
     record {
       f = inside (elements x);
       y = λ m. elements (Meanings.more x m);
       adds = Adds.element;
       ready = begins-at n (content-ready t) h;
-      goes = λ k. g k ∙ h .goes want depth (inside (elements x) ∷ k);
+      keys = keys;
+      goes = λ k. then-goes keys (g k) (h .goes want depth (inside (elements x) ∷ k));
+      noted = noted-further j (n .at) (h .behind) (omega (arith, h .inside, t .opened .short));
       shut-there = λ k i z e. shut-by (n .at) depth x k z (getD text (n .at) 0) (h .other)
           (subst (λ d. ClassIs (getD text (n .at) 0) d) e (class-is (getD text (n .at) 0)));
-      grown = λ last tape' store' w l.
+      grown = λ last tape' store' seen' w l.
           grow t (elements (Meanings.more x (w .m))) tt (more-element x (w .m)) tape' store' last
           (omega (arith, w .recorded, h .records))
           (omega (arith, w .stored, h .stored))
@@ -425,12 +504,12 @@ element-waits {text} {tape₀} {tape} {store₀} {store} {o} {depth} {count} {c}
           (w .within);
     }
 
-pub element-onward : {text tape₀ tape store₀ store : List ℕ} {o : Cursor} {depth count : ℕ} {c : Cursor}
-    → Round text tape₀ tape store₀ store square o depth count c → (r : Ahead) → AheadSays text c (ch "]") r
-    → Onward text tape₀ tape store₀ store square o depth count c r
+pub element-onward : {text tape₀ tape store₀ store seen₀ seen : List ℕ} {o : Cursor} {depth count : ℕ} {c : Cursor}
+    → Round text tape₀ tape store₀ store seen₀ seen square o depth count c → (r : Ahead) → AheadSays text c (ch "]") r
+    → Onward text tape₀ tape store₀ store seen₀ seen square o depth count c r
 element-onward t (Ahead.Refused why) g = round-refused t g
-element-onward t (Ahead.Close n) g = round-close t n g
-element-onward t (Ahead.More n) g = (element-waits (t .y) (t .content) (t .goes) n g, g .behind)
+element-onward t (Ahead.Close n) g = (noted-sane (t .noted), round-close t n g)
+element-onward t (Ahead.More n) g = (element-waits (t .y) (t .content) (t .keys) (t .goes) (t .noted) n g, g .behind)
 
 -- ---- members
 
@@ -456,7 +535,8 @@ keyed tape tape' r key rest h e =
     ∙ sets-append tape (r * 16) ((r + 1) * 16) (recordBytes key) (recordsBytes rest) (omega (arith, record-length key))
 
 -- the value of a member begins
-named-at : {text : List ℕ} {c : Cursor} (entry exit : List ℕ) (size : ℕ) (v : Cursor) → Ready text c → Named text c entry exit size v → AtValue text v
+named-at : {text : List ℕ} {c : Cursor} {first : ℕ} (entry exit : List ℕ) (size : ℕ) (v : Cursor) → Ready text c → Named text c first entry exit size v
+    → AtValue text v
 named-at entry exit size v r h =
     record {
       ready = record {
@@ -469,24 +549,31 @@ named-at entry exit size v r h =
       bare = h .bare;
     }
 
-member-waits : {text tape₀ tape store₀ store : List ℕ} {o : Cursor} {depth count : ℕ} {c : Cursor} (y : Inside)
+member-waits : {text tape₀ tape store₀ store seen₀ seen : List ℕ} {o : Cursor} {depth count : ℕ} {c : Cursor} (y : Inside)
     → Content text tape₀ tape store₀ store curly o count c y
-    → ((k : List Frame) → Goes text (bareIn curly depth k) (o .at) (within y depth k) (c .at))
-    → (v : Cursor) (store₁ : List ℕ) (size : ℕ) → Named text c store store₁ size v
-    → Waiting text tape₀ (putRecord tape (c .records) (Record.Key size (c .stored))) store₀ store₁ curly o depth count v
-member-waits (elements x) t g v store₁ size d = absurd (t .kind)
-member-waits {text} {tape₀} {tape} {store₀} {store} {o} {depth} {count} {c} (members x) t g v store₁ size d =
+    → (keys : List Event) → ((k : List Frame) → Tells text (bareIn curly depth k) (o .at) keys (within y depth k) (c .at))
+    → Noted text seen₀ seen curly (o .at) (c .at) keys
+    → (v : Cursor) (tape₁ store₁ seen₁ : List ℕ) → length seen₁ ≡ length seen → (e : MemberBegins text c tape tape₁ store store₁ seen seen₁ v)
+    → Waiting text tape₀ (putRecord tape (c .records) (Record.Key (e .size) (c .stored))) store₀ store₁ seen₀ seen₁ curly o depth count v
+unfolding level
+member-waits (elements x) t keys g j v tape₁ store₁ seen₁ i e = absurd (t .kind)
+member-waits {text} {tape₀} {tape} {store₀} {store} {o = o} {depth} {count} {c} (members x) t keys g j v tape₁ store₁ seen₁ i e =
     let r = c .records in
     let s = c .stored in
+    let d = e .key-is in
     let u = d .u in
+    let size = e .size in
+    let first = e .first in
     record {
       f = pair x u;
       y = λ m. members (Members.member x u m);
       adds = Adds.member;
       ready = named-at store store₁ size v (content-ready t) d;
-      goes = λ k. g k ∙ d .goes x depth k;
+      keys = keys ++ (named first u ∷ []);
+      goes = λ k. then-tells keys (named first u ∷ []) _ (g k) (d .goes x depth k);
+      noted = noted-more j (named first u ∷ []) seen₁ (v .at) i (λ n. refl) (e .noted);
       shut-there = λ k i z e. refl;
-      grown = λ last tape' store' w l.
+      grown = λ last tape' store' seen' w l.
           grow t (members (Members.member x u (w .m))) tt (more-member x u (w .m)) tape' store' last
           (omega (arith, w .recorded, d .records))
           (omega (arith, w .stored, d .stored, length-append u (storeOf (w .m))))
@@ -506,14 +593,15 @@ member-waits {text} {tape₀} {tape} {store₀} {store} {o} {depth} {count} {c} 
           (w .within);
     }
 
-pub member-onward : {text tape₀ tape store₀ store : List ℕ} {o : Cursor} {depth count : ℕ} {c : Cursor}
-    → Round text tape₀ tape store₀ store curly o depth count c → (tape' store' : List ℕ) (r : Ahead) → MemberAheadSays text c tape tape' store store' r
-    → Onward text tape₀ tape' store₀ store' curly o depth count c r
-member-onward t tape' store' (Ahead.Refused why) g = round-refused t g
-member-onward t tape' store' (Ahead.Close n) (g, et, es) = rw (et, es) (round-close t n g)
-member-onward t tape' store' (Ahead.More v) g = (
-  rw (g .taped) (member-waits (t .y) (t .content) (t .goes) v store' (g .size) (g .named)),
-  omega (arith, g .named .past),
+pub member-onward : {text tape₀ tape store₀ store seen₀ seen : List ℕ} {o : Cursor} {depth count : ℕ} {c : Cursor}
+    → Round text tape₀ tape store₀ store seen₀ seen curly o depth count c → (tape' store' seen' : List ℕ) → length seen' ≡ length seen → (r : Ahead)
+    → MemberAheadSays text c tape tape' store store' seen seen' r
+    → Onward text tape₀ tape' store₀ store' seen₀ seen' curly o depth count c r
+member-onward t tape' store' seen' i (Ahead.Refused why) g = round-refused t g
+member-onward t tape' store' seen' i (Ahead.Close n) (g, et, es, en) = rw (et, es, en) (noted-sane (t .noted), round-close t n g)
+member-onward t tape' store' seen' i (Ahead.More v) g = (
+  rw (g .taped) (member-waits (t .y) (t .content) (t .keys) (t .goes) (t .noted) v tape' store' seen' i g),
+  omega (arith, g .key-is .past),
 )
 
 -- ---- values
@@ -523,19 +611,23 @@ one-put : (tape : List ℕ) (i : ℕ) (r : Record) (rs : List Record) → rs ≡
 unfolding recordsBytes
 one-put tape i r rs e h = record-room tape i r h ∙ ap (λ (v : List ℕ). sets tape (i * 16) v) (sym (append-nil (recordBytes r)) ∙ ap recordsBytes (sym e))
 
-pub took-item : (text tape entry exit : List ℕ) (depth : ℕ) (c n : Cursor) (i : Item) → OneItem text c entry exit i n
-    → Took text (wants depth) depth c tape (putRecord tape (c .records) (recordItem i (c .stored))) entry exit n
-took-item text tape entry exit depth c n i h =
+pub took-item : (text tape entry exit seen : List ℕ) (depth : ℕ) (c n : Cursor) (i : Item) → Ready text c → OneItem text c entry exit i n
+    → Took text (wants depth) depth [] (keeping text seen c) c tape (putRecord tape (c .records) (recordItem i (c .stored))) entry exit seen n
+unfolding level
+took-item text tape entry exit seen depth c n i r h =
     let s = h .scalar in
     let o : records (s .m) ≡ 1 = sym (records-length (s .m) 0 (c .stored)) ∙ ap length (s .taped 0) in
     record {
       m = s .m;
+      keys = [];
       runs = λ k. s .runs depth k;
       recorded = omega (arith, h .records, o);
       stored = omega (arith, h .stored, s .counted);
       taped = λ l. one-put tape (c .records) (recordItem i (c .stored)) (recordsOf (s .m) (c .records) (c .stored))
           (s .taped (c .records)) (room (c .records) (n .records) (length tape) (omega (arith, h .records)) l);
       filled = s .filled;
+      level-kept = λ j. refl;
+      noted = λ f z k. goes-none (keeps-further k (n .at) (omega (arith, s .past)) (omega (arith, s .within, r .short)));
       past = s .past;
       few = omega (arith, h .records, s .past);
       short = omega (arith, h .stored, s .counted, s .room);
@@ -551,30 +643,39 @@ opened-inner b n v h =
       short = v .ready .short;
     }
 
+pub opened-seen : {text : List ℕ} {c : Cursor} (b : Bracket) (n : Cursor) → AtValue text c → Opened text c b n → (seen : List ℕ) → Seen text seen (c .at)
+    → Seen text seen (n .at - 1)
+opened-seen {text} b n v h seen t =
+    seen-further text (n .at - 1) (omega (arith, h .moved .past)) (omega (arith, h .moved .within, v .ready .short)) t
+
 pub opened-deep : {text : List ℕ} {c : Cursor} (b : Bracket) (n : Cursor) (depth : ℕ) → depth ≡ 0 → Opened text c b n
     → Left text (wants depth) (λ k. Shut text (c .at) depth k) (c .at) (TooDeep (c .at))
 opened-deep b n depth e h = λ k s. rw e (h .deep k)
 
-took-inside : {text tape tape' entry store store' : List ℕ} (b : Bracket) (d depth : ℕ) → depth ≡ suc d → (c n last : Cursor)
-    → Opened text c b n → store ≡ entry → Took text (bareIn b d) (suc d) n tape tape' store store' last
-    → Took text (wants depth) depth c tape tape' entry store' last
-took-inside {text} {tape} {tape'} {entry} {store} {store'} b d depth e c n last h q w =
+took-inside : {text tape tape' entry store store' seen seen' : List ℕ} (b : Bracket) (d depth : ℕ) → depth ≡ suc d → (c n last : Cursor)
+    → Ready text c → Opened text c b n → store ≡ entry
+    → Took text (bareIn b d) (suc d) (openingOf b) (keepingBefore text seen n) n tape tape' store store' seen' last
+    → Took text (wants depth) depth [] (keeping text seen c) c tape tape' entry store' seen' last
+took-inside {text} {tape} {tape'} {entry} {store} {store'} b d depth e c n last i h q w =
     let r = h .moved in
     record {
       m = w .m;
-      runs = λ k. rw e (h .opens d k ∙ w .runs k);
+      keys = openingOf b ++ w .keys;
+      runs = λ k. rw e (then-tells (openingOf b) (w .keys) _ (h .opens d k) (w .runs k));
       recorded = omega (arith, w .recorded, r .records);
       stored = omega (arith, w .stored, r .stored);
       taped = λ l. w .taped l ∙ ap₂ (λ (i j : ℕ). sets tape (i * 16) (recordsBytes (recordsOf (w .m) i j))) (r .records) (r .stored);
       filled = w .filled ∙ ap₂ (λ (v : List ℕ) (i : ℕ). sets v i (storeOf (w .m))) q (r .stored);
+      level-kept = w .level-kept;
+      noted = λ f s k. w .noted f s (keeps-further k (n .at - 1) (omega (arith, r .past)) (omega (arith, r .within, i .short)));
       past = omega (arith, w .past, r .past);
       few = omega (arith, w .few, r .records, r .past);
       short = omega (arith, w .short, r .stored, r .past);
       within = w .within;
     }
 
-pub says-inside : (text tape tape' entry store store' : List ℕ) (b : Bracket) (d depth : ℕ) → depth ≡ suc d → (c n : Cursor)
-    → Opened text c b n → store ≡ entry → (a : Step) → Says text (bareIn b d) always (suc d) n tape tape' store store' a
-    → Says text (wants depth) (λ k. Shut text (c .at) depth k) depth c tape tape' entry store' a
-says-inside text tape tape' entry store store' b d depth e c n h q (Step.Value last) w = took-inside b d depth e c n last h q w
-says-inside text tape tape' entry store store' b d depth e c n h q (Step.Refused why) w = λ k s. rw e (h .opens d k ∙ w k tt)
+pub says-inside : (text tape tape' entry store store' seen seen' : List ℕ) (b : Bracket) (d depth : ℕ) → depth ≡ suc d → (c n : Cursor)
+    → Ready text c → Opened text c b n → store ≡ entry → (a : Step) → InsideSays text b d n tape tape' store store' seen seen' a
+    → ValueSays text depth c tape tape' entry store' seen seen' a
+says-inside text tape tape' entry store store' seen seen' b d depth e c n i h q (Step.Value last) w = took-inside b d depth e c n last i h q w
+says-inside text tape tape' entry store store' seen seen' b d depth e c n i h q (Step.Refused why) w = λ k s. rw e (then-refused (h .opens d k) (w k tt))

@@ -15,8 +15,9 @@ use Rattle.machine.specs.Scan.{Out, takes, stops, breaks, over, Ran, ended, bro
 use Rattle.machine.specs.Machine.{Use, Item, string-part, binary-part, Got, string, binary, Base, wantString, wantBinary, got}
 use Rattle.machine.specs.Machine.{Mode, base, item, Frame, Conf, at, step, finish, onPart, onOut, odd, Bracket, square, curly}
 use Rattle.machine.specs.Machine.{Class, classOf, blankC, hashC, slashC, commaC, colonC, plusC, quoteC, dollarC}
-use Rattle.machine.specs.Machine.{letterN, letterT, letterF, letterC, otherC, openC, closeC}
+use Rattle.machine.specs.Machine.{letterN, letterT, letterF, letterC, otherC, openC, closeC, asValue, asKey, onGot}
 use Rattle.machine.specs.Machine as Machine
+use Rattle.machine.specs.Heard.{Heard, atGot, atColon}
 use Rattle.machine.specs.Strings
 use Rattle.machine.specs.Binaries
 use Rattle.reader.specs.Between.Scanning.{Goes, Refuses, Bare}
@@ -29,8 +30,9 @@ use Rattle.reader.specs.declared.joined.Bytes.{Bytes}
 use Rattle.reader.specs.declared.joined.Join.{Join}
 use Rattle.reader.specs.declared.joined.Link.{Link}
 use Rattle.items.specs.declared.string_part.Part.{Part}
-use Rattle.reader.proofs.ScanningLaws.{go, alike}
+use Rattle.reader.proofs.ScanningLaws.{both, go, alike, then-refused, faulted}
 use Rattle.machine.proofs.Classes.{ClassIs, class-is, closing, opening}
+use Rattle.machine.proofs.Lift.{string-quiet, binary-quiet}
 use Rattle.reader.proofs.ScanningItemLaws.{lift-done, lift-refused}
 use Rattle.items.proofs.StoreLaws.{sets-app}
 
@@ -51,7 +53,7 @@ module _ (text : List ℕ) (p q : ℕ) (v : LayoutEnds text p q) where
 
   module _ (h : q < length text) (e : getD text q 0 ≡ ch "+") where
     plussed : (g : Got) (s : Base) → Plus g s → (d : ℕ) (k : List Frame) → Goes text (at (base (got g)) d k) p (at (base s) d k) (q + 1)
-    plussed g s f d k = v .goes (got g) d k ∙ go (at (base (got g)) d k) (at (base s) d k) text q h (rw e (f q d k))
+    plussed g s f d k = v .goes (got g) d k ∙ go (at (base (got g)) d k) (at (base s) d k) text q h (both (rw e (f q d k)) (rw e))
 
     pub plus-breaks : (r : ℕ) → Breaks text base (q + 1) r → JoinSays text p (Join.NotGrammar r)
     plus-breaks r w g s f d k = plussed g s f d k ∙ w s d k
@@ -66,6 +68,31 @@ module _ (text : List ℕ) (p q : ℕ) (v : LayoutEnds text p q) where
 
 pub join-breaks : (text : List ℕ) (p q : ℕ) → Breaks text base p q → JoinSays text p (Join.NotGrammar q)
 join-breaks text p q w g s f d k = w (got g) d k
+
+-- joined parts that no plus follows do what their value, or their key, does
+module _ (g w : Got) (v : asValue g ≡ asValue w) (u : asKey g ≡ asKey w) where
+  whole-class : (p d : ℕ) (k : List Frame) (c : Class) → (c ≡ blankC → ⊥) → (c ≡ hashC → ⊥) → (c ≡ slashC → ⊥) → (c ≡ plusC → ⊥)
+      → _≡_ {A = Conf × List Heard} (onGot p d k g c, atGot g c) (onGot p d k w c, atGot w c)
+  whole-class p d k blankC a b e f = absurd (a refl)
+  whole-class p d k hashC a b e f = absurd (b refl)
+  whole-class p d k slashC a b e f = absurd (e refl)
+  whole-class p d k plusC a b e f = absurd (f refl)
+  whole-class p d k commaC a b e f = both (ap (Machine.needValue p (Machine.commaAfter p d k)) v) refl
+  whole-class p d k colonC a b e f = both (ap (Machine.needKey p (Machine.colonAfter p d k)) u) (ap atColon u)
+  whole-class p d k quoteC a b e f = refl
+  whole-class p d k dollarC a b e f = refl
+  whole-class p d k letterN a b e f = refl
+  whole-class p d k letterT a b e f = refl
+  whole-class p d k letterF a b e f = refl
+  whole-class p d k letterC a b e f = refl
+  whole-class p d k otherC a b e f = refl
+  whole-class p d k (openC c) a b e f = refl
+  whole-class p d k (closeC c) a b e f = both (ap (Machine.needValue p (Machine.closeAfter p d c k)) v) refl
+
+  pub whole-is : (text : List ℕ) (p : ℕ) → Bare text p → Plusless text p → (d : ℕ) (k : List Frame)
+      → Goes text (at (base (got g)) d k) p (at (base (got w)) d k) p
+  whole-is text p b n d k = alike (at (base (got g)) d k) (at (base (got w)) d k) text p
+      (λ h. whole-class p d k (classOf (getD text p 0)) (b .no-blank h) (b .no-hash h) (b .no-slash h) (n h)) (λ h. ap (Machine.complete p k) v)
 
 -- ---- a part at its place
 
@@ -176,8 +203,8 @@ strings = record {
   wants = wantString;
   joins = λ z u o d k. refl;
   opens = λ text z u p b d k. alike (at (base (wantString z u)) d k) (at (item (stringPart z u)) d k) text p
-      (λ h. string-class p d k z u (getD text p 0) (classOf (getD text p 0)) (class-is (getD text p 0))
-      (b .no-blank h) (b .no-hash h) (b .no-slash h)) (λ h. refl);
+      (λ h. both (string-class p d k z u (getD text p 0) (classOf (getD text p 0)) (class-is (getD text p 0))
+      (b .no-blank h) (b .no-hash h) (b .no-slash h)) (sym (string-quiet z u p (getD text p 0)))) (λ h. refl);
 }
 
 pub binaries : Kind Binaries.St Binaries.scan Binaries.begin (Unit {0}) binaryPart wholeBinary
@@ -188,8 +215,8 @@ binaries = record {
   wants = λ z u. wantBinary u;
   joins = λ z u o d k. refl;
   opens = λ text z u p b d k. alike (at (base (wantBinary u)) d k) (at (item (binaryPart z u)) d k) text p
-      (λ h. binary-class p d k u (getD text p 0) (classOf (getD text p 0)) (class-is (getD text p 0))
-      (b .no-blank h) (b .no-hash h) (b .no-slash h)) (λ h. refl);
+      (λ h. both (binary-class p d k u (getD text p 0) (classOf (getD text p 0)) (class-is (getD text p 0))
+      (b .no-blank h) (b .no-hash h) (b .no-slash h)) (sym (binary-quiet u p (getD text p 0)))) (λ h. refl);
 }
 
 -- ---- the loop: the parts so far, and the next begins
@@ -218,10 +245,10 @@ module _ {S : Type 0} {scan : ℕ → S → ℕ → Out S (List ℕ)} {begin : S
 
   pub parts-refused : {exit : List ℕ} (why : Refusal) → Unlinked scan begin text p out store exit why
       → BytesSays A part whole text from start entry exit (Bytes.Refused why)
-  parts-refused why (in-part e) = λ a d k. v .runs a d k ∙ kind .refuses text a (v .u) p d k why e
+  parts-refused why (in-part e) = λ a d k. then-refused (v .runs a d k) (kind .refuses text a (v .u) p d k why e)
   parts-refused why (after-part l) = λ a d k.
       let u = v .u ++ l .part .u in
-      to-whole (l .part) a d k ∙ l .after (whole a u) (kind .wants a u) (kind .joins a u) d k
+      then-refused (to-whole (l .part) a d k) (faulted (l .after (whole a u) (kind .wants a u) (kind .joins a u) d k))
 
   -- the bytes so far are no more than the text
   pub parts-short : {exit : List ℕ} {n : ℕ} {After : ℕ → Type 0} → start ≤ from → Linked scan begin text p out store exit n After → out + n ≤ length text

@@ -10,51 +10,34 @@ use Rattle.meaning.specs.declared.Refusal.{Refusal}
 use Rattle.meaning.specs.declared.Refusal.the-variants.{NotGrammar}
 use Rattle.meaning.specs.Letters.{ch}
 use Rattle.machine.specs.Scan.{Out, takes, stops, breaks, over, Ran, ended, broke, ran}
-use Rattle.machine.specs.Machine.{Use, as-value, as-key, Item, identifier, Got, key, string, Base, wantKey, got, base, item, Frame}
-use Rattle.machine.specs.Machine.{Conf, at, step, finish, onGot, onKey, onOut, odd, closeWanted, Bracket, square, curly, Class}
+use Rattle.machine.specs.Machine.{Use, as-value, as-key, Item, identifier, Got, key, string, Base, wantKey, base, item, Frame}
+use Rattle.machine.specs.Machine.{Conf, at, step, finish, onKey, onOut, odd, closeWanted, Bracket, square, curly, Class}
 use Rattle.machine.specs.Machine.{classOf, blankC, hashC, slashC, commaC, colonC, plusC, quoteC, dollarC, letterN, letterT}
 use Rattle.machine.specs.Machine.{letterF, letterC, otherC, openC, closeC}
 use Rattle.machine.specs.Machine as Machine
+use Rattle.machine.specs.Heard.{Heard, starts, after, atKey}
 use Rattle.machine.specs.Names
 use Rattle.machine.specs.Names.{letter, figure, neither}
 use Rattle.items.specs.Between.Identifier.{NameEnds}
-use Rattle.reader.specs.Between.Scanning.{Goes, Refuses, Bare, Shut}
-use Rattle.reader.specs.Between.Joined.{Plusless, Joined, BytesSays, stringPart, Keyed, KeySays}
+use Rattle.reader.specs.Between.Scanning.{Hears, Refuses, Bare, Shut}
+use Rattle.reader.specs.Between.Joined.{Joined, BytesSays, stringPart, Keyed, KeySays}
 use Rattle.reader.specs.declared.joined.Bytes.{Bytes}
-use Rattle.reader.proofs.ScanningLaws.{alike, alike-on, stop, halt}
+use Rattle.reader.proofs.ScanningLaws.{alike-hearing, stop, halt, then-refused}
+use Rattle.reader.proofs.JoinedLaws.{whole-is}
+use Rattle.machine.proofs.Lift.{string-quiet, name-quiet}
 use Rattle.machine.proofs.Classes.{ClassIs, class-is}
 use Rattle.reader.proofs.ScanningItemLaws.{lift-done}
 use Rattle.machine.proofs.Tables.{_&_, cut-is}
 use Rattle.items.proofs.PlacesLaws.{run-take, run-stop, end-stop}
 
--- ---- a string, as a key and as a value
-
-module _ (p d : ℕ) (k : List Frame) (u : List ℕ) where
-  key-class : (c : Class) → (c ≡ blankC → ⊥) → (c ≡ hashC → ⊥) → (c ≡ slashC → ⊥) → (c ≡ plusC → ⊥) → onGot p d k (string as-key u) c ≡ onGot p d k (key u) c
-  key-class blankC a b e f = absurd (a refl)
-  key-class hashC a b e f = absurd (b refl)
-  key-class slashC a b e f = absurd (e refl)
-  key-class plusC a b e f = absurd (f refl)
-  key-class commaC a b e f = refl
-  key-class colonC a b e f = refl
-  key-class quoteC a b e f = refl
-  key-class dollarC a b e f = refl
-  key-class letterN a b e f = refl
-  key-class letterT a b e f = refl
-  key-class letterF a b e f = refl
-  key-class letterC a b e f = refl
-  key-class otherC a b e f = refl
-  key-class (openC c) a b e f = refl
-  key-class (closeC c) a b e f = refl
-
-module _ (text : List ℕ) (p : ℕ) (b : Bare text p) (n : Plusless text p) (u : List ℕ) (d : ℕ) (k : List Frame) where
-  pub string-key : Goes text (at (base (got (string as-key u))) d k) p (at (base (got (key u))) d k) p
-  string-key = alike (at (base (got (string as-key u))) d k) (at (base (got (key u))) d k) text p
-      (λ h. key-class p d k u (classOf (getD text p 0)) (b .no-blank h) (b .no-hash h) (b .no-slash h) (n h)) (λ h. refl)
-
 -- ---- where a key is wanted
 
-class-quote : (b : ℕ) (c : Class) → c ≡ quoteC → (p d : ℕ) (k : List Frame) → onKey p d k b c ≡ onOut p d k b (Machine.scan p (stringPart as-key []) b)
+-- what a byte of this class does there
+abbrev asked : ℕ → ℕ → List Frame → ℕ → Class → Conf × List Heard
+asked p d k b c = (onKey p d k b c, atKey p c)
+
+class-quote : (b : ℕ) (c : Class) → c ≡ quoteC → (p d : ℕ) (k : List Frame)
+    → asked p d k b c ≡ (onOut p d k b (Machine.scan p (stringPart as-key []) b), starts p ∷ [])
 class-quote b c e p d k = rw e
 
 module _ (text : List ℕ) (p start : ℕ) (entry : List ℕ) where
@@ -62,20 +45,22 @@ module _ (text : List ℕ) (p start : ℕ) (entry : List ℕ) where
   key-over h d k s = halt (at (base wantKey) d k) text p (NotGrammar p) h refl
 
   module _ (h : p < length text) where
-    quoted : classOf (getD text p 0) ≡ quoteC → (d : ℕ) (k : List Frame) → Goes text (at (base wantKey) d k) p (at (item (stringPart as-key [])) d k) p
+    quoted : classOf (getD text p 0) ≡ quoteC → (d : ℕ) (k : List Frame)
+        → Hears text (at (base wantKey) d k) p (starts p ∷ []) (at (item (stringPart as-key [])) d k) p
     quoted e d k =
-        alike-on (at (base wantKey) d k) (at (item (stringPart as-key [])) d k) text p h
-        (class-quote (getD text p 0) (classOf (getD text p 0)) e p d k)
+        alike-hearing (at (base wantKey) d k) (at (item (stringPart as-key [])) d k) text p (starts p ∷ []) h
+        (class-quote (getD text p 0) (classOf (getD text p 0)) e p d k) (string-quiet as-key [] p (getD text p 0))
 
     pub key-string : classOf (getD text p 0) ≡ quoteC → (exit : List ℕ) (r : Bytes)
         → BytesSays Use stringPart string text p start entry exit r → KeySays text p start entry exit r
     key-string e exit (Bytes.Whole n q) w = record {
       u = w .u;
-      runs = λ d k. quoted e d k ∙ w .runs as-key d k ∙ string-key text q (w .bare) (w .plusless) (w .u) d k;
+      runs = λ d k. quoted e d k
+          ∙ ap (after (starts p ∷ [])) (w .runs as-key d k ∙ whole-is (string as-key (w .u)) (key (w .u)) refl refl text q (w .bare) (w .plusless) d k);
       meant = w .meant;
       within = w .within;
     }
-    key-string e exit (Bytes.Refused why) w = λ d k s. quoted e d k ∙ w as-key d k
+    key-string e exit (Bytes.Refused why) w = λ d k s. then-refused (quoted e d k) (w as-key d k)
 
 -- ---- identifiers
 
@@ -120,7 +105,8 @@ not-letter b x y = by (decLt b (ch "a"))
 
 module _ (p d : ℕ) (k : List Frame) where
   -- a letter begins an identifier
-  named-class : (b : ℕ) (c : Class) → SortIs b letter → ClassIs b c → onKey p d k b c ≡ onOut p d k b (Machine.scan p (identifier Names.begin) b)
+  named-class : (b : ℕ) (c : Class) → SortIs b letter → ClassIs b c
+      → asked p d k b c ≡ (onOut p d k b (Machine.scan p (identifier Names.begin) b), starts p ∷ [])
   named-class b dollarC x y = refl
   named-class b letterN x y = refl
   named-class b letterT x y = refl
@@ -174,10 +160,11 @@ module _ (text : List ℕ) (p start : ℕ) (entry : List ℕ) (h : p < length te
       (b .no-blank h) (b .no-hash h) (b .no-slash h) (not-quote (getD text p 0) i j) (s h))
 
   module _ (e : Names.classOf (getD text p 0) ≡ letter) (q : ℕ) (w : NameEnds text (p + 1) q) where
-    begins : (d : ℕ) (k : List Frame) → Goes text (at (base wantKey) d k) p (at (item (identifier Names.begin)) d k) p
-    begins d k = alike-on (at (base wantKey) d k) (at (item (identifier Names.begin)) d k) text p h
+    begins : (d : ℕ) (k : List Frame) → Hears text (at (base wantKey) d k) p (starts p ∷ []) (at (item (identifier Names.begin)) d k) p
+    begins d k = alike-hearing (at (base wantKey) d k) (at (item (identifier Names.begin)) d k) text p (starts p ∷ []) h
         (named-class p d k (getD text p 0) (classOf (getD text p 0))
         (letter-is (getD text p 0) (Names.classOf (getD text p 0)) (sort-is (getD text p 0)) e) (class-is (getD text p 0)))
+        (name-quiet p (getD text p 0))
 
     abbrev spelt : List ℕ
     spelt = (getD text p 0 ∷ []) ++ take (q - (p + 1)) (drop (p + 1) text)
@@ -210,7 +197,8 @@ module _ (text : List ℕ) (p start : ℕ) (entry : List ℕ) (h : p < length te
         let l' : length spelt ≡ q - p = ap length (sym spelt-is) ∙ l in
         record {
           u = spelt;
-          runs = λ d k. begins d k ∙ lift-done Names.scan identifier key (λ p s b. refl) d k text p Names.begin spelt q whole-run;
+          runs = λ d k. begins d k
+              ∙ ap (after (starts p ∷ [])) (lift-done Names.scan identifier key (λ p s b. refl) d k text p Names.begin spelt q whole-run);
           meant = record {
             counted = sym l';
             filled = f ∙ ap (sets entry start) spelt-is;

@@ -13,30 +13,30 @@ use Rattle.machine.specs.Machine
 use Rattle.machine.specs.Machine.{Base, want, wantKey, wantString, wantBinary, got, Mode, base, slash, line, block, star, Frame, Conf, at, step, finish}
 use Rattle.machine.specs.Machine.{Class, classOf, blankC, hashC, slashC, Note, noteOf, lineEnd, starN, slashN, plainN, controlN}
 use Rattle.items.specs.Between.Places.{Onward}
-use Rattle.reader.specs.Between.Scanning.{Goes, Refuses, Bare}
+use Rattle.reader.specs.Between.Scanning.{Goes, Bare}
 use Rattle.reader.specs.Between.Layout.{Passes, Commented, Breaks, Blanks, LayoutEnds, CommentSays, MaybeSays}
 use Rattle.reader.specs.declared.layout.Comment.{Comment}
 use Rattle.machine.proofs.Layouts.{NoteIs, note-is}
-use Rattle.reader.proofs.ScanningLaws.{go, stop, halt, alike, alike-end}
+use Rattle.reader.proofs.ScanningLaws.{move, both, go, stop-quietly, halt-quietly, alike, alike-end}
 use Rattle.items.proofs.PlacesLaws.{here, further, then}
 
 -- ---- what a byte of each class does, whatever is expected
 
-on-blank : (s : Base) (p d : ℕ) (k : List Frame) (b : ℕ) → classOf b ≡ blankC → step p (at (base s) d k) b ≡ at (base s) d k
+on-blank : (s : Base) (p d : ℕ) (k : List Frame) (b : ℕ) → classOf b ≡ blankC → move p (at (base s) d k) b ≡ (at (base s) d k, [])
 on-blank want p d k b e = rw e
 on-blank wantKey p d k b e = rw e
 on-blank (wantString z u) p d k b e = rw e
 on-blank (wantBinary u) p d k b e = rw e
 on-blank (got g) p d k b e = rw e
 
-on-hash : (s : Base) (p d : ℕ) (k : List Frame) (b : ℕ) → classOf b ≡ hashC → step p (at (base s) d k) b ≡ at (line s) d k
+on-hash : (s : Base) (p d : ℕ) (k : List Frame) (b : ℕ) → classOf b ≡ hashC → move p (at (base s) d k) b ≡ (at (line s) d k, [])
 on-hash want p d k b e = rw e
 on-hash wantKey p d k b e = rw e
 on-hash (wantString z u) p d k b e = rw e
 on-hash (wantBinary u) p d k b e = rw e
 on-hash (got g) p d k b e = rw e
 
-on-slash : (s : Base) (p d : ℕ) (k : List Frame) (b : ℕ) → classOf b ≡ slashC → step p (at (base s) d k) b ≡ at (slash s) d k
+on-slash : (s : Base) (p d : ℕ) (k : List Frame) (b : ℕ) → classOf b ≡ slashC → move p (at (base s) d k) b ≡ (at (slash s) d k, [])
 on-slash want p d k b e = rw e
 on-slash wantKey p d k b e = rw e
 on-slash (wantString z u) p d k b e = rw e
@@ -53,9 +53,9 @@ pub record Noting (text : List ℕ) (mode mode' : Base → Mode) (p q : ℕ) : T
   pub goes : (s : Base) (d : ℕ) (k : List Frame) → Goes text (at (mode s) d k) p (at (mode' s) d k) q
   pub onward : Onward text p q
 
--- the byte at q leads from the mode m to n
+-- the byte at q leads from the mode m to n, and says nothing
 abbrev Leads : List ℕ → (Base → Mode) → (Base → Mode) → ℕ → Type 0
-Leads text m n q = (s : Base) (d : ℕ) (k : List Frame) → step q (at (m s) d k) (getD text q 0) ≡ at (n s) d k
+Leads text m n q = (s : Base) (d : ℕ) (k : List Frame) → move q (at (m s) d k) (getD text q 0) ≡ (at (n s) d k, [])
 
 module _ {text : List ℕ} where
   pub none-yet : (p : ℕ) → p ≤ length text → Passing text p p
@@ -97,11 +97,11 @@ module _ {text : List ℕ} where
     }
 
     pub note-breaks : q < length text
-        → ((s : Base) (d : ℕ) (k : List Frame) → step q (at (n s) d k) (getD text q 0) ≡ Conf.fail (NotGrammar q)) → Breaks text m p q
-    note-breaks h e s d k = v .goes s d k ∙ stop (at (n s) d k) text q (NotGrammar q) h (e s d k)
+        → ((s : Base) (d : ℕ) (k : List Frame) → move q (at (n s) d k) (getD text q 0) ≡ (Conf.fail (NotGrammar q), [])) → Breaks text m p q
+    note-breaks h e s d k = v .goes s d k ∙ stop-quietly (at (n s) d k) text q (NotGrammar q) h (e s d k)
 
     pub note-unended : length text ≤ q → ((s : Base) (d : ℕ) (k : List Frame) → finish q (at (n s) d k) ≡ Machine.No (NotGrammar q)) → Breaks text m p q
-    note-unended h e s d k = v .goes s d k ∙ halt (at (n s) d k) text q (NotGrammar q) h (e s d k)
+    note-unended h e s d k = v .goes s d k ∙ halt-quietly (at (n s) d k) text q (NotGrammar q) h (e s d k)
 
     -- a comment of the mode n goes on from the mode m
     pub note-then : {r : ℕ} → Commented text n q r → Commented text m p r
@@ -174,7 +174,7 @@ line-note plainN i j p d k s = refl
 line-note controlN i j p d k s = absurd (j refl)
 
 pub line-leads : (text : List ℕ) (q : ℕ) → (noteOf (getD text q 0) ≡ lineEnd → ⊥) → (noteOf (getD text q 0) ≡ controlN → ⊥) → Leads text line line q
-line-leads text q i j s d k = line-note (noteOf (getD text q 0)) i j q d k s
+line-leads text q i j s d k = both (line-note (noteOf (getD text q 0)) i j q d k s) refl
 
 -- ---- in a block comment
 
@@ -200,15 +200,15 @@ module _ (b p d : ℕ) (k : List Frame) (s : Base) where
 -- a block comment goes on, after a star if the byte is one
 pub block-leads : (text : List ℕ) (q : ℕ) (f : Bool) → ((f ≡ true) × (noteOf (getD text q 0) ≡ slashN) → ⊥) → (noteOf (getD text q 0) ≡ controlN → ⊥)
     → Leads text (blocked f) (blocked (eqb (getD text q 0) (ch "*"))) q
-block-leads text q true i j s d k = block-note (getD text q 0) q d k s true (noteOf (getD text q 0)) (note-is (getD text q 0)) i j
-block-leads text q false i j s d k = block-note (getD text q 0) q d k s false (noteOf (getD text q 0)) (note-is (getD text q 0)) i j
+block-leads text q true i j s d k = both (block-note (getD text q 0) q d k s true (noteOf (getD text q 0)) (note-is (getD text q 0)) i j) refl
+block-leads text q false i j s d k = both (block-note (getD text q 0) q d k s false (noteOf (getD text q 0)) (note-is (getD text q 0)) i j) refl
 
 module _ (text : List ℕ) (q : ℕ) where
   pub slash-closes : (f : Bool) → f ≡ true → noteOf (getD text q 0) ≡ slashN → Leads text (blocked f) base q
   slash-closes f h e s d k = rw (h, e)
 
   pub control-breaks : (f : Bool) → noteOf (getD text q 0) ≡ controlN
-      → (s : Base) (d : ℕ) (k : List Frame) → step q (at (blocked f s) d k) (getD text q 0) ≡ Conf.fail (NotGrammar q)
+      → (s : Base) (d : ℕ) (k : List Frame) → move q (at (blocked f s) d k) (getD text q 0) ≡ (Conf.fail (NotGrammar q), [])
   control-breaks true e s d k = rw e
   control-breaks false e s d k = rw e
 
@@ -234,7 +234,9 @@ slash-note b plainN x i j p s d k = refl
 slash-note b controlN x i j p s d k = refl
 
 pub slash-breaks : (text : List ℕ) (p : ℕ) → p < length text → (getD text p 0 ≡ ch "/" → ⊥) → (getD text p 0 ≡ ch "*" → ⊥) → Breaks text slash p p
-slash-breaks text p h i j = note-breaks (noting slash p (omega arith)) h (slash-note (getD text p 0) (noteOf (getD text p 0)) (note-is (getD text p 0)) i j p)
+slash-breaks text p h i j =
+    note-breaks (noting slash p (omega arith)) h
+    (λ s d k. both (slash-note (getD text p 0) (noteOf (getD text p 0)) (note-is (getD text p 0)) i j p s d k) refl)
 
 -- a comment goes on where another mode leads into it
 module _ {text : List ℕ} {m n : Base → Mode} {p q : ℕ} (v : Noting text m n p q) where

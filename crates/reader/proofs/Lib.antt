@@ -12,6 +12,8 @@ pub mod JoinedLaws
 pub mod KeyLaws
 -- CursorHeadLaws: where a value is wanted
 pub mod CursorHeadLaws
+-- CursorTableLaws: the table of the keys that have come, over a container
+pub mod CursorTableLaws
 -- CursorLoopLaws: a round of the loops over elements and members
 pub mod CursorLoopLaws
 -- Claims: what the promises come to, in terms of the grammar
@@ -20,5 +22,15 @@ pub mod Claims
 pub mod CursorBracketLaws
 -- WalkLaws: one walk over a text
 pub mod WalkLaws
+-- WalkWindowLaws: the windows of the search for a repeated key
+pub mod WalkWindowLaws
 -- AnswersLaws: what `measure` and `read` make of a walk
 pub mod AnswersLaws
+-- SpellingHeardLaws: what the next colon names
+pub mod SpellingHeardLaws
+-- SpellingLaws: a key, spelled a byte at a time
+pub mod SpellingLaws
+-- TagLaws: the tag of a key
+pub mod TagLaws
+-- RepeatLaws: the search for a repeated key
+pub mod RepeatLaws

@@ -1,5 +1,5 @@
 -- A scanner over a text, and what the machine makes of its end. Assumes nothing.
-use mathlib.Core.Path.{_≡_, _∙_}
+use mathlib.Core.Path.{_≡_, ap, _∙_}
 use mathlib.Core.List.{List}
 use Prim.Native.Nat.{ℕ, _+_, _-_}
 use native.Mathlib.Omega.{arith}
@@ -9,6 +9,7 @@ use Rattle.meaning.specs.declared.Refusal.{Refusal}
 use Rattle.machine.specs.Scan.{Out, ended, broke, ran}
 use Rattle.machine.specs.Machine.{Item, Got, base, item, got, Frame, at, lift}
 use Rattle.machine.specs.Machine as Machine
+use Rattle.machine.specs.Heard.{Told}
 use Rattle.machine.proofs.Lift.{item-ends, item-breaks}
 use Rattle.reader.specs.Between.Scanning.{Goes, Refuses}
 
@@ -20,7 +21,7 @@ module _ {S M : Type 0} (scan : ℕ → S → ℕ → Out S M) (f : S → Item) 
   lift-done text p s m q h =
       let v = item-ends scan f g lifts d k (drop p text) p s m q h in
       let n : p + (q - p) ≡ q = omega (arith, v .behind) in
-      v .reads ∙ rw (drop-drop, n)
+      v .tells ∙ rw (drop-drop, n)
 
   pub lift-refused : (text : List ℕ) (p : ℕ) (s : S) (why : Refusal) → ran scan p s (drop p text) ≡ broke why → Refuses text (at (item (f s)) d k) p why
-  lift-refused text p s why h = item-breaks scan f g lifts d k (drop p text) p s why h
+  lift-refused text p s why h = ap (λ (x : Told). x .verdict) (item-breaks scan f g lifts d k (drop p text) p s why h)

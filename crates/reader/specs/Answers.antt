@@ -10,8 +10,8 @@ use Rattle.meaning.specs.Bytes.{laid}
 use Rattle.meaning.specs.Meaning.{Meaning}
 use Rattle.meaning.specs.Paper.{refusalSaid}
 use Rattle.meaning.specs.Tape.{records, bytes, tapeOf, storeOf}
-use Rattle.grammar.specs.Values.{Text}
-use Rattle.grammar.specs.Refused.{Text-refused}
+use Rattle.grammar.specs.Values.{Loose, Text}
+use Rattle.grammar.specs.Refused.{Loose-refused, Text-refused}
 use Rattle.reader.specs.declared.Answer.{Answer}
 
 -- in the terms of docs/FORMAT.md, 10.1: the number of records and of store bytes, or a refusal
@@ -23,8 +23,13 @@ answerSaid (Answer.Refused why) = refusalSaid why
 pub data Measures (text : List ℕ) (a : Answer) : Type 0 where
   -- the sizes of its meaning
   sizes : {m : Meaning} → Text true text m → answerSaid a ≡ done (records m, bytes m) → Measures text a
-  -- 1 to 7
+  -- 1 to 7, 15
   no-text : {why : Refusal} → Text-refused text why → answerSaid a ≡ refusalSaid why → Measures text a
+
+-- what a check in parts may answer: what `measure` may, with 15 left out
+pub data Loosely (text : List ℕ) (a : Answer) : Type 0 where
+  sizes : {m : Meaning} → Loose true text m → answerSaid a ≡ done (records m, bytes m) → Loosely text a
+  no-text : {why : Refusal} → Loose-refused text why → answerSaid a ≡ refusalSaid why → Loosely text a
 
 -- the tape bytes that a meaning needs
 abbrev pub tapeBytes : Meaning → ℕ
@@ -41,6 +46,6 @@ pub data Reads (text tape store : List ℕ) (a : Answer) : List ℕ → List ℕ
       → answerSaid a ≡ refused 8 (tapeBytes m) → Reads text tape store a tape store
   store-short : {m : Meaning} → Text true text m → tapeBytes m ≤ length tape → length store < bytes m
       → answerSaid a ≡ refused 9 (bytes m) → Reads text tape store a tape store
-  -- 1 to 7
+  -- 1 to 7, 15
   no-text : {why : Refusal} → Text-refused text why → answerSaid a ≡ refusalSaid why
       → Reads text tape store a tape store

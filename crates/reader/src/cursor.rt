@@ -1,19 +1,20 @@
 // The cursor, and the cycle of values, arrays and objects. Reading moves forward and never goes back past an item.
 ghost use mathlib.Core.Path.{_≡_};
-ghost use Prim.Native.Nat.{suc, _+_, _≤_, _<_};
+ghost use Prim.Native.Nat.{_-_, _≤_, _<_};
 ghost use lib.ListN.{length, getD};
 ghost use Rattle.meaning.specs.Letters.{ch};
 ghost use Rattle.machine.specs.Machine.{square, curly};
-ghost use Rattle.reader.specs.Between.Scanning.{Shut};
+ghost use Rattle.once.specs.Groups.{Sane};
 ghost use Rattle.reader.specs.Between.Cursor.{recordItem, itemBytes, SpeltSays, Quoted, AtScalar, ScalarSays};
-ghost use Rattle.reader.specs.Between.Cursor.{Ready, AtMember, AtValue, Inner, HeadSays, AheadSays, AfterSays};
-ghost use Rattle.reader.specs.Between.Cursor.{ColonSays, MemberSays, MemberAheadSays, Says, wants, bareIn, always};
-ghost use Rattle.reader.specs.Between.Cursor.{StepReady, FollowedSays};
+ghost use Rattle.reader.specs.Between.Cursor.{Ready, AtMember, AtValue, Inner, Seen, HeadSays, AheadSays, AfterSays};
+ghost use Rattle.reader.specs.Between.Cursor.{ColonSays, MemberSays, MemberAheadSays, ValueSays, InsideSays};
+ghost use Rattle.reader.specs.Between.Cursor.{ArrayClosed, ObjectClosed, StepReady, FollowedSays};
 use crate::joined;
 use crate::joined::Bytes;
 use crate::key;
 use crate::layout;
 use crate::layout::Layout;
+use crate::repeat;
 use items::Item;
 use items::Scanned;
 use items::number_or_time;
@@ -292,11 +293,11 @@ impl Cursor {
         }
     }
 
-    // In an object: its end, or the value of the next member, whose key has been put.
-    fn member_ahead(self, text: &[u8], tape: &mut [u8], store: &mut [u8]) -> Ahead
-        requires { ⌜ Ready (now text) self ⌝ }
-        ensures { λ r. ⌜ MemberAheadSays (now (text .entry)) self
-            (now (tape .entry)) (now (tape .exit)) (now (store .entry)) (now (store .exit)) r ⌝ }
+    // In an object: its end, or the value of the next member, whose key has been put and noted.
+    fn member_ahead(self, text: &[u8], tape: &mut [u8], store: &mut [u8], seen: &mut [u32]) -> Ahead
+        requires { ⌜ Ready (now text) self × Seen (now text) (now seen) (self .at) ⌝ }
+        ensures { λ r. ⌜ MemberAheadSays (now (text .entry)) self (now (tape .entry)) (now (tape .exit))
+            (now (store .entry)) (now (store .exit)) (now (seen .entry)) (now (seen .exit)) r ⌝ }
     {
         match self.ahead(text, b'}') {
             Ahead::Refused(why) => Ahead::Refused(why),
@@ -312,17 +313,46 @@ impl Cursor {
                             start: self.stored,
                         },
                     );
+                    repeat::note(text, first.at, seen);
                     Ahead::More(held)
                 }
             },
         }
     }
 
+    // After an array's closing bracket: the array's own record is put.
+    fn array_closed(self, tape: &mut [u8], own: usize, count: usize) -> Step
+        ensures { λ r. ⌜ ArrayClosed self own count (now (tape .entry)) (now (tape .exit)) r ⌝ }
+    {
+        let end = self.records;
+        put_record(tape, own, Record::Array { count, end });
+        Step::Value(self)
+    }
+
+    // After an object's closing bracket: the object's own record is put, and its keys leave the table.
+    fn object_closed(self, tape: &mut [u8], seen: &mut [u32], own: usize, count: usize) -> Step
+        requires { ⌜ Sane (now seen) ⌝ }
+        ensures { λ r. ⌜ ObjectClosed self own count (now (tape .entry)) (now (tape .exit))
+            (now (seen .entry)) (now (seen .exit)) r ⌝ }
+    {
+        let end = self.records;
+        put_record(tape, own, Record::Object { count, end });
+        once::closed(seen);
+        Step::Value(self)
+    }
+
     // A value, where no layout stands; `depth` more arrays and objects may open.
-    pub fn value(self, text: &[u8], depth: usize, tape: &mut [u8], store: &mut [u8]) -> Step
-        requires { ⌜ AtValue (now text) self ⌝ }
-        ensures { λ r. ⌜ Says (now (text .entry)) (wants depth) (λ k. Shut (now (text .entry)) (self .at) depth k)
-            depth self (now (tape .entry)) (now (tape .exit)) (now (store .entry)) (now (store .exit)) r ⌝ }
+    pub fn value(
+        self,
+        text: &[u8],
+        depth: usize,
+        tape: &mut [u8],
+        store: &mut [u8],
+        seen: &mut [u32],
+    ) -> Step
+        requires { ⌜ AtValue (now text) self × Seen (now text) (now seen) (self .at) ⌝ }
+        ensures { λ r. ⌜ ValueSays (now (text .entry)) depth self (now (tape .entry)) (now (tape .exit))
+            (now (store .entry)) (now (store .exit)) (now (seen .entry)) (now (seen .exit)) r ⌝ }
     {
         match self.head(text, store) {
             Head::Refused(why) => Step::Refused(why),
@@ -334,22 +364,29 @@ impl Cursor {
                 if depth == 0 {
                     return Step::Refused(Refusal::TooDeep(self.at));
                 }
-                inside.array(text, depth - 1, tape, store)
+                inside.array(text, depth - 1, tape, store, seen)
             }
             Head::Object(inside) => {
                 if depth == 0 {
                     return Step::Refused(Refusal::TooDeep(self.at));
                 }
-                inside.object(text, depth - 1, tape, store)
+                inside.object(text, depth - 1, tape, store, seen)
             }
         }
     }
 
     // An array, after its opening bracket.
-    fn array(self, text: &[u8], depth: usize, tape: &mut [u8], store: &mut [u8]) -> Step
-        requires { ⌜ Inner (now text) self ⌝ }
-        ensures { λ r. ⌜ Says (now (text .entry)) (bareIn square depth) always (suc depth) self
-            (now (tape .entry)) (now (tape .exit)) (now (store .entry)) (now (store .exit)) r ⌝ }
+    fn array(
+        self,
+        text: &[u8],
+        depth: usize,
+        tape: &mut [u8],
+        store: &mut [u8],
+        seen: &mut [u32],
+    ) -> Step
+        requires { ⌜ Inner (now text) self × Seen (now text) (now seen) (self .at - 1) ⌝ }
+        ensures { λ r. ⌜ InsideSays (now (text .entry)) square depth self (now (tape .entry)) (now (tape .exit))
+            (now (store .entry)) (now (store .exit)) (now (seen .entry)) (now (seen .exit)) r ⌝ }
     {
         let own = self.records;
         let mut count: usize = 0;
@@ -361,21 +398,12 @@ impl Cursor {
         loop {
             match here.ahead(text, b']') {
                 Ahead::Refused(why) => return Step::Refused(why),
-                Ahead::Close(next) => {
-                    let end = next.records;
-                    put_record(tape, own, Record::Array { count, end });
-                    return Step::Value(next);
-                }
+                Ahead::Close(next) => return next.array_closed(tape, own, count),
                 Ahead::More(first) => match first
-                    .value(text, depth, tape, store)
+                    .value(text, depth, tape, store, seen)
                     .followed(text, b']') {
                     After::Refused(why) => return Step::Refused(why),
-                    After::Close(next) => {
-                        count += 1;
-                        let end = next.records;
-                        put_record(tape, own, Record::Array { count, end });
-                        return Step::Value(next);
-                    }
+                    After::Close(next) => return next.array_closed(tape, own, count + 1),
                     After::Comma(next) => {
                         count += 1;
                         here = next;
@@ -386,11 +414,19 @@ impl Cursor {
     }
 
     // An object, after its opening bracket.
-    fn object(self, text: &[u8], depth: usize, tape: &mut [u8], store: &mut [u8]) -> Step
-        requires { ⌜ Inner (now text) self ⌝ }
-        ensures { λ r. ⌜ Says (now (text .entry)) (bareIn curly depth) always (suc depth) self
-            (now (tape .entry)) (now (tape .exit)) (now (store .entry)) (now (store .exit)) r ⌝ }
+    fn object(
+        self,
+        text: &[u8],
+        depth: usize,
+        tape: &mut [u8],
+        store: &mut [u8],
+        seen: &mut [u32],
+    ) -> Step
+        requires { ⌜ Inner (now text) self × Seen (now text) (now seen) (self .at - 1) ⌝ }
+        ensures { λ r. ⌜ InsideSays (now (text .entry)) curly depth self (now (tape .entry)) (now (tape .exit))
+            (now (store .entry)) (now (store .exit)) (now (seen .entry)) (now (seen .exit)) r ⌝ }
     {
+        once::opened(seen);
         let own = self.records;
         let mut count: usize = 0;
         let mut here = Cursor {
@@ -399,22 +435,13 @@ impl Cursor {
             stored: self.stored,
         };
         loop {
-            match here.member_ahead(text, tape, store) {
+            match here.member_ahead(text, tape, store, seen) {
                 Ahead::Refused(why) => return Step::Refused(why),
-                Ahead::Close(next) => {
-                    let end = next.records;
-                    put_record(tape, own, Record::Object { count, end });
-                    return Step::Value(next);
-                }
-                Ahead::More(held) => match held.value(text, depth, tape, store)
+                Ahead::Close(next) => return next.object_closed(tape, seen, own, count),
+                Ahead::More(held) => match held.value(text, depth, tape, store, seen)
                     .followed(text, b'}') {
                     After::Refused(why) => return Step::Refused(why),
-                    After::Close(next) => {
-                        count += 1;
-                        let end = next.records;
-                        put_record(tape, own, Record::Object { count, end });
-                        return Step::Value(next);
-                    }
+                    After::Close(next) => return next.object_closed(tape, seen, own, count + 1),
                     After::Comma(next) => {
                         count += 1;
                         here = next;

@@ -17,7 +17,7 @@ use items::string_part::Part;
 use meaning::Refusal;
 
 // What follows a part: the next one's place, after a plus; none, and where the layout ends; or what breaks the layout.
-enum Join {
+pub enum Join {
     Next(usize),
     Last(usize),
     NotGrammar(usize),
@@ -37,7 +37,7 @@ pub enum Bytes {
 }
 
 // After a part.
-fn after_part(text: &[u8], from: usize) -> Join
+pub fn after_part(text: &[u8], from: usize) -> Join
     requires { ⌜ from ≤ length (now text) ⌝ }
     ensures { λ r. ⌜ JoinSays (now (text .entry)) from r ⌝ }
 {

@@ -3,12 +3,18 @@ mod cursor;
 mod joined;
 mod key;
 mod layout;
+mod repeat;
+mod spelling;
+mod tag;
 
+ghost use mathlib.Core.Path.{_≡_};
 ghost use Prim.Native.Nat.{_≤_};
 ghost use lib.ListN.{length};
 ghost use Rattle.meaning.specs.Limits.{textLimit};
+ghost use Rattle.once.specs.Windows.{least as lesser};
 ghost use Rattle.reader.specs.Answers.{Measures, Reads};
-ghost use Rattle.reader.specs.Between.Walk.{EndedSays, WalkSays};
+ghost use Rattle.reader.specs.Between.Cursor.{Seen};
+ghost use Rattle.reader.specs.Between.Walk.{EndedSays, WalkSays, Searching, AtWindow, WindowSays, SearchSays, AnsweredSays};
 use cursor::Cursor;
 use cursor::Step;
 use layout::Layout;
@@ -44,10 +50,10 @@ fn ended(text: &[u8], next: Cursor) -> Answer
 }
 
 // The text is layout, one value, layout.
-fn walk(text: &[u8], tape: &mut [u8], store: &mut [u8]) -> Answer
-    requires { ⌜ length (now text) ≤ textLimit ⌝ }
-    ensures { λ a. ⌜ WalkSays (now (text .entry))
-        (now (tape .entry)) (now (tape .exit)) (now (store .entry)) (now (store .exit)) a ⌝ }
+fn walk(text: &[u8], tape: &mut [u8], store: &mut [u8], seen: &mut [u32]) -> Answer
+    requires { ⌜ (length (now text) ≤ textLimit) × Seen (now text) (now seen) 0 ⌝ }
+    ensures { λ a. ⌜ WalkSays (now (text .entry)) (now (tape .entry)) (now (tape .exit))
+        (now (store .entry)) (now (store .exit)) (now (seen .entry)) (now (seen .exit)) a ⌝ }
 {
     match layout::pass(text, 0) {
         Layout::NotGrammar(p) => Answer::Refused(Refusal::NotGrammar(p)),
@@ -55,14 +61,108 @@ fn walk(text: &[u8], tape: &mut [u8], store: &mut [u8]) -> Answer
             at: first,
             records: 0,
             stored: 0,
-        }).value(text, DEPTH_LIMIT, tape, store) {
+        }).value(text, DEPTH_LIMIT, tape, store, seen) {
             Step::Refused(why) => Answer::Refused(why),
             Step::Value(next) => ended(text, next),
         },
     }
 }
 
-// How many records and store bytes the text needs: 1, then 2 over the whole text, then 3 to 7 from left to right.
+// The lesser of two places, 0 for none.
+fn least(a: usize, b: usize) -> usize
+    ensures { λ r. ⌜ r ≡ lesser a b ⌝ }
+{
+    if a == 0 {
+        return b;
+    }
+    if b == 0 {
+        return a;
+    }
+    if a <= b { a } else { b }
+}
+
+// 15 where a key repeats one, else the counts.
+fn answered(twice: usize, records: usize, bytes: usize) -> Answer
+    ensures { λ a. ⌜ AnsweredSays twice records bytes a ⌝ }
+{
+    if twice != 0 {
+        return Answer::Refused(Refusal::RepeatedKey(twice));
+    }
+    Answer::Counts { records, bytes }
+}
+
+// After a window: the first key so far that repeats one, and where the next window begins, 0 for none.
+enum Windowed {
+    Next { best: usize, from: usize },
+    Refused(Refusal),
+}
+
+// After all windows: the first key that repeats one, 0 for none.
+enum Search {
+    Done(usize),
+    Refused(Refusal),
+}
+
+// One window: the keys from `from` on that the table takes in.
+fn window(text: &[u8], seen: &mut [u32], best: usize, from: usize) -> Windowed
+    requires { ⌜ AtWindow (now text) (now seen) best from ⌝ }
+    ensures { λ r. ⌜ WindowSays (now (text .entry)) from r ⌝ }
+{
+    let mut tape: [u8; 0] = [0; 0];
+    let mut store: [u8; 0] = [0; 0];
+    once::begin(seen, from as u32);
+    match walk(text, &mut tape, &mut store, seen) {
+        Answer::Refused(why) => Windowed::Refused(why),
+        Answer::Counts {
+            records: _,
+            bytes: _,
+        } => Windowed::Next {
+            best: least(best, once::first_twice(seen)),
+            from: once::stopped(seen),
+        },
+    }
+}
+
+// The windows from `begin` on, by a table of 1 MiB.
+fn widest(text: &[u8], first: usize, begin: usize) -> Search
+    requires { ⌜ Searching (now text) first begin ⌝ }
+    ensures { λ r. ⌜ SearchSays (now (text .entry)) r ⌝ }
+{
+    let mut seen: [u32; 262152] = [0; 262152];
+    let mut best = first;
+    let mut from = begin;
+    while from != 0 {
+        match window(text, &mut seen, best, from) {
+            Windowed::Refused(why) => return Search::Refused(why),
+            Windowed::Next { best: b, from: f } => {
+                best = b;
+                from = f;
+            }
+        }
+    }
+    Search::Done(best)
+}
+
+// The windows from `from` on: so many by a table of 64 KiB, then the wider ones. It calls itself where a loop would do:
+// the compiler lays no such function into its caller, so the table takes no room on the stack of a text that needs none.
+fn searched(text: &[u8], best: usize, from: usize, rounds: usize) -> Search
+    requires { ⌜ Searching (now text) best from ⌝ }
+    ensures { λ r. ⌜ SearchSays (now (text .entry)) r ⌝ }
+{
+    if from == 0 {
+        return Search::Done(best);
+    }
+    if rounds == 0 {
+        return widest(text, best, from);
+    }
+    let mut seen: [u32; 16392] = [0; 16392];
+    match window(text, &mut seen, best, from) {
+        Windowed::Refused(why) => Search::Refused(why),
+        Windowed::Next { best: b, from: f } => searched(text, b, f, rounds - 1),
+    }
+}
+
+// How many records and store bytes the text needs: 1, then 2 over the whole text, then 3 to 7 from left to right, then 15.
 pub fn measure(text: &[u8]) -> Answer
     ensures { λ a. ⌜ Measures (now (text .entry)) a ⌝ }
 {
@@ -74,7 +174,21 @@ pub fn measure(text: &[u8]) -> Answer
         Utf8Answer::Done => {
             let mut tape: [u8; 0] = [0; 0];
             let mut store: [u8; 0] = [0; 0];
-            walk(text, &mut tape, &mut store)
+            let mut seen: [u32; 520] = [0; 520];
+            match walk(text, &mut tape, &mut store, &mut seen) {
+                Answer::Refused(why) => Answer::Refused(why),
+                Answer::Counts { records, bytes } => {
+                    let twice = once::first_twice(&seen);
+                    let stop = once::stopped(&seen);
+                    if stop == 0 {
+                        return answered(twice, records, bytes);
+                    }
+                    match searched(text, twice, stop, 1) {
+                        Search::Refused(why) => Answer::Refused(why),
+                        Search::Done(best) => answered(best, records, bytes),
+                    }
+                }
+            }
         }
     }
 }
@@ -93,7 +207,8 @@ pub fn read(text: &[u8], tape: &mut [u8], store: &mut [u8]) -> Answer
             if store.len() < bytes {
                 return Answer::Refused(Refusal::StoreTooShort(bytes));
             }
-            walk(text, tape, store)
+            let mut seen: [u32; 0] = [0; 0];
+            walk(text, tape, store, &mut seen)
         }
     }
 }

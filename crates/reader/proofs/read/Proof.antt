@@ -1,4 +1,5 @@
-use mathlib.Core.Path.{subst}
+use mathlib.Core.Path.{refl, subst}
+use mathlib.Core.Logic.{inl}
 use native.Mathlib.Omega.{arith}
 use Rattle.reader.specs.declared.Answer.{Answer}
 use Rattle.reader.specs.Answers.{Measures}
@@ -21,65 +22,41 @@ enum-known-records : tie.Need-enum-known-records
 enum-known-records c = search needs
 
 mul-if1 : tie.Need-mul-if1
-mul-if1 c =
-    let a' = c .before .before .before .before .before .before .before .args in
-    let measure = c .before .before .before .measure in
-    let records = c .before .records in
-    omega (
-      arith,
-      read-few (a' .text .now) (a' .tape .now) (a' .store .now) (records .given .0 .0) (records .given .0 .1 .0)
-          (subst (λ (a : Answer). Measures (a' .text .now) a) (records .given .1) (measure .ensures)),
-      read-short (a' .text .now)
-          (a' .tape .now) (a' .store .now) (records .given .0 .0) (records .given .0 .1 .0)
-          (subst (λ (a : Answer). Measures (a' .text .now) a) (records .given .1) (measure .ensures)),
-    )
+mul-if1 c = let a' = c .before .before .before .before .before .before .before .args in
+    let e = subst (λ (a : Answer). Measures (a' .text .now) a) (c .before .records .given .1) (c .before .before .before .measure .ensures) in
+    omega (arith, read-few (a' .text .now) (a' .tape .now) (a' .store .now) _ _ e, read-short (a' .text .now) (a' .tape .now) (a' .store .now) _ _ e)
 
-mul-t12 : tie.Need-mul-t12
-mul-t12 c =
-    let a' = c .before .before .before .before .before .before .before .before .args in
-    let measure = c .before .before .before .before .measure in
-    let records = c .before .before .records in
-    omega (
-      arith,
-      read-few (a' .text .now) (a' .tape .now) (a' .store .now) (records .given .0 .0) (records .given .0 .1 .0)
-          (subst (λ (a : Answer). Measures (a' .text .now) a) (records .given .1) (measure .ensures)),
-      read-short (a' .text .now)
-          (a' .tape .now) (a' .store .now) (records .given .0 .0) (records .given .0 .1 .0)
-          (subst (λ (a : Answer). Measures (a' .text .now) a) (records .given .1) (measure .ensures)),
-    )
+mul-t13 : tie.Need-mul-t13
+mul-t13 c = let a' = c .before .before .before .before .before .before .before .before .args in
+    let e = subst (λ (a : Answer). Measures (a' .text .now) a) (c .before .before .records .given .1) (c .before .before .before .before .measure .ensures) in
+    omega (arith, read-few (a' .text .now) (a' .tape .now) (a' .store .now) _ _ e, read-short (a' .text .now) (a' .tape .now) (a' .store .now) _ _ e)
 
 returns : tie.Need-returns
-returns c =
-    let a' = c .before .before .before .before .before .before .before .before .args in
-    let measure = c .before .before .before .before .measure in
-    let records = c .before .before .records in
-    read-tape-short (a' .text .now) (a' .tape .now) (a' .store .now) (records .given .0 .0) (records .given .0 .1 .0)
-    (subst (λ (a : Answer). Measures (a' .text .now) a) (records .given .1) (measure .ensures))
+returns c = let a' = c .before .before .before .before .before .before .before .before .args in
+    read-tape-short (a' .text .now) (a' .tape .now) (a' .store .now) _ _
+    (subst (λ (a : Answer). Measures (a' .text .now) a) (c .before .before .records .given .1) (c .before .before .before .before .measure .ensures))
     (omega (arith, c .if1 .taken))
 
 returns-2 : tie.Need-returns-2
-returns-2 c =
-    let a' = c .before .before .before .before .before .before .before .before .before .args in
-    let measure = c .before .before .before .before .before .measure in
-    let records = c .before .before .before .records in
-    read-store-short (a' .text .now) (a' .tape .now) (a' .store .now) (records .given .0 .0) (records .given .0 .1 .0)
-    (subst (λ (a : Answer). Measures (a' .text .now) a) (records .given .1) (measure .ensures))
+returns-2 c = let a' = c .before .before .before .before .before .before .before .before .before .args in
+    read-store-short (a' .text .now) (a' .tape .now) (a' .store .now) _ _
+    (subst (λ (a : Answer). Measures (a' .text .now) a) (c .before .before .before .records .given .1)
+    (c .before .before .before .before .before .measure .ensures))
     (omega (arith, c .before .if1 .left)) (omega (arith, c .if2 .taken))
 
+slice-aggregate-walk : tie.Need-slice-aggregate-walk
+slice-aggregate-walk c = search needs
+
 walk-requires : tie.Need-walk-requires
-walk-requires c κs =
-    let a' = c .before .before .before .before .before .before .before .before .before .before .before .args in
-    let measure = c .before .before .before .before .before .before .before .measure in
-    let records = c .before .before .before .before .before .records in
-    read-short (a' .text .now) (a' .tape .now) (a' .store .now) (records .given .0 .0) (records .given .0 .1 .0)
-    (subst (λ (a : Answer). Measures (a' .text .now) a) (records .given .1) (measure .ensures))
+walk-requires c κs = let a' = c .before .before .before .before .before .before .before .before .before .before .before .before .args in
+    let e = subst (λ (a : Answer). Measures (a' .text .now) a) (c .before .before .before .before .before .before .records .given .1)
+    (c .before .before .before .before .before .before .before .before .measure .ensures) in
+    (read-short (a' .text .now) (a' .tape .now) (a' .store .now) _ _ e, inl refl)
 
 returns-3 : tie.Need-returns-3
-returns-3 c =
-    let a' = c .before .before .before .before .before .before .before .args in
+returns-3 c = let a' = c .before .before .before .before .before .before .before .args in
     read-refused (a' .text .now) (a' .tape .now) (a' .store .now) (c .before .why .given .0 .0)
-    (subst (λ (a : Answer). Measures (a' .text .now) a) (c .before .why .given .1)
-    (c .before .before .before .measure .ensures))
+    (subst (λ (a : Answer). Measures (a' .text .now) a) (c .before .why .given .1) (c .before .before .before .measure .ensures))
 
 same-length : tie.Need-same-length
 same-length c = search needs
@@ -88,17 +65,15 @@ same-length-2 : tie.Need-same-length-2
 same-length-2 c = search needs
 
 returns-4 : tie.Need-returns-4
-returns-4 c =
-    let back = c .before .before .before .before .before .before .before .before .before .before .before .before in
-    let a' = back .before .before .before .before .args in
-    let measure = back .measure in
-    let records = c .before .before .before .before .before .before .before .before .before .before .records in
-    let if1 = c .before .before .before .before .before .before .before .before .if1 in
-    let if2 = c .before .before .before .before .before .before .before .if2 in
-    let walk = c .before .before .before .before .walk in
-    read-walked (a' .text .now) (a' .tape .now) (a' .store .now) (records .given .0 .0) (records .given .0 .1 .0)
-    (subst (λ (a : Answer). Measures (a' .text .now) a) (records .given .1) (measure .ensures)) (walk .last .1 .0)
-    (walk .last .1 .1 .0) (walk .result) (omega (arith, if1 .left)) (omega (arith, if2 .left)) (walk .ensures)
+returns-4 c = let a' = c .before .before .before .before .before .before .before .before .before .before .before .before .before .before .before .before .before
+    .before .args in
+    let walk = c .before .before .before .before .before .walk in
+    read-walked (a' .text .now) (a' .tape .now) (a' .store .now) _ _
+    (subst (λ (a : Answer). Measures (a' .text .now) a) (c .before .before .before .before .before .before .before .before .before .before .before .before
+    .records .given .1) (c .before .before .before .before .before .before .before .before .before .before .before .before .before .before .measure
+    .ensures)) (walk .last .1 .0)
+    (walk .last .1 .1 .0) (walk .result) (omega (arith, c .before .before .before .before .before .before .before .before .before .before .if1 .left))
+    (omega (arith, c .before .before .before .before .before .before .before .before .before .if2 .left)) _ _ (walk .ensures)
 
 pub read-spec : {M : Type 1} → statement M
 read-spec =
@@ -108,9 +83,10 @@ read-spec =
     enum-known-why
     enum-known-records
     mul-if1
-    mul-t12
+    mul-t13
     returns
     returns-2
+    slice-aggregate-walk
     walk-requires
     returns-3
     same-length

@@ -1,8 +1,10 @@
 -- What the cursor's methods promise, by their answer: values, arrays and objects (docs/FORMAT.md, 7). Assumes nothing.
 use mathlib.Core.Path.{_≡_}
-use mathlib.Core.List.{List, [], _∷_}
-use Prim.Native.Nat.{ℕ, suc, _+_, _*_, _≤_, _<_}
-use lib.ListN.{length, getD}
+use mathlib.Core.Logic.{_⊎_}
+use mathlib.Core.List.{List, [], _∷_, _++_}
+use mathlib.Core.Option.{some}
+use Prim.Native.Nat.{ℕ, suc, _+_, _*_, _-_, _≤_, _<_}
+use lib.ListN.{length, getD, drop}
 use lib.Seq.{sets}
 use Rattle.meaning.specs.declared.Record.{Record}
 use Rattle.meaning.specs.declared.Refusal.{Refusal}
@@ -11,14 +13,19 @@ use Rattle.meaning.specs.Letters.{ch}
 use Rattle.meaning.specs.Limits.{textLimit}
 use Rattle.meaning.specs.Meaning.{Meaning, Meanings, Members}
 use Rattle.meaning.specs.Tape.{records, storeOf, bytes, recordsOf, recordsBytes}
+use Rattle.meaning.specs.Between.Events.{Event, begins, ends, named}
 use Rattle.grammar.specs.Values.{Inside, elements, members}
 use Rattle.machine.specs.Machine.{Base, want, got, key, value, base, Frame, inside, pair, Conf, at}
 use Rattle.machine.specs.Machine.{Bracket, square, curly, bareOf, wanted, shut, classOf, quoteC}
+use Rattle.machine.specs.Heard.{names, tell, keyHeard, keyAt}
 use Rattle.machine.specs.Names.{wordScan}
 use Rattle.machine.specs.Scan.{ended, broke}
 use Rattle.items.specs.Between.Places.{ranAt}
+use Rattle.once.specs.Groups.{Does, shallower}
+use Rattle.once.specs.Windows.{Kept, level}
 use Rattle.tape.specs.Between.Putting.{putRecord}
-use Rattle.reader.specs.Between.Scanning.{Goes, Refuses, Bare, Shut}
+use Rattle.reader.specs.Between.Scanning.{Goes, Hears, Tells, Refuses, Bare, Shut}
+use Rattle.reader.specs.Between.Repeat.{Keeping, Led}
 use Rattle.items.specs.declared.Item.{Item}
 use Rattle.items.specs.declared.Scanned.{Scanned}
 use Rattle.reader.specs.declared.cursor.Cursor.{Cursor}
@@ -115,6 +122,10 @@ pub record AtMember (text : List ℕ) (c : Cursor) : Type 0 where
   pub inside : c .at < length text
   pub other : getD text (c .at) 0 ≡ ch "}" → ⊥
 
+-- the table of the keys before a place, or no table: no number at all
+abbrev pub Seen : List ℕ → List ℕ → ℕ → Type 0
+Seen text seen p = (length seen ≡ 0) ⊎ ((f : ℕ) × ((s : Kept) × Keeping text seen p f s))
+
 -- the same counts, further on
 pub record Moved (text : List ℕ) (c n : Cursor) : Type 0 where
   pub past : c .at < n .at
@@ -124,10 +135,20 @@ pub record Moved (text : List ℕ) (c n : Cursor) : Type 0 where
 
 -- ---- brackets, commas and colons
 
+-- what an opening bracket says, and the closing bracket of a container
+abbrev pub openingOf : Bracket → List Event
+openingOf square = []
+openingOf curly = begins ∷ []
+
+abbrev pub closingOf : Inside → List Event
+closingOf (elements x) = []
+closingOf (members x) = ends ∷ []
+
 -- an opening bracket
 pub record Opened (text : List ℕ) (c : Cursor) (y : Bracket) (n : Cursor) : Type 0 where
   pub opens : (d : ℕ) (k : List Frame)
-      → Goes text (at (base want) (suc d) k) (c .at) (at (base (wanted (bareOf y))) d (inside (bareOf y) ∷ k)) (n .at)
+      → Tells text (at (base want) (suc d) k) (c .at) (openingOf y)
+      (at (base (wanted (bareOf y))) d (inside (bareOf y) ∷ k)) (n .at)
   pub deep : (k : List Frame) → Refuses text (at (base want) 0 k) (c .at) (TooDeep (c .at))
   pub moved : Moved text c n
 
@@ -168,7 +189,7 @@ pub record Begins (text : List ℕ) (c : Cursor) (closing : ℕ) (n : Cursor) : 
 abbrev pub AheadSays : List ℕ → Cursor → ℕ → Ahead → Type 0
 AheadSays text c closing (Ahead.Close n) =
     ((y : Inside) → closer y ≡ closing → (d : ℕ) (k : List Frame)
-    → Goes text (within y d k) (c .at) (closed y d k) (n .at)) × Moved text c n
+    → Tells text (within y d k) (c .at) (closingOf y) (closed y d k) (n .at)) × Moved text c n
 AheadSays text c closing (Ahead.More n) = Begins text c closing n
 AheadSays text c closing (Ahead.Refused why) =
     (y : Inside) → closer y ≡ closing → (d : ℕ) (k : List Frame) → Refuses text (within y d k) (c .at) why
@@ -184,7 +205,8 @@ AfterSays text c closing (After.Comma n) =
     → Goes text (at (base (got (value m))) d (f ∷ k)) (c .at) (within (y m) d k) (n .at)) × Moved text c n
 AfterSays text c closing (After.Close n) =
     ((f : Frame) (y : Meaning → Inside) → Adds f closing y → (m : Meaning) (d : ℕ) (k : List Frame)
-    → Goes text (at (base (got (value m))) d (f ∷ k)) (c .at) (closed (y m) d k) (n .at)) × Moved text c n
+    → Tells text (at (base (got (value m))) d (f ∷ k)) (c .at) (closingOf (y m)) (closed (y m) d k) (n .at))
+    × Moved text c n
 AfterSays text c closing (After.Refused why) =
     (f : Frame) (y : Meaning → Inside) → Adds f closing y → (m : Meaning) (d : ℕ) (k : List Frame)
     → Refuses text (at (base (got (value m))) d (f ∷ k)) (c .at) why
@@ -192,7 +214,11 @@ AfterSays text c closing (After.Refused why) =
 -- after a key: a colon, and where its value begins
 pub record Coloned (text : List ℕ) (c n : Cursor) : Type 0 where
   pub goes : (x : Members) (u : List ℕ) (d : ℕ) (k : List Frame)
-      → Goes text (at (base (got (key u))) d (inside (members x) ∷ k)) (c .at) (at (base want) d (pair x u ∷ k)) (n .at)
+      → Hears text (at (base (got (key u))) d (inside (members x) ∷ k)) (c .at) (names u ∷ [])
+      (at (base want) d (pair x u ∷ k)) (n .at)
+  -- whatever is open, the colon says what the key means
+  pub names-it : (u : List ℕ) (d : ℕ) (k : List Frame)
+      → keyHeard (tell (c .at) (at (base (got (key u))) d k) (drop (c .at) text) .heard) ≡ some u
   pub bare : Bare text (n .at)
   pub moved : Moved text c n
 
@@ -202,11 +228,14 @@ ColonSays text c size (Member.Refused why) =
     (x : Members) (u : List ℕ) (d : ℕ) (k : List Frame)
     → Refuses text (at (base (got (key u))) d (inside (members x) ∷ k)) (c .at) why
 
--- a key and its colon
-pub record Named (text : List ℕ) (c : Cursor) (entry exit : List ℕ) (n : ℕ) (v : Cursor) : Type 0 where
+-- a key and its colon; the key begins at `first`
+pub record Named (text : List ℕ) (c : Cursor) (first : ℕ) (entry exit : List ℕ) (n : ℕ) (v : Cursor) : Type 0 where
   pub u : List ℕ
   pub goes : (x : Members) (d : ℕ) (k : List Frame)
-      → Goes text (within (members x) d k) (c .at) (at (base want) d (pair x u ∷ k)) (v .at)
+      → Tells text (within (members x) d k) (c .at) (named first u ∷ []) (at (base want) d (pair x u ∷ k)) (v .at)
+  pub is : keyAt text first ≡ some u
+  pub behind : c .at ≤ first
+  pub ahead : first < v .at
   pub counted : n ≡ length u
   pub filled : exit ≡ sets entry (c .stored) u
   pub bare : Bare text (v .at)
@@ -217,37 +246,60 @@ pub record Named (text : List ℕ) (c : Cursor) (entry exit : List ℕ) (n : ℕ
   pub within : v .at ≤ length text
 
 abbrev pub MemberSays : List ℕ → Cursor → List ℕ → List ℕ → Member → Type 0
-MemberSays text c entry exit (Member.Key n v) = Named text c entry exit n v
+MemberSays text c entry exit (Member.Key n v) = Named text c (c .at) entry exit n v
 MemberSays text c entry exit (Member.Refused why) =
     (x : Members) (d : ℕ) (k : List Frame) → Refuses text (within (members x) d k) (c .at) why
 
--- a member begins: its key and its colon, with the key's record put
-pub record MemberBegins (text : List ℕ) (c : Cursor) (tape tape' store store' : List ℕ) (v : Cursor) : Type 0 where
+-- a member begins: its key and its colon, with the key's record put and the key noted
+pub record MemberBegins (text : List ℕ) (c : Cursor) (tape tape' store store' seen seen' : List ℕ) (v : Cursor)
+    : Type 0 where
   pub size : ℕ
-  pub named : Named text c store store' size v
+  pub first : ℕ
+  pub key-is : Named text c first store store' size v
   pub taped : tape' ≡ putRecord tape (c .records) (Record.Key size (c .stored))
+  pub noted : (f : ℕ) (s : Kept) → Keeping text seen (c .at) f s → 0 < length (s .keys)
+      → Led text seen' (v .at) f s (named first (key-is .u) ∷ [])
 
 -- in an object where a member may stand
-abbrev pub MemberAheadSays : List ℕ → Cursor → List ℕ → List ℕ → List ℕ → List ℕ → Ahead → Type 0
-MemberAheadSays text c tape tape' store store' (Ahead.Close n) =
-    AheadSays text c (ch "}") (Ahead.Close n) × (tape' ≡ tape) × (store' ≡ store)
-MemberAheadSays text c tape tape' store store' (Ahead.More v) = MemberBegins text c tape tape' store store' v
-MemberAheadSays text c tape tape' store store' (Ahead.Refused why) = AheadSays text c (ch "}") (Ahead.Refused why)
+abbrev pub MemberAheadSays : List ℕ → Cursor → List ℕ → List ℕ → List ℕ → List ℕ → List ℕ → List ℕ → Ahead → Type 0
+MemberAheadSays text c tape tape' store store' seen seen' (Ahead.Close n) =
+    AheadSays text c (ch "}") (Ahead.Close n) × (tape' ≡ tape) × (store' ≡ store) × (seen' ≡ seen)
+MemberAheadSays text c tape tape' store store' seen seen' (Ahead.More v) =
+    MemberBegins text c tape tape' store store' seen seen' v
+MemberAheadSays text c tape tape' store store' seen seen' (Ahead.Refused why) =
+    AheadSays text c (ch "}") (Ahead.Refused why)
 
 -- ---- values
 
+-- of a table, by the window's first place and what it holds
+abbrev pub Stood : Type 1
+Stood = ℕ → Kept → Type 0
+
+-- where a value is wanted: the keys before it
+abbrev pub keeping : List ℕ → List ℕ → Cursor → Stood
+keeping text seen c f s = Keeping text seen (c .at) f s
+
+-- after an opening bracket: the keys before the bracket
+abbrev pub keepingBefore : List ℕ → List ℕ → Cursor → Stood
+keepingBefore text seen c f s = Keeping text seen (c .at - 1) f s
+
 -- A value has been read, from a state in which `depth` more may open to one in which `top` may: what it means, the
--- records and the store bytes put, and that these are no more than the bytes passed. The tape is filled where it has
--- room for all of the value's records.
-pub record Took (text : List ℕ) (start : List Frame → Conf) (top : ℕ) (c : Cursor)
-    (tape tape' store store' : List ℕ) (n : Cursor) : Type 0 where
+-- records and the store bytes put, and that these are no more than the bytes passed; and the objects and keys heard.
+-- The tape is filled where it has room for all of the value's records. The table that stood so has these objects and
+-- keys noted, after the events that were heard first.
+pub record Took (text : List ℕ) (start : List Frame → Conf) (top : ℕ) (heard : List Event) (stood : Stood) (c : Cursor)
+    (tape tape' store store' seen' : List ℕ) (n : Cursor) : Type 0 where
   pub m : Meaning
-  pub runs : (k : List Frame) → Goes text (start k) (c .at) (at (base (got (value m))) top k) (n .at)
+  pub keys : List Event
+  pub runs : (k : List Frame) → Tells text (start k) (c .at) keys (at (base (got (value m))) top k) (n .at)
   pub recorded : n .records ≡ c .records + records m
   pub stored : n .stored ≡ c .stored + bytes m
   pub taped : n .records * 16 ≤ length tape
       → tape' ≡ sets tape (c .records * 16) (recordsBytes (recordsOf m (c .records) (c .stored)))
   pub filled : store' ≡ sets store (c .stored) (storeOf m)
+  -- as many objects are open as before
+  pub level-kept : (i : ℕ) → level i (heard ++ keys) ≡ i
+  pub noted : (f : ℕ) (s : Kept) → stood f s → Led text seen' (n .at) f s (heard ++ keys)
   pub past : c .at < n .at
   pub few : n .records + c .at ≤ c .records + n .at
   pub short : n .stored + c .at ≤ c .stored + n .at
@@ -257,10 +309,20 @@ pub record Took (text : List ℕ) (start : List Frame → Conf) (top : ℕ) (c :
 abbrev pub Left : List ℕ → (List Frame → Conf) → (List Frame → Type 0) → ℕ → Refusal → Type 0
 Left text start ok p why = (k : List Frame) → ok k → Refuses text (start k) p why
 
-abbrev pub Says : List ℕ → (List Frame → Conf) → (List Frame → Type 0) → ℕ → Cursor
-    → List ℕ → List ℕ → List ℕ → List ℕ → Step → Type 0
-Says text start ok top c tape tape' store store' (Step.Value n) = Took text start top c tape tape' store store' n
-Says text start ok top c tape tape' store store' (Step.Refused why) = Left text start ok (c .at) why
+abbrev pub Says : List ℕ → (List Frame → Conf) → (List Frame → Type 0) → ℕ → List Event → Stood → Cursor
+    → List ℕ → List ℕ → List ℕ → List ℕ → List ℕ → Step → Type 0
+Says text start ok top heard stood c tape tape' store store' seen' (Step.Value n) =
+    Took text start top heard stood c tape tape' store store' seen' n
+Says text start ok top heard stood c tape tape' store store' seen' (Step.Refused why) = Left text start ok (c .at) why
+
+-- after a container's closing bracket: its own record is put; an object's keys leave the table
+abbrev pub ArrayClosed : Cursor → ℕ → ℕ → List ℕ → List ℕ → Step → Type 0
+ArrayClosed c own count tape tape' r =
+    (r ≡ Step.Value c) × (tape' ≡ putRecord tape own (Record.Array count (c .records)))
+
+abbrev pub ObjectClosed : Cursor → ℕ → ℕ → List ℕ → List ℕ → List ℕ → List ℕ → Step → Type 0
+ObjectClosed c own count tape tape' seen seen' r =
+    (r ≡ Step.Value c) × (tape' ≡ putRecord tape own (Record.Object count (c .records))) × Does shallower seen seen'
 
 -- where a value has been read, what has been put is no more than what has been passed
 abbrev pub StepReady : List ℕ → Step → Type 0
@@ -282,3 +344,16 @@ bareIn y d k = within (bareOf y) d k
 
 abbrev pub always : List Frame → Type 0
 always k = Unit {0}
+
+-- what `value` promises, and what `array` and `object` do
+abbrev pub ValueSays : List ℕ → ℕ → Cursor → List ℕ → List ℕ → List ℕ → List ℕ → List ℕ → List ℕ → Step → Type 0
+ValueSays text depth c tape tape' store store' seen seen' r =
+    Says text (wants depth) (λ k. Shut text (c .at) depth k) depth [] (keeping text seen c) c tape tape' store store'
+    seen' r
+
+abbrev pub InsideSays : List ℕ → Bracket → ℕ → Cursor → List ℕ → List ℕ → List ℕ → List ℕ → List ℕ → List ℕ → Step
+    → Type 0
+InsideSays text b depth c tape tape' store store' seen seen' r =
+    Says text (bareIn b depth) always (suc depth) (openingOf b) (keepingBefore text seen c) c tape tape' store store'
+    seen'
+    r

@@ -1,18 +1,19 @@
 -- What the readers of strings, binary and keys (docs/FORMAT.md, 3.5, 4 and 7.2) promise. Assumes nothing.
 use mathlib.Core.Path.{_≡_}
-use mathlib.Core.List.{List, []}
+use mathlib.Core.List.{List, [], _∷_}
 use Prim.Native.Nat.{ℕ, _≤_, _<_}
 use lib.ListN.{length, getD, drop}
 use Rattle.meaning.specs.declared.Refusal.{Refusal}
 use Rattle.meaning.specs.declared.Refusal.the-variants.{NotGrammar}
 use Rattle.machine.specs.Machine.{Use, Item, string-part, binary-part, Got, string, binary, key, Base, wantKey, got}
 use Rattle.machine.specs.Machine.{Mode, base, item, Frame, Conf, at, Class, classOf, plusC, plusAfter}
+use Rattle.machine.specs.Heard.{starts}
 use Rattle.machine.specs.Scan.{Out, broke, ran}
 use Rattle.machine.specs.Strings
 use Rattle.machine.specs.Binaries
 use Rattle.items.specs.Between.Places.{Onward}
 use Rattle.items.specs.Between.PlacedPart.{Meant, Ended}
-use Rattle.reader.specs.Between.Scanning.{Goes, Refuses, Bare, Shut}
+use Rattle.reader.specs.Between.Scanning.{Goes, Hears, Refuses, Faults, Bare, Shut}
 use Rattle.reader.specs.declared.joined.Join.{Join}
 use Rattle.reader.specs.declared.joined.Link.{Link}
 use Rattle.reader.specs.declared.joined.Bytes.{Bytes}
@@ -40,10 +41,10 @@ pub record Joining (text : List ℕ) (p q : ℕ) : Type 0 where
   pub within : q ≤ length text
   pub bare : Bare text q
 
--- after a part: the text is refused
+-- after a part: the text is refused, and nothing is heard
 abbrev pub Stray : List ℕ → ℕ → Refusal → Type 0
 Stray text p why =
-    (g : Got) (s : Base) → Plus g s → (d : ℕ) (k : List Frame) → Refuses text (at (base (got g)) d k) p why
+    (g : Got) (s : Base) → Plus g s → (d : ℕ) (k : List Frame) → Faults text (at (base (got g)) d k) p why
 
 abbrev pub JoinSays : List ℕ → ℕ → Join → Type 0
 JoinSays text p (Join.Next q) = Joining text p q
@@ -101,10 +102,11 @@ binaryPart z u = binary-part u Binaries.begin
 abbrev pub wholeBinary : Unit {0} → List ℕ → Got
 wholeBinary z u = binary u
 
--- a key
+-- a key: its first byte is heard
 pub record Keyed (text : List ℕ) (p start : ℕ) (entry exit : List ℕ) (q n : ℕ) : Type 0 where
   pub u : List ℕ
-  pub runs : (d : ℕ) (k : List Frame) → Goes text (at (base wantKey) d k) p (at (base (got (key u))) d k) q
+  pub runs : (d : ℕ) (k : List Frame)
+      → Hears text (at (base wantKey) d k) p (starts p ∷ []) (at (base (got (key u))) d k) q
   pub meant : Meant start entry exit u n p q
   pub within : q ≤ length text
 

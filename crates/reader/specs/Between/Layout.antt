@@ -7,7 +7,7 @@ use Rattle.meaning.specs.declared.Refusal.the-variants.{NotGrammar}
 use Rattle.machine.specs.Machine.{Base, Mode, base, Frame, Conf, at}
 use Rattle.machine.specs.Machine as Machine
 use Rattle.items.specs.Between.Places.{Onward}
-use Rattle.reader.specs.Between.Scanning.{Goes, Refuses, Bare}
+use Rattle.reader.specs.Between.Scanning.{Goes, Faults, Bare}
 use Rattle.reader.specs.declared.layout.Comment.{Comment}
 use Rattle.reader.specs.declared.layout.Layout.{Layout}
 
@@ -21,7 +21,7 @@ pub record Commented (text : List ℕ) (mode : Base → Mode) (p q : ℕ) : Type
   pub onward : Onward text p q
 
 abbrev pub Breaks : List ℕ → (Base → Mode) → ℕ → ℕ → Type 0
-Breaks text mode p q = (s : Base) (d : ℕ) (k : List Frame) → Refuses text (at (mode s) d k) p (NotGrammar q)
+Breaks text mode p q = (s : Base) (d : ℕ) (k : List Frame) → Faults text (at (mode s) d k) p (NotGrammar q)
 
 -- a comment that is open in this mode
 abbrev pub CommentSays : List ℕ → (Base → Mode) → ℕ → Comment → Type 0

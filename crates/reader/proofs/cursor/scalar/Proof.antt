@@ -62,7 +62,7 @@ returns-4 c =
     let pre = c .before .before .before .before .before .before .before .before .before .pre in
     of-word (a .text .now) (a .at) (a .start) (a .store .now) (letters "null") (ch "n") (letters "ull") refl Item.Null
     Meaning.null Means.null
-    (at-word (a .text .now) (a .at) (a .start) (a .store .now) (pre .inside) (letters "null") Meaning.null
+    (at-word (a .text .now) (a .at) (a .start) (a .store .now) (pre .inside) (ch "n") (letters "ull") Meaning.null
     (λ d k. rw (c .before .before .if4 .taken))) (c .spelt .result) (c .spelt .ensures)
 
 slice-aggregate-spelt-2 : tie.Need-slice-aggregate-spelt-2
@@ -77,7 +77,7 @@ returns-5 c =
     let pre = c .before .before .before .before .before .before .before .before .before .before .pre in
     of-word (a .text .now) (a .at) (a .start) (a .store .now) (letters "true") (ch "t") (letters "rue") refl
     (Item.Bool true) (Meaning.bool true) Means.bool
-    (at-word (a .text .now) (a .at) (a .start) (a .store .now) (pre .inside) (letters "true") (Meaning.bool true)
+    (at-word (a .text .now) (a .at) (a .start) (a .store .now) (pre .inside) (ch "t") (letters "rue") (Meaning.bool true)
     (λ d k. rw (c .before .before .if5 .taken))) (c .spelt2 .result) (c .spelt2 .ensures)
 
 slice-aggregate-spelt-3 : tie.Need-slice-aggregate-spelt-3
@@ -92,7 +92,7 @@ returns-6 c =
     let pre = c .before .before .before .before .before .before .before .before .before .before .before .pre in
     of-word (a .text .now) (a .at) (a .start) (a .store .now) (letters "false") (ch "f") (letters "alse") refl
     (Item.Bool false) (Meaning.bool false) Means.bool
-    (at-word (a .text .now) (a .at) (a .start) (a .store .now) (pre .inside) (letters "false") (Meaning.bool false)
+    (at-word (a .text .now) (a .at) (a .start) (a .store .now) (pre .inside) (ch "f") (letters "alse") (Meaning.bool false)
     (λ d k. rw (c .before .before .if6 .taken))) (c .spelt3 .result) (c .spelt3 .ensures)
 
 numeric-requires : tie.Need-numeric-requires
