@@ -13,20 +13,19 @@ use borrow.Author.Tests.{eq-eqb, ne-eqb, eqb-true, eqb-false, ltb-true}
 use Rattle.meaning.specs.declared.Record.{Record}
 use Rattle.meaning.specs.Limits.{depthLimit, recordLimit}
 use Rattle.meaning.specs.Meaning.{Meaning, null, bool, number, string, binary, time, array, object, more, member}
-use Rattle.meaning.specs.Tape.{records, elementsCount, membersCount}
+use Rattle.meaning.specs.Tape.{elementsCount, membersCount}
 use Rattle.meaning.specs.Look.{wholeRecords, RecordAt}
-use Rattle.meaning.proofs.Whole.{well-formed-length}
-use Rattle.meaning.proofs.Look.{well-formed-record}
 use Rattle.tape.specs.declared.judging.Turn.{Turn}
 use Rattle.tape.specs.declared.Judged.{Judged}
-use Rattle.tape.specs.Between.Judging.{Judges, well, ill, Sized, endedOf}
+use Rattle.tape.specs.Between.Judging.{Forms, formed, unformed, Sized, endedOf}
+use Rattle.tape.specs.Between.Standing.{readAt, recordsFrom}
 use Rattle.tape.specs.Between.Turns.{none, valueDue, keyDue, counted, passOf, openOf, leafOf, ifDue, turnOf, TurnIs, stands, no}
 use Rattle.tape.proofs.JudgingMachineLaws.{Stated, Frame, root, inArray, inObject, Conf, nothing, whole, elements, members, keyed, broken, says, nay}
 use Rattle.tape.proofs.JudgingMachineLaws.{Kind}
 use Rattle.tape.proofs.JudgingMachineLaws.{ofValues, ofMembers, slot, put, key, begin, enter, give, settle, shut-here, shut-not, shut-wrong, give-put}
 use Rattle.tape.proofs.JudgingMachineLaws.{sizeOf}
 use Rattle.tape.proofs.JudgingMachineLaws.{startOf, there, does, part, actOf, push, finish, run, run-settle, run-broken}
-use Rattle.tape.proofs.JudgingWholeLaws.{readAt, read-is, recordsFrom, verdict, nay-ill, says-well-formed}
+use Rattle.tape.proofs.JudgingWholeLaws.{read-is, verdict, formed-length, nay-unformed, says-formed}
 
 -- whether a value is due, and whether a key is
 unfoldable pub dueOf : Conf → Bool
@@ -652,43 +651,43 @@ module _ {tape store : List ℕ} where
 
 module _ {tape store : List ℕ} {ends rests : List ℕ} {depth end rest at i : ℕ} (v : State tape store ends rests depth end rest at i) (z : Sized tape store)
   where
-    pub answer-ill : verdict (wholeRecords tape) tape store ≡ nay → Judges tape store Judged.Ill
-    answer-ill e = ill (nay-ill tape store (wholeRecords tape) (z .whole) e)
+    pub answer-ill : verdict (wholeRecords tape) tape store ≡ nay → Forms tape store Judged.Ill
+    answer-ill e = unformed (nay-unformed tape store (wholeRecords tape) (z .whole) e)
 
     -- no record stands there, or none that may
-    pub answer-no : (i ≡ end → ⊥) → {t : Turn} → TurnIs tape store i rest at depth t → t ≡ Turn.No → Judges tape store Judged.Ill
+    pub answer-no : (i ≡ end → ⊥) → {t : Turn} → TurnIs tape store i rest at depth t → t ≡ Turn.No → Forms tape store Judged.Ill
     answer-no q (stands r a f) e = answer-ill (state-no v q r a (sym f ∙ e))
     answer-no q (no g) e = by-index (decLt i (wholeRecords tape))
       where
-        by-index : Dec (i < wholeRecords tape) → Judges tape store Judged.Ill
+        by-index : Dec (i < wholeRecords tape) → Forms tape store Judged.Ill
         by-index (Dec.yes l) =
-            ill
+            unformed
             (λ w.
-            let a = well-formed-record tape store w i (omega (arith, well-formed-length tape store w)) in
-            nay-ill tape store (wholeRecords tape) (z .whole) (state-no v q _ a (g _ a)) w)
+            let a = w .each i (omega (arith, formed-length tape store w)) in
+            nay-unformed tape store (wholeRecords tape) (z .whole) (state-no v q _ a (g _ a)) w)
         by-index (Dec.no l) = answer-ill (state-over v q (omega (arith, v .within)))
 
     -- all records are passed
     pub answer-ended : ((j : ℕ) → getD tape j 0 < 256) → ((j : ℕ) → getD store j 0 < 256) → i ≡ end → depth ≡ 0
-        → Judges tape store (endedOf rest at (length store))
+        → Forms tape store (endedOf rest at (length store))
     unfolding endedOf finish framesOf
     answer-ended tape-bytes store-bytes e d =
         let f = state-ended v e d in
         by-conf (v .c) (v .isRest) (f .0) (f .1) (sym (v .isDepth) ∙ d)
       where
         by-store : (m : Meaning) (b : Bool) → i ≡ wholeRecords tape → verdict (wholeRecords tape) tape store ≡ cond b (says m) nay
-            → Judges tape store (cond b Judged.Well Judged.Ill)
+            → Forms tape store (cond b Judged.Well Judged.Ill)
         by-store m true l f =
-            well (says-well-formed tape store (wholeRecords tape) (z .whole) tape-bytes store-bytes (z .few) (z .short) (λ k q. v .each k (omega arith)) m f)
+            formed (says-formed tape store (wholeRecords tape) (z .whole) tape-bytes store-bytes (z .few) (z .short) (λ k q. v .each k (omega arith)) m f)
         by-store m false l f = answer-ill f
 
         by-conf : (c : Conf) → Rests i c rest → i ≡ wholeRecords tape → verdict (wholeRecords tape) tape store ≡ finish store at c
-            → length (framesOf c) ≡ 0 → Judges tape store (cond (eqb rest 0) (cond (eqb at (length store)) Judged.Well Judged.Ill) Judged.Ill)
+            → length (framesOf c) ≡ 0 → Forms tape store (cond (eqb rest 0) (cond (eqb at (length store)) Judged.Well Judged.Ill) Judged.Ill)
         by-conf nothing a l f q =
-            subst (λ (b : Bool). Judges tape store (cond b (cond (eqb at (length store)) Judged.Well Judged.Ill) Judged.Ill))
+            subst (λ (b : Bool). Forms tape store (cond b (cond (eqb at (length store)) Judged.Well Judged.Ill) Judged.Ill))
             (sym (ne-eqb rest 0 (λ x. omega arith))) (answer-ill f)
         by-conf (whole m) a l f q =
-            subst (λ (b : Bool). Judges tape store (cond b (cond (eqb at (length store)) Judged.Well Judged.Ill) Judged.Ill)) (sym (eq-eqb rest 0 a))
+            subst (λ (b : Bool). Forms tape store (cond b (cond (eqb at (length store)) Judged.Well Judged.Ill) Judged.Ill)) (sym (eq-eqb rest 0 a))
             (by-store m (eqb at (length store)) l f)
         by-conf (elements s ms []) a l f q = absurd (a .2)
         by-conf (elements s ms (g ∷ fs)) a l f q = absurd (omega arith)
@@ -699,12 +698,12 @@ module _ {tape store : List ℕ} {ends rests : List ℕ} {depth end rest at i : 
         by-conf broken a l f q = absurd a
 
 -- sizes over their limits
-pub answer-sizes : {tape store : List ℕ} → (Sized tape store → ⊥) → Judges tape store Judged.Ill
+pub answer-sizes : {tape store : List ℕ} → (Sized tape store → ⊥) → Forms tape store Judged.Ill
 answer-sizes {tape} {store} h =
-    ill
+    unformed
     (λ w. h
     (record {
-      whole = omega (arith, well-formed-length tape store w);
-      few = omega (arith, well-formed-length tape store w, w .few);
+      whole = omega (arith, formed-length tape store w);
+      few = omega (arith, formed-length tape store w, w .few);
       short = omega (arith, ap length (w .stored), w .short);
     }))

@@ -1,4 +1,4 @@
--- Well formed is what the machine says yes to, where each record stands by itself. Assumes nothing.
+-- Formed is what the machine says yes to, where each record stands by itself. Assumes nothing.
 use mathlib.Core.Path.{_≡_, refl, sym, ap, _∙_, subst}
 use mathlib.Core.List.{List, [], _∷_, _++_, append-assoc, append-nil}
 use Prim.Native.Nat.{ℕ, zero, suc, _+_, _*_, _≤_, _<_}
@@ -11,16 +11,17 @@ use Rattle.meaning.specs.Limits.{recordLimit, storeLimit}
 use Rattle.meaning.specs.Meaning.{Meaning, Meanings, Members, null, bool, number, string, binary, time, array, object, none, more, bare, member}
 use Rattle.meaning.specs.Good.{Bytes, GoodParts, GoodElements, GoodMembers}
 use Rattle.meaning.specs.Tape.{records, elementsRecords, membersRecords, storeOf, elementsStore, membersStore, recordsOf, elementsOf, membersOf, recordsBytes}
-use Rattle.meaning.specs.Tape.{tapeOf, WellFormed}
+use Rattle.meaning.specs.Tape.{tapeOf}
 use Rattle.meaning.specs.Between.Words.{Fit}
 use Rattle.meaning.specs.Look.{OwnFields, wholeRecords, RecordAt}
 use Rattle.meaning.proofs.Bytes.{bytes-left, bytes-right, bytes-of, part-is}
 use Rattle.meaning.proofs.Sizes.{records-length, elements-length, members-length}
 use Rattle.meaning.proofs.Records.{Fits, Stands, all-stand}
-use Rattle.meaning.proofs.Whole.{well-formed-length}
-use Rattle.meaning.proofs.Look.{well-formed-record}
+use Rattle.meaning.proofs.Whole.{tape-length}
+use Rattle.tape.specs.Between.Judging.{Formed}
 use Rattle.tape.specs.Between.Turns.{bytesEnd}
-use Rattle.tape.specs.Between.Shapes.{recordOf, wordsAt}
+use Rattle.tape.specs.Between.Shapes.{wordsAt}
+use Rattle.tape.specs.Between.Standing.{readAt, recordsFrom}
 use Rattle.tape.proofs.ShapesLaws.{only}
 use Rattle.tape.proofs.LookingLaws.{record-numbers}
 use Rattle.tape.proofs.JudgingMachineLaws.{nothing, Verdict, says, nay, run}
@@ -29,25 +30,16 @@ use Rattle.tape.proofs.JudgingSoundLaws.{AllInside, sound}
 
 -- ---- the records of a tape
 
--- the record that may stand at index k
-unfoldable pub readAt : List ℕ → ℕ → Record
-readAt tape k = let w = wordsAt tape (k * 16) in recordOf (w .mark) (w .low) (w .mid) (w .high)
-
 pub read-is : (tape store : List ℕ) (k : ℕ) (r : Record) → RecordAt tape store k r → readAt tape k ≡ r
 unfolding readAt
 read-is tape store k r a = only (wordsAt tape (k * 16)) r (a .fits) (record-numbers tape store k r a)
 
--- n of them from index i on
-unfoldable pub recordsFrom : ℕ → List ℕ → ℕ → List Record
-recordsFrom zero tape i = []
-recordsFrom (suc n) tape i = readAt tape i ∷ recordsFrom n tape (i + 1)
-
-from-length : (n : ℕ) (tape : List ℕ) (i : ℕ) → length (recordsFrom n tape i) ≡ n
+pub from-length : (n : ℕ) (tape : List ℕ) (i : ℕ) → length (recordsFrom n tape i) ≡ n
 unfolding recordsFrom
 from-length zero tape i = refl
 from-length (suc n) tape i = ap suc (from-length n tape (i + 1))
 
-from-at : (n : ℕ) (tape : List ℕ) (i k : ℕ) → k < n → getD (recordsFrom n tape i) k Record.Null ≡ readAt tape (i + k)
+pub from-at : (n : ℕ) (tape : List ℕ) (i k : ℕ) → k < n → getD (recordsFrom n tape i) k Record.Null ≡ readAt tape (i + k)
 unfolding recordsFrom
 from-at zero tape i k h = absurd (omega arith)
 from-at (suc n) tape i zero h = let z : i ≡ i + 0 = omega arith in ap (readAt tape) z
@@ -150,23 +142,27 @@ record-inside {tape} {store} {i} {r} a = own-inside store (wholeRecords tape) r 
 
 -- ---- both directions
 
+pub formed-length : (tape store : List ℕ) (w : Formed tape store) → length tape ≡ records (w .meaning) * 16
+formed-length tape store w = ap length (w .taped) ∙ tape-length (w .meaning)
+
 module _ (tape store : List ℕ) (n : ℕ) (h : length tape ≡ n * 16) where
-  pub well-formed-says : (w : WellFormed tape store) → verdict n tape store ≡ says (w .meaning)
-  well-formed-says w =
+  pub formed-records : (w : Formed tape store) → recordsFrom n tape 0 ≡ recordsOf (w .meaning) 0 0
+  formed-records w =
       let m = w .meaning in
-      let l = well-formed-length tape store w in
+      let l = formed-length tape store w in
       let e : n ≡ records m = omega arith in
       let a : length (recordsFrom n tape 0) ≡ length (recordsOf m 0 0) = omega (arith, from-length n tape 0, records-length m 0 0) in
-      let same : recordsFrom n tape 0 ≡ recordsOf m 0 0 =
       ext-getD Record.Null (recordsFrom n tape 0) (recordsOf m 0 0) a
       (λ k i.
       let q : k < n = omega (arith, from-length n tape 0) in
       let z : 0 + k ≡ k = omega arith in
-      from-at n tape 0 k q ∙ ap (readAt tape) z ∙ read-is tape store k _ (well-formed-record tape store w k (omega arith))) in
-      ap (λ (l : List Record). run store l 0 0 nothing) same ∙ full store m (w .good .shallow) (w .stored)
+      from-at n tape 0 k q ∙ ap (readAt tape) z ∙ read-is tape store k _ (w .each k (omega arith)))
 
-  pub nay-ill : verdict n tape store ≡ nay → WellFormed tape store → ⊥
-  nay-ill e w = let g = well-formed-says w in let z : _≡_ {A = ℕ} 0 1 = cc in omega arith
+  pub formed-says : (w : Formed tape store) → verdict n tape store ≡ says (w .meaning)
+  formed-says w = ap (λ (l : List Record). run store l 0 0 nothing) (formed-records w) ∙ full store (w .meaning) (w .shallow) (w .stored)
+
+  pub nay-unformed : verdict n tape store ≡ nay → Formed tape store → ⊥
+  nay-unformed e w = let g = formed-says w in let z : _≡_ {A = ℕ} 0 1 = cc in omega arith
 
   -- each record stands by itself
   module _
@@ -182,9 +178,9 @@ module _ (tape store : List ℕ) (n : ℕ) (h : length tape ≡ n * 16) where
           let z : 0 + k ≡ k = omega arith in
           subst (RecordAt tape store k) (sym (from-at n tape 0 k q ∙ ap (readAt tape) z)) (each k q)
 
-      pub says-well-formed : (m : Meaning) → verdict n tape store ≡ says m → WellFormed tape store
+      pub says-formed : (m : Meaning) → verdict n tape store ≡ says m → Formed tape store
       unfolding tapeOf
-      says-well-formed m e =
+      says-formed m e =
           let rs = recordsFrom n tape 0 in
           let l = from-length n tape 0 in
           let count = wholeRecords tape in
@@ -196,12 +192,10 @@ module _ (tape store : List ℕ) (n : ℕ) (h : length tape ≡ n * 16) where
           let long : length store ≡ length (storeOf m) = ap length (i .held-all) in
           record {
             meaning = m;
-            good = record {
-              parts =
-                  value-good store count (bytes-of store store-bytes) m 0 0 [] [] (i .held-all ∙ simp append-nil) refl
-                  (subst (λ (x : List Record). AllOwn store count x 0) (i .is) own);
-              shallow = i .shallow;
-            };
+            parts =
+                value-good store count (bytes-of store store-bytes) m 0 0 [] [] (i .held-all ∙ simp append-nil) refl
+                (subst (λ (x : List Record). AllOwn store count x 0) (i .is) own);
+            shallow = i .shallow;
             few = omega arith;
             short = omega arith;
             taped =
@@ -213,4 +207,6 @@ module _ (tape store : List ℕ) (n : ℕ) (h : length tape ≡ n * 16) where
                 { mark-at = s .mark-is; low-at = s .low-is; mid-at = s .mid-is; high-at = s .high-is }))
                 ∙ ap recordsBytes (i .is);
             stored = i .held-all;
+            each = λ k q.
+                subst (λ (x : List Record). RecordAt tape store k (getD x k Record.Null)) (i .is) (at-index k (omega arith));
           }

@@ -22,5 +22,15 @@ pub mod JudgingSoundLaws
 pub mod JudgingWholeLaws
 -- The code's numbers and the machine's states.
 pub mod JudgingStateLaws
+-- Keys by their bytes.
+pub mod KeyLaws
+-- The events of records.
+pub mod KeyEventsLaws
+-- A pass, record by record.
+pub mod KeyWalkLaws
+-- Windows, one after the other.
+pub mod KeyWindowLaws
+-- Well formed is formed, with no repeated key.
+pub mod JudgingOnceLaws
 -- Two outcomes that a promise allows are equal; and what the calls answer of each other.
 pub mod Outcomes

@@ -6,3 +6,4 @@ pub mod Judging
 -- What the functions below them promise their callers.
 pub mod Shapes
 pub mod Turns
+pub mod Key

@@ -11,7 +11,7 @@ ghost use Rattle.meaning.specs.Limits.{storeLimit};
 ghost use Rattle.meaning.specs.Good.{GoodFinite};
 ghost use Rattle.meaning.specs.Look.{wholeRecords, Utf8Inside, Ends};
 ghost use Rattle.tape.specs.declared.judging.Turn.{Turn};
-ghost use Rattle.tape.specs.Between.Judging.{Sized, endedOf, Judges};
+ghost use Rattle.tape.specs.Between.Judging.{Sized, endedOf, Forms, Judges};
 ghost use Rattle.tape.specs.Between.Shapes.{Loaded};
 ghost use Rattle.tape.specs.Between.Turns.{valueDue, keyDue, counted, passOf, openOf, leafOf, bytesEnd, Tested, LeafIs, TurnIs};
 use crate::Judged;
@@ -19,6 +19,7 @@ use crate::Looked;
 use crate::Words;
 use crate::fields;
 use crate::four_words;
+use crate::key;
 use crate::little_endian;
 use meaning::DEPTH_LIMIT;
 use meaning::RECORD_LIMIT;
@@ -231,7 +232,7 @@ fn ended(rest: usize, at: usize, room: usize) -> Judged
 // most twice.
 fn records(tape: &[u8], store: &[u8], mut end: usize) -> Judged
     requires { ⌜ Sized (now tape) (now store) × (end ≡ wholeRecords (now tape)) ⌝ }
-    ensures { λ a. ⌜ Judges (now (tape .entry)) (now (store .entry)) a ⌝ }
+    ensures { λ a. ⌜ Forms (now (tape .entry)) (now (store .entry)) a ⌝ }
 {
     let mut ends: [usize; DEPTH_LIMIT] = [0; DEPTH_LIMIT];
     let mut rests: [usize; DEPTH_LIMIT] = [0; DEPTH_LIMIT];
@@ -269,12 +270,27 @@ fn records(tape: &[u8], store: &[u8], mut end: usize) -> Judged
     }
 }
 
-// Whether a tape and its store are well formed.
-pub fn judge(tape: &[u8], store: &[u8]) -> Judged
-    ensures { λ a. ⌜ Judges (now (tape .entry)) (now (store .entry)) a ⌝ }
+// Whether a tape and its store are well formed but for keys that repeat an earlier one.
+fn formed(tape: &[u8], store: &[u8]) -> Judged
+    ensures { λ a. ⌜ Forms (now (tape .entry)) (now (store .entry)) a ⌝ }
 {
     if sized(tape, store) {
         return records(tape, store, tape.len() / RECORD_SIZE);
     }
     Judged::Ill
+}
+
+// Whether a tape and its store are well formed.
+pub fn judge(tape: &[u8], store: &[u8]) -> Judged
+    ensures { λ a. ⌜ Judges (now (tape .entry)) (now (store .entry)) a ⌝ }
+{
+    match formed(tape, store) {
+        Judged::Ill => Judged::Ill,
+        Judged::Well => {
+            if key::first_repeat(tape, store, tape.len() / RECORD_SIZE) == 0 {
+                return Judged::Well;
+            }
+            Judged::Ill
+        }
+    }
 }

@@ -2,6 +2,7 @@
 mod fields;
 mod four_words;
 mod judging;
+mod key;
 pub mod little_endian;
 
 ghost use mathlib.Core.Path.{_≡_};
