@@ -6,7 +6,7 @@ use Rattle.meaning.specs.declared.Refusal.{Refusal}
 use Rattle.meaning.specs.declared.Refusal.the-variants.{TextTooLong, NotUtf8, NotGrammar, BadEscape, BadTime}
 use Rattle.meaning.specs.declared.Refusal.the-variants.{BadNumber, TooDeep, TapeTooShort, StoreTooShort}
 use Rattle.meaning.specs.declared.Refusal.the-variants.{NotWellFormed, NoJsonForm, OutputTooShort}
-use Rattle.meaning.specs.declared.Refusal.the-variants.{WrittenTooLong, NoSuchRecord}
+use Rattle.meaning.specs.declared.Refusal.the-variants.{WrittenTooLong, NoSuchRecord, RepeatedKey}
 use Rattle.machine.specs.Scan as Scan
 use Rattle.arriving.specs.declared.states.Mode.{Mode}
 use Rattle.arriving.specs.declared.states.Out.{Out}
@@ -28,6 +28,7 @@ moved base (NoJsonForm i) = NoJsonForm i
 moved base (OutputTooShort n) = OutputTooShort n
 moved base (WrittenTooLong n) = WrittenTooLong n
 moved base (NoSuchRecord i) = NoSuchRecord i
+moved base (RepeatedKey p) = RepeatedKey p
 
 -- Is m s n: the check's item m stands for the machine's s, which has given n store bytes so far. Gives v n: the value v has n of them.
 module _ {S M : Type 0} (Is : Mode → S → ℕ → Type 0) (Gives : M → ℕ → Type 0) where

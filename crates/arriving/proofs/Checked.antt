@@ -1,4 +1,5 @@
--- A text in parts, cut anywhere: the check's answer is the machine's verdict on the parts joined, and so what `measure` may answer. Assumes nothing.
+-- A text in parts, cut anywhere: the check's answer is the machine's verdict on the parts joined, and so what `measure` may answer, with 15
+-- left out. Assumes nothing.
 use Prim.Native.Nat.{ℕ, suc, _+_, _-_, _≤_, _<_}
 use mathlib.Core.Path.{_≡_, refl, sym, ap, _∙_}
 use mathlib.Core.Bool.{Bool, true, false, cond}
@@ -16,10 +17,10 @@ use Rattle.meaning.specs.declared.Refusal.the-variants.{TextTooLong, NotUtf8}
 use Rattle.machine.specs.Machine.{want, base, at, reading, Verdict, Ok, No}
 use Rattle.machine.specs.Verdict.{decoded, verdict}
 use Rattle.machine.proofs.Whole.{sound}
-use Rattle.machine.proofs.Refusals.Whole.{text-refusals}
+use Rattle.machine.proofs.Refusals.Whole.{loose-refusals}
 use Rattle.reader.specs.declared.Answer.{Answer}
 use Rattle.reader.specs.declared.Answer.the-variants.{Refused}
-use Rattle.reader.specs.Answers.{Measures, answerSaid}
+use Rattle.reader.specs.Answers.{Loosely, answerSaid}
 use Rattle.arriving.specs.declared.Check.{Check}
 use Rattle.arriving.specs.declared.octets.Utf.{Utf}
 use Rattle.arriving.specs.declared.states.Due.the-variants as Due
@@ -181,10 +182,10 @@ came-ends t small = go (leb (length t) textLimit) refl
 pub checked : (ps : List (List ℕ)) → Each (λ (b : ℕ). b < 256) (joined ps) → ended (feds started ps) ≡ answerOf (verdict (joined ps))
 checked ps small = ap ended (feds-joined ps) ∙ came-ends (joined ps) small
 
--- and so what `measure` may answer for them
-pub checked-measures : (ps : List (List ℕ)) → Each (λ (b : ℕ). b < 256) (joined ps) → Measures (joined ps) (ended (feds started ps))
-checked-measures ps small = go (verdict (joined ps)) refl
+-- and so what `measure` may answer for them, with 15 left out
+pub checked-loosely : (ps : List (List ℕ)) → Each (λ (b : ℕ). b < 256) (joined ps) → Loosely (joined ps) (ended (feds started ps))
+checked-loosely ps small = go (verdict (joined ps)) refl
   where
-    go : (v : Verdict) → verdict (joined ps) ≡ v → Measures (joined ps) (ended (feds started ps))
-    go (Ok m) e = Measures.sizes (sound (joined ps) m e) (ap answerSaid (checked ps small ∙ ap answerOf e))
-    go (No r) e = Measures.no-text (text-refusals (joined ps) r .0 e) (ap answerSaid (checked ps small ∙ ap answerOf e))
+    go : (v : Verdict) → verdict (joined ps) ≡ v → Loosely (joined ps) (ended (feds started ps))
+    go (Ok m) e = Loosely.sizes (sound (joined ps) m e) (ap answerSaid (checked ps small ∙ ap answerOf e))
+    go (No r) e = Loosely.no-text (loose-refusals (joined ps) r .0 e) (ap answerSaid (checked ps small ∙ ap answerOf e))

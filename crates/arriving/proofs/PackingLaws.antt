@@ -140,6 +140,7 @@ refusal-back (Refusal.NoJsonForm p) = refl
 refusal-back (Refusal.OutputTooShort p) = refl
 refusal-back (Refusal.WrittenTooLong p) = refl
 refusal-back (Refusal.NoSuchRecord p) = refl
+refusal-back (Refusal.RepeatedKey p) = refl
 
 pub mode-back : (m : ModeOf.Mode) → FitMode m → modeOf (flatMode m) ≡ m
 mode-back Mode.At h = refl

@@ -17,7 +17,7 @@ use Rattle.meaning.specs.declared.Refusal.{Refusal}
 use Rattle.meaning.specs.declared.Refusal.the-variants.{TextTooLong, NotUtf8, NotGrammar, BadEscape, BadTime}
 use Rattle.meaning.specs.declared.Refusal.the-variants.{BadNumber, TooDeep, TapeTooShort, StoreTooShort}
 use Rattle.meaning.specs.declared.Refusal.the-variants.{NotWellFormed, NoJsonForm, OutputTooShort}
-use Rattle.meaning.specs.declared.Refusal.the-variants.{WrittenTooLong, NoSuchRecord}
+use Rattle.meaning.specs.declared.Refusal.the-variants.{WrittenTooLong, NoSuchRecord, RepeatedKey}
 use Rattle.grammar.specs.Values.{elements, members}
 use Rattle.machine.specs.Scan as Scan
 use Rattle.machine.specs.Numeric as Numeric
@@ -289,6 +289,7 @@ moved-none (NoJsonForm i) = refl
 moved-none (OutputTooShort n) = refl
 moved-none (WrittenTooLong n) = refl
 moved-none (NoSuchRecord i) = refl
+moved-none (RepeatedKey p) = refl
 
 module _ (p b : ℕ) {u : Due} {n r t : ℕ} {ks : List ℕ} {d : ℕ} {k : List Frame} where
   -- an item goes on, stops or breaks

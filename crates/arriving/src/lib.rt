@@ -1,4 +1,4 @@
-// A check of a text that arrives in parts, cut anywhere: `check_finish` answers what `measure` answers for the parts joined.
+// A check of a text that arrives in parts, cut anywhere: `check_finish` answers what `measure` answers for the parts joined, with 15 left out.
 mod classes;
 mod ends;
 mod figures;
@@ -210,7 +210,7 @@ fn ended(c: Core) -> Answer
     Answer::Refused(Refusal::TextTooLong)
 }
 
-// The answer where the text ends: what `measure` answers for all that has come.
+// The answer where the text ends: what `measure` answers for all that has come, with 15 left out.
 pub fn check_finish(c: Check) -> Answer
     ensures { λ r. ⌜ r ≡ Arriving.ended c ⌝ }
 {

@@ -466,6 +466,7 @@ fn flat_refusal(why: Refusal) -> Flat
         Refusal::OutputTooShort(at) => flat_plain(11, 11, 0, at),
         Refusal::WrittenTooLong(at) => flat_plain(11, 12, 0, at),
         Refusal::NoSuchRecord(at) => flat_plain(11, 13, 0, at),
+        Refusal::RepeatedKey(at) => flat_plain(11, 14, 0, at),
     }
 }
 
@@ -489,7 +490,8 @@ fn refusal_of(f: Flat) -> Refusal
         10 => Refusal::NoJsonForm(at),
         11 => Refusal::OutputTooShort(at),
         12 => Refusal::WrittenTooLong(at),
-        _ => Refusal::NoSuchRecord(at),
+        13 => Refusal::NoSuchRecord(at),
+        _ => Refusal::RepeatedKey(at),
     }
 }
 

@@ -212,15 +212,17 @@ flatRefusal (Refusal.NoJsonForm p) = flatFailed 10 p
 flatRefusal (Refusal.OutputTooShort p) = flatFailed 11 p
 flatRefusal (Refusal.WrittenTooLong p) = flatFailed 12 p
 flatRefusal (Refusal.NoSuchRecord p) = flatFailed 13 p
+flatRefusal (Refusal.RepeatedKey p) = flatFailed 14 p
 
 abbrev pub refusals : ℕ → List Refusal
 refusals p =
     Refusal.TextTooLong ∷ Refusal.NotUtf8 p ∷ Refusal.NotGrammar p ∷ Refusal.BadEscape p ∷ Refusal.BadTime p
     ∷ Refusal.BadNumber p ∷ Refusal.TooDeep p ∷ Refusal.TapeTooShort p ∷ Refusal.StoreTooShort p
-    ∷ Refusal.NotWellFormed p ∷ Refusal.NoJsonForm p ∷ Refusal.OutputTooShort p ∷ Refusal.WrittenTooLong p ∷ []
+    ∷ Refusal.NotWellFormed p ∷ Refusal.NoJsonForm p ∷ Refusal.OutputTooShort p ∷ Refusal.WrittenTooLong p
+    ∷ Refusal.NoSuchRecord p ∷ []
 
 abbrev pub refusalOf : Flat → Refusal
-refusalOf f = getD (refusals (f .a)) (f .sort) (Refusal.NoSuchRecord (f .a))
+refusalOf f = getD (refusals (f .a)) (f .sort) (Refusal.RepeatedKey (f .a))
 
 -- ---- a mode
 

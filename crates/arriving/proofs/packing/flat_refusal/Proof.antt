@@ -92,6 +92,12 @@ enum-known-why-13 c = search needs
 flat-plain-requires-14 : tie.Need-flat-plain-requires-14
 flat-plain-requires-14 c κs = search needs
 
+enum-known-why-14 : tie.Need-enum-known-why-14
+enum-known-why-14 c = search needs
+
+flat-plain-requires-15 : tie.Need-flat-plain-requires-15
+flat-plain-requires-15 c κs = search needs
+
 returns : tie.Need-returns
 returns c = as-is flatRefusal (c .before .enum-told .given .1) (c .flat-plain .ensures)
 
@@ -134,6 +140,9 @@ returns-13 c = as-is flatRefusal (c .before .before .why12 .given .1) (c .flat-p
 returns-14 : tie.Need-returns-14
 returns-14 c = as-is flatRefusal (c .before .before .why13 .given .1) (c .flat-plain14 .ensures)
 
+returns-15 : tie.Need-returns-15
+returns-15 c = as-is flatRefusal (c .before .before .why14 .given .1) (c .flat-plain15 .ensures)
+
 pub flat-refusal-spec : {M : Type 1} → statement M
 flat-refusal-spec =
     tie.close
@@ -166,6 +175,8 @@ flat-refusal-spec =
     flat-plain-requires-13
     enum-known-why-13
     flat-plain-requires-14
+    enum-known-why-14
+    flat-plain-requires-15
     returns
     returns-2
     returns-3
@@ -179,4 +190,5 @@ flat-refusal-spec =
     returns-11
     returns-12
     returns-13
-    returns-14)
+    returns-14
+    returns-15)

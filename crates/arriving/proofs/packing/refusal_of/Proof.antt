@@ -48,7 +48,10 @@ returns-13 : tie.Need-returns-13
 returns-13 c = rw (c .match .keys13)
 
 returns-14 : tie.Need-returns-14
-returns-14 c = let f = c .before .args .f in past (refusals (f .a)) (Refusal.NoSuchRecord (f .a)) (f .sort) (c .match .rest)
+returns-14 c = rw (c .match .keys14)
+
+returns-15 : tie.Need-returns-15
+returns-15 c = let f = c .before .args .f in past (refusals (f .a)) (Refusal.RepeatedKey (f .a)) (f .sort) (c .match .rest)
 
 pub refusal-of-spec : {M : Type 1} → statement M
 refusal-of-spec =
@@ -67,4 +70,5 @@ refusal-of-spec =
     returns-11
     returns-12
     returns-13
-    returns-14)
+    returns-14
+    returns-15)
