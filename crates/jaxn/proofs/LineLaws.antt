@@ -16,8 +16,7 @@ use Rattle.meaning.specs.Paper.{numberOf, placeOf}
 use Rattle.meaning.specs.Canonical.{decimal, canonical}
 use Rattle.meaning.proofs.Digits.{decimal-length}
 use Rattle.reader.specs.Answers.{tapeBytes}
-use Rattle.machine.proofs.Whole.{unambiguous}
-use Rattle.machine.proofs.Refusals.Whole.{one-text-refusal, not-refused}
+use Rattle.machine.proofs.Accepted.{unambiguous, one-text-refusal, not-refused}
 use Rattle.writer.specs.declared.Written.{Written}
 use Rattle.writer.specs.declared.Written.the-variants.{Wrote, Refused}
 use Rattle.writer.specs.Paper.{writeSaid}

@@ -29,6 +29,7 @@ use Rattle.writer.specs.declared.Written.the-variants.{Wrote, Refused}
 use Rattle.writer.specs.Paper.{writeSaid}
 use Rattle.writer.specs.Written.{Writes, WritesJaxn, too-long, too-short, written}
 use Rattle.writer.proofs.Outcomes.{written-jaxn, wrote-length, refused-apart}
+use Rattle.lanternrung.proofs.Claims.Writing.{text-length}
 use Rattle.jaxn.specs.Line.{room, refusedLine, Line, output-short, printed}
 use Rattle.jaxn.specs.Between.Steps.{Rewrites, refusing, printing}
 
@@ -36,7 +37,7 @@ use Rattle.jaxn.specs.Between.Steps.{Rewrites, refusing, printing}
 
 -- a text of at most 65,536 bytes needs no longer store
 store-enough : {t : List ℕ} {m : Meaning} → Text true t m → length t ≤ room → bytes m ≤ room
-store-enough x h = omega (arith, text-fits x .small)
+store-enough x h = omega (arith, text-fits (x .loose) .small)
 
 -- the text of what fits the tape and the store is no longer than a text may be
 never-too-long : {t : List ℕ} {m : Meaning} → Text true t m → length t ≤ room → tapeBytes m ≤ room → length (canonical m) ≤ textLimit
@@ -63,10 +64,6 @@ pub not-read : {t tape store tape' store' out : List ℕ} {a : Answer} {why : Re
 not-read {t} {tape} {store} {tape'} {store'} q e h r s = refusing (refused-line h r s (subst (λ (b : Answer). Reads t tape store b tape' store') e q))
 
 -- ---- written
-
--- an accepted text is no longer than a text may be
-text-short : {t : List ℕ} {m : Meaning} → Text true t m → length t ≤ textLimit
-text-short (Text.text w a v h) = h
 
 module _ {t : List ℕ} {m : Meaning} {out : List ℕ} (h : length t ≤ room) (r : length out ≡ room) (x : Text true t m) (f : tapeBytes m ≤ room) where
   short-line : (w : Written) → room < length (canonical m) → writeSaid w ≡ refused 12 (length (canonical m)) → Rewrites t out w out
@@ -114,8 +111,8 @@ module _ {t tape store : List ℕ} {a : Answer} {r s : ℕ} {tape' store' : List
 
   well : WellFormed (take (r * 16) tape') (take s store')
   well =
-      let m = text-fits (held .text-means) in
-      let n = text-short (held .text-means) in
+      let m = text-fits (held .text-means .loose) in
+      let n = text-length (held .text-means .loose) in
       record { meaning = held .meaning; good = text-good (held .text-means); few = omega arith; short = omega arith; taped = tape-is; stored = store-is }
 
   -- so that what is written is its canonical text

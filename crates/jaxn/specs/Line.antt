@@ -28,7 +28,7 @@ refusedLine number place =
 pub data Line (input : List ℕ) : List ℕ → Type 0 where
   -- longer input
   longer : room < length input → Line input (refusedLine 1 room)
-  -- 2 to 7
+  -- 2 to 7, 15
   no-text : {why : Refusal} → length input ≤ room → Text-refused input why
       → Line input (refusedLine (numberOf why) (placeOf why))
   -- 8, with the tape bytes needed

@@ -1,7 +1,7 @@
 -- What is claimed of the public calls (docs/CLAIMS.md; docs/FORMAT.md, 10 to 13): each claim is about the promises, so
 -- about any program that keeps them. Assumes nothing.
 use mathlib.Core.Path.{_≡_}
-use mathlib.Core.Logic.{_↔_}
+use mathlib.Core.Logic.{_↔_, _⊎_}
 use mathlib.Core.Bool.{true}
 use mathlib.Core.List.{List, [], _++_}
 use mathlib.Core.Option.{none}
@@ -20,12 +20,12 @@ use Rattle.meaning.specs.Limits.{textLimit}
 use Rattle.meaning.specs.Meaning.{Meaning}
 use Rattle.meaning.specs.Paper.{numberOf}
 use Rattle.meaning.specs.Tape.{records, bytes, tapeOf, storeOf, WellFormed}
-use Rattle.grammar.specs.Values.{Text}
-use Rattle.grammar.specs.Refused.{Text-refused}
+use Rattle.grammar.specs.Values.{Loose, Text}
+use Rattle.grammar.specs.Refused.{Repeats, Text-refused}
 use Rattle.tape.specs.declared.Looked.{Looked}
 use Rattle.tape.specs.Looking.{Looks}
 use Rattle.reader.specs.declared.Answer.{Answer}
-use Rattle.reader.specs.Answers.{tapeBytes, Measures, Reads}
+use Rattle.reader.specs.Answers.{tapeBytes, Measures, Loosely, Reads}
 use Rattle.arriving.specs.declared.Check.{Check}
 use Rattle.arriving.specs.Between.Arriving.{started, fed, feds, ended, joined}
 use Rattle.writer.specs.declared.Written.{Written}
@@ -35,7 +35,7 @@ use Rattle.lanternrung.specs.declared.exports.Sizes.{Sizes}
 use Rattle.lanternrung.specs.declared.exports.Text.{Text as TextStruct}
 use Rattle.lanternrung.specs.declared.exports.Fields.{Fields}
 use Rattle.lanternrung.specs.Told.{Utf8Told, DateTold, MeasureTold, ReadTold, LookTold, JaxnTold, JsonTold}
-use Rattle.lanternrung.specs.Told.{CheckStartTold, CheckFeedTold, CheckFinishTold}
+use Rattle.lanternrung.specs.Told.{CheckStartTold, CheckFeedTold, CheckFinishTold, LooselyTold}
 
 -- ---- reading
 
@@ -83,12 +83,33 @@ pub record IsRead : Type 0 where
       → Accepted text tape store a tape' store'
   pub measure : {text : List ℕ} {a : Answer} → Measures text a → Measured text a
 
--- refusals: which of 1 to 7 is given, and where; by `read` whatever is lent
+-- the refusals that a text is given, whatever is lent
+abbrev pub OfText : Refusal → Type 0
+OfText why = (numberOf why ≤ 7) ⊎ (numberOf why ≡ 15)
+
+-- refusals: which of 1 to 7, or 15, is given, and where; by `read` whatever is lent
 pub record Refusals : Type 0 where
   pub measure : {text : List ℕ} {a : Answer} {why : Refusal} → Measures text a
       → (a ≡ Answer.Refused why) ↔ Text-refused text why
   pub read : {text tape store : List ℕ} {a : Answer} {tape' store' : List ℕ} {why : Refusal}
-      → Reads text tape store a tape' store' → numberOf why ≤ 7 → (a ≡ Answer.Refused why) ↔ Text-refused text why
+      → Reads text tape store a tape' store' → OfText why → (a ≡ Answer.Refused why) ↔ Text-refused text why
+
+-- The text has a meaning but for its keys. At p begins a key that repeats an earlier one of its object, and before p
+-- none does.
+pub record RepeatsFirst (text : List ℕ) (p : ℕ) : Type 0 where
+  pub meaning : Meaning
+  pub means : Loose true text meaning
+  pub repeats : Repeats text p
+  pub first : (q : ℕ) → Repeats text q → p ≤ q
+
+-- repeated-key: 15 is given exactly there; and a text with a meaning but for its keys has one where none repeats
+pub record RepeatedKeys : Type 0 where
+  pub measure : {text : List ℕ} {a : Answer} {p : ℕ} → Measures text a
+      → (a ≡ Answer.Refused (Refusal.RepeatedKey p)) ↔ RepeatsFirst text p
+  pub read : {text tape store : List ℕ} {a : Answer} {tape' store' : List ℕ} {p : ℕ}
+      → Reads text tape store a tape' store' → (a ≡ Answer.Refused (Refusal.RepeatedKey p)) ↔ RepeatsFirst text p
+  pub none-repeats : {text : List ℕ} {m : Meaning} → Loose true text m
+      → ((p : ℕ) → Repeats text p → ⊥) ↔ Text true text m
 
 -- bounded: for every accepted text, records and store bytes are each at most its length
 abbrev pub Within : List ℕ → ℕ → ℕ → Type 0
@@ -187,13 +208,19 @@ pub data CameC : List ℕ → List ℕ → Type 0 where
   copied : {text state other : List ℕ} → CameC text state → stateBytes ≤ length other
       → take stateBytes other ≡ take stateBytes state → CameC text other
 
+-- with 15 left out: where `measure` answers 15 the check answers counts; else both answer the same
+pub record LeftOut (a b : Answer) : Type 0 where
+  pub repeated : (p : ℕ) → a ≡ Answer.Refused (Refusal.RepeatedKey p) → Counted b
+  pub same : ((p : ℕ) → a ≡ Answer.Refused (Refusal.RepeatedKey p) → ⊥) → a ≡ b
+
 -- checked: for every list of parts, and however a check was come by, the finish answers what `measure` answers for the
--- parts joined; nothing past the state's bytes is written, and no more bytes than there are
+-- parts joined, with 15 left out; nothing past the state's bytes is written, and no more bytes than there are
 pub record Checked : Type 0 where
-  pub parts : (ps : List (List ℕ)) → Bytes (joined ps) → Measures (joined ps) (ended (feds started ps))
-  pub finish : {text : List ℕ} {c : Check} → Came text c → Bytes text → Measures text (ended c)
+  pub parts : (ps : List (List ℕ)) → Bytes (joined ps) → Loosely (joined ps) (ended (feds started ps))
+  pub finish : {text : List ℕ} {c : Check} → Came text c → Bytes text → Loosely text (ended c)
   pub finish-c : {text state : List ℕ} {r : Sizes} → CameC text state → Bytes text → CheckFinishTold state r
-      → MeasureTold text r
+      → LooselyTold text r
+  pub left-out : {text : List ℕ} {a b : Answer} → Measures text a → Loosely text b → LeftOut a b
   pub start-past : {state state' : List ℕ} → CheckStartTold state state'
       → (length state' ≡ length state) × (drop stateBytes state' ≡ drop stateBytes state)
   pub feed-past : {state state' : List ℕ} (part : List ℕ) → CheckFeedTold state part state'

@@ -21,7 +21,7 @@ use Rattle.meaning.specs.Bytes.{flag}
 use Rattle.meaning.specs.Paper.{row, numberOf, placeOf}
 use Rattle.reader.specs.declared.Answer.{Answer}
 use Rattle.reader.specs.declared.Answer.the-variants as answer
-use Rattle.reader.specs.Answers.{Measures, Reads}
+use Rattle.reader.specs.Answers.{Measures, Loosely, Reads}
 use Rattle.tape.specs.declared.Looked.{Looked}
 use Rattle.tape.specs.Looking.{Looks}
 use Rattle.writer.specs.declared.Written.{Written}
@@ -131,6 +131,10 @@ DateTold year month day = Handed (Dated year month day) (λ a. statusOf (dateSai
 
 abbrev pub MeasureTold : List ℕ → Sizes → Type 0
 MeasureTold text = Handed (Measures text) sizesOf
+
+-- the same with 15 left out
+abbrev pub LooselyTold : List ℕ → Sizes → Type 0
+LooselyTold text = Handed (Loosely text) sizesOf
 
 abbrev pub ReadTold : List ℕ → List ℕ → List ℕ → Sizes → List ℕ → List ℕ → Type 0
 ReadTold text tape store r tape' store' = Handed (λ a. Reads text tape store a tape' store') sizesOf r

@@ -368,7 +368,7 @@ pub extern "C" fn lanternrung_check_feed(state: &mut [u8], part: &[u8])
     packing::keep(arriving::check_feed(packing::kept(state), part), state);
 }
 
-// What `lanternrung_measure` hands over for the parts joined. The state stays as it is.
+// What `lanternrung_measure` hands over for the parts joined, with 15 left out. The state stays as it is.
 #[no_mangle]
 pub extern "C" fn lanternrung_check_finish(state: &[u8]) -> Sizes
     ensures { λ r. ⌜ CheckFinishTold (now (state .entry)) r ⌝ }

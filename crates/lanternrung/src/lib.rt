@@ -49,6 +49,7 @@ pub fn number(why: Refusal) -> u32
         Refusal::OutputTooShort(_) => 12,
         Refusal::WrittenTooLong(_) => 13,
         Refusal::NoSuchRecord(_) => 14,
+        Refusal::RepeatedKey(_) => 15,
     }
 }
 
@@ -71,5 +72,6 @@ pub fn place(why: Refusal) -> u64
         Refusal::OutputTooShort(needed) => needed as u64,
         Refusal::WrittenTooLong(size) => size as u64,
         Refusal::NoSuchRecord(index) => index as u64,
+        Refusal::RepeatedKey(at) => at as u64,
     }
 }

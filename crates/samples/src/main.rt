@@ -4,7 +4,7 @@
 //   utf8 BYTES                     whether they are UTF-8
 //   date YEAR MONTH DAY            whether it is a date
 //   measure TEXT                   the records and store bytes that it needs
-//   check TEXT                     the same of the text in two parts, cut at each place
+//   check TEXT                     the same of the text in two parts, cut at each place, with 15 left out
 //   read LENGTH LENGTH TEXT        the same, into a tape and a store of these lengths
 //   tape TEXT                      the tape and the store that it fills
 //   jaxn TEXT, json TEXT           its canonical text, which is read again

@@ -1,6 +1,7 @@
--- checked: a text that came in parts, cut anywhere, is answered for as `measure` answers for it; by Rattle's calls and by those for C.
--- Assumes nothing.
+-- checked: a text that came in parts, cut anywhere, is answered for as `measure` answers for it, with 15 left out; by Rattle's calls and by those
+-- for C. Assumes nothing.
 use mathlib.Core.Path.{_≡_, refl, sym, ap, _∙_, subst}
+use mathlib.Core.Logic.{⊎-elim}
 use mathlib.Core.List.{List, [], _∷_, _++_, append-assoc, append-nil}
 use Prim.Native.Nat.{ℕ, _≤_, _<_}
 use native.Mathlib.Omega.{arith}
@@ -8,14 +9,18 @@ use lib.ListN.{length, drop}
 use lib.Seq.{length-sets}
 use Rattle.rules.proofs.Characters.{Each, all-none, all-more}
 use Rattle.meaning.specs.Good.{Bytes}
-use Rattle.reader.specs.Answers.{Measures}
+use Rattle.meaning.specs.Tape.{records, bytes}
+use Rattle.reader.specs.declared.Answer.{Answer}
+use Rattle.reader.specs.Answers.{Measures, Loosely}
+use Rattle.reader.proofs.Claims as reader
 use Rattle.arriving.specs.declared.Check.{Check}
 use Rattle.arriving.specs.Between.Arriving.{started, fed, feds, ended, joined}
 use Rattle.arriving.specs.Between.Packing.{packed, unpacked, padded}
-use Rattle.arriving.proofs.Checked.{checked-measures}
+use Rattle.arriving.proofs.Checked.{checked-loosely}
 use Rattle.arriving.proofs.PackingStateLaws.{padded-long, state-back, state-past}
 use Rattle.lanternrung.specs.Told.{Keeps, keptIn}
-use Rattle.lanternrung.specs.Claims.{Came, CameC, Checked}
+use Rattle.lanternrung.specs.Claims.{Came, CameC, LeftOut, Checked}
+use Rattle.lanternrung.proofs.Claims.Reading.{repeated-key}
 
 each-byte : (s : List ℕ) → Bytes s → Each (λ (b : ℕ). b < 256) s
 each-byte [] h = all-none
@@ -84,18 +89,29 @@ came-c (CameC.copied {text} {state} {other} x h e) =
 past : {c : Check} {s t : List ℕ} → Keeps c s t → (length t ≡ length s) × (drop 640 t ≡ drop 640 s)
 past {c} {s} k = (ap length (k .put) ∙ length-sets s 0 (packed c), ap (drop 640) (k .put) ∙ state-past s c (k .back))
 
-answered : {text : List ℕ} {c : Check} → Parts text c → Bytes text → Measures text (ended c)
+answered : {text : List ℕ} {c : Check} → Parts text c → Bytes text → Loosely text (ended c)
 answered {text} {c} x b =
-    subst (λ (d : Check). Measures text (ended d)) (x .comes)
-    (subst (λ (s : List ℕ). Measures s (ended (feds started (x .parts)))) (x .joins)
-    (checked-measures (x .parts) (each-byte (joined (x .parts)) (subst Bytes (sym (x .joins)) b))))
+    subst (λ (d : Check). Loosely text (ended d)) (x .comes)
+    (subst (λ (s : List ℕ). Loosely s (ended (feds started (x .parts)))) (x .joins)
+    (checked-loosely (x .parts) (each-byte (joined (x .parts)) (subst Bytes (sym (x .joins)) b))))
+
+left-out : {text : List ℕ} {a b : Answer} → Measures text a → Loosely text b → LeftOut a b
+left-out {text} {a} {b} p q =
+    record {
+      repeated = λ n e.
+          let w = repeated-key .measure p .0 e in
+          let m = w .meaning in
+          (records m, bytes m, reader.one-outcome-loosely text b (Answer.Counts (records m) (bytes m)) q (Loosely.sizes (w .means) refl));
+      same = λ n. ⊎-elim (λ e. e) (λ w. absurd (n (w .0) (w .1))) (reader.left-out text a b p q);
+    }
 
 pub checked : Checked
 checked =
     record {
-      parts = λ ps b. checked-measures ps (each-byte (joined ps) b);
+      parts = λ ps b. checked-loosely ps (each-byte (joined ps) b);
       finish = λ x b. answered (came x) b;
       finish-c = λ {text} {state} x b e. record { answer = ended (keptIn state); allowed = answered (came-c x .of) b; told = e };
+      left-out = left-out;
       start-past = λ k. past k;
       feed-past = λ part k. past k;
     }

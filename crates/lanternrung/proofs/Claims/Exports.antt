@@ -5,7 +5,7 @@ use Prim.Native.Nat.{ℕ}
 use native.Mathlib.Omega.{arith}
 use Rattle.meaning.specs.declared.Refusal.{Refusal}
 use Rattle.meaning.specs.declared.Refusal.the-variants.{TextTooLong, NotUtf8, NotGrammar, BadEscape, BadTime, BadNumber, TooDeep, TapeTooShort, StoreTooShort}
-use Rattle.meaning.specs.declared.Refusal.the-variants.{NotWellFormed, NoJsonForm, OutputTooShort, WrittenTooLong, NoSuchRecord}
+use Rattle.meaning.specs.declared.Refusal.the-variants.{NotWellFormed, NoJsonForm, OutputTooShort, WrittenTooLong, NoSuchRecord, RepeatedKey}
 use Rattle.rules.specs.Paper.{utf8Said, dateSaid}
 use Rattle.meaning.specs.Paper.{numberOf}
 use Rattle.reader.specs.declared.Answer.{Answer}
@@ -90,6 +90,7 @@ numbered (NoJsonForm p) e = omega arith
 numbered (OutputTooShort p) e = omega arith
 numbered (WrittenTooLong p) e = omega arith
 numbered (NoSuchRecord p) e = omega arith
+numbered (RepeatedKey p) e = omega arith
 
 counts : (a : Answer) → sizesOf a .refused ≡ 0 → a ≡ Answer.Counts (sizesOf a .records) (sizesOf a .bytes)
 unfolding sizesOf

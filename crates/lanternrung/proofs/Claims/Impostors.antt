@@ -22,24 +22,27 @@ use Rattle.rules.proofs.Outcomes.{one-outcome-utf8, one-outcome-date}
 use Rattle.meaning.specs.declared.Number.the-variants.{Finite}
 use Rattle.meaning.specs.declared.Record.{Record}
 use Rattle.meaning.specs.declared.Refusal.{Refusal}
+use Rattle.meaning.specs.declared.Refusal.the-variants.{RepeatedKey}
 use Rattle.meaning.specs.Letters.{letters}
 use Rattle.meaning.specs.Limits.{textLimit, depthLimit}
 use Rattle.meaning.specs.Meaning.{Meaning, Members, null, bool, number, string, array, object, none, more, bare, member}
-use Rattle.meaning.specs.Good.{Bytes, most, depth, Good}
+use Rattle.meaning.specs.Good.{Bytes, GoodParts, most, depth, Good}
+use Rattle.meaning.specs.Once.{same, held, once, onceElements, onceMembers}
 use Rattle.meaning.specs.Bytes.{le, unnamed}
-use Rattle.meaning.specs.Tape.{records, membersRecords, elementsCount, membersCount, storeOf, bytes, recordsOf, recordBytes, recordsBytes, tapeOf, WellFormed}
-use Rattle.meaning.specs.Canonical.{escaped, escapes, quoted, canonical}
+use Rattle.meaning.specs.Tape.{records, membersRecords, elementsCount, membersCount, storeOf, membersStore, bytes, recordsOf, recordBytes, recordsBytes, tapeOf}
+use Rattle.meaning.specs.Tape.{WellFormed}
+use Rattle.meaning.specs.Canonical.{escaped, escapes, quoted, canonical, membersText}
 use Rattle.meaning.specs.Json.{firstWithout, noJson}
 use Rattle.meaning.specs.Look.{wholeRecords}
 use Rattle.meaning.proofs.Bytes.{le-length, le-bytes}
 use Rattle.meaning.proofs.Fitting.{octets-bytes, store-bytes}
 use Rattle.meaning.proofs.Quotes.{ascii-octets}
-use Rattle.meaning.proofs.Whole.{tape-length, tape-bytes}
-use Rattle.grammar.specs.Values.{Text}
+use Rattle.meaning.proofs.Whole.{tape-length, tape-bytes, injective}
+use Rattle.grammar.specs.Values.{Loose, Text}
 use Rattle.grammar.specs.Refused.{Text-refused}
 use Rattle.grammar.proofs.Utf8.{text-octets}
 use Rattle.grammar.proofs.Good.{text-good}
-use Rattle.grammar.proofs.Sizes.{text-fits}
+use Rattle.grammar.proofs.Sizes.{Fits, text-fits}
 use Rattle.grammar.proofs.Canonical.{text-derived}
 use Rattle.arriving.specs.Between.Arriving.{joined}
 use Rattle.tape.specs.declared.Looked.{Looked}
@@ -47,31 +50,31 @@ use Rattle.tape.specs.Looking.{Looks}
 use Rattle.meaning.specs.Between.Words.{get}
 use Rattle.tape.specs.Between.Shapes.{recordOf, notFinite}
 use Rattle.tape.proofs.JudgingMachineLaws.{nay, slot, put, enter, give, settle, sizeOf, startOf, does, actOf, push, finish, run}
-use Rattle.tape.proofs.JudgingWholeLaws.{readAt, recordsFrom, verdict, nay-ill}
+use Rattle.tape.specs.Between.Standing.{readAt, recordsFrom}
+use Rattle.tape.proofs.JudgingWholeLaws.{verdict}
+use Rattle.tape.proofs.JudgingOnceLaws.{nay-ill}
 use Rattle.tape.proofs.Outcomes.{look-well-formed}
 use Rattle.reader.specs.declared.Answer.{Answer}
-use Rattle.reader.specs.Answers.{tapeBytes, Measures, Reads}
-use Rattle.reader.proofs.Claims.{measure-refuses, read-refuses}
+use Rattle.reader.specs.Answers.{tapeBytes, Measures, Loosely, Reads}
+use Rattle.reader.proofs.Claims.{one-outcome-loosely, measure-refuses, read-refuses}
 use Rattle.writer.specs.declared.Written.{Written}
 use Rattle.writer.specs.Written.{WritesJaxn, WritesJson}
 use Rattle.lanternrung.specs.Trials.Samples.{Outcome, Says, IsTaken, Case, All, _&_}
-use Rattle.lanternrung.proofs.Claims.PList.{P-list, slips-hold}
-use Rattle.lanternrung.specs.Claims.{Counted, Takes, Holds, Room, Wrote, Prints}
+use Rattle.lanternrung.proofs.Claims.PList.{P-list, slips-hold, keys-twice}
+use Rattle.lanternrung.specs.Claims.{Counted, Takes, Holds, RepeatsFirst, Room, Wrote, Prints}
 use Rattle.lanternrung.specs.Trials.Impostors.{Lent, Measurer, KeepsMeasure, Reader, KeepsRead, Writer, KeepsJaxn, KeepsJson}
-use Rattle.lanternrung.specs.Trials.Impostors.{Looker, KeepsLook, KeepsUtf8, Calendar, KeepsDate, WritesOnly, olderTape, Impostors}
+use Rattle.lanternrung.specs.Trials.Impostors.{Looker, KeepsLook, KeepsUtf8, Calendar, KeepsDate, WritesOnly, olderTape}
+use Rattle.lanternrung.specs.Trials.Impostors.{twice, PrintsTwice, Impostors}
 use Rattle.lanternrung.specs.Trials.Impostors.{Checker, answers, KeepsCheck}
-use Rattle.lanternrung.proofs.Claims.Reading.{accepted, measured}
-use Rattle.lanternrung.proofs.Claims.Writing.{written}
+use Rattle.lanternrung.proofs.Claims.Reading.{accepted, measured, repeats-first}
+use Rattle.lanternrung.proofs.Claims.Writing.{text-length, written}
 
 -- ---- what they are tried on
 
 zeros : (n : ℕ) → n < 2 ^ 64 → Lent (unnamed n)
 zeros n h = record { each = le-bytes n 0; few = omega (arith, le-length n 0) }
 
-text-length : {t : List ℕ} {m : Meaning} → Text true t m → length t ≤ textLimit
-text-length (Text.text w v l h) = h
-
-text-lent : {t : List ℕ} {m : Meaning} → Text true t m → Lent t
+text-lent : {t : List ℕ} {m : Meaning} → Loose true t m → Lent t
 text-lent x = record { each = octets-bytes (text-octets x); few = omega (arith, text-length x) }
 
 -- a small meaning
@@ -83,6 +86,9 @@ module _ {m : Meaning} (s : Small m) where
   derived : Text true (canonical m) m
   derived = text-derived m (s .good) (s .short)
 
+  loosely : Loose true (canonical m) m
+  loosely = derived .loose
+
   abbrev tape₀ : List ℕ
   tape₀ = unnamed (tapeBytes m)
 
@@ -90,15 +96,15 @@ module _ {m : Meaning} (s : Small m) where
   store₀ = unnamed (bytes m)
 
   tape-lent : Lent (tapeOf m)
-  tape-lent = record { each = tape-bytes m; few = omega (arith, tape-length m, text-fits derived .few, text-length derived) }
+  tape-lent = record { each = tape-bytes m; few = omega (arith, tape-length m, text-fits loosely .few, text-length loosely) }
 
   store-lent : Lent (storeOf m)
-  store-lent = record { each = store-bytes m (s .good .parts); few = omega (arith, text-fits derived .small, text-length derived) }
+  store-lent = record { each = store-bytes m (s .good .parts); few = omega (arith, text-fits loosely .small, text-length loosely) }
 
   abbrev well-formed : WellFormed (tapeOf m) (storeOf m)
   well-formed =
-      let f = text-fits derived in
-      let l = text-length derived in
+      let f = text-fits loosely in
+      let l = text-length loosely in
       record { meaning = m; good = s .good; few = omega (arith, f .few); short = omega (arith, f .small); taped = refl; stored = refl }
 
   takes : Takes (canonical m) tape₀ store₀ m
@@ -107,9 +113,9 @@ module _ {m : Meaning} (s : Small m) where
   reads : (f : Reader) → KeepsRead f → Holds m tape₀ store₀ (f (canonical m) tape₀ store₀ .0) (f (canonical m) tape₀ store₀ .1)
       (f (canonical m) tape₀ store₀ .2)
   reads f k =
-      let x = text-fits derived in
-      let l = text-length derived in
-      accepted (k (canonical m) tape₀ store₀ (text-lent derived) (zeros (tapeBytes m) (omega (arith, x .few))) (zeros (bytes m) (omega (arith, x .small))))
+      let x = text-fits loosely in
+      let l = text-length loosely in
+      accepted (k (canonical m) tape₀ store₀ (text-lent loosely) (zeros (tapeBytes m) (omega (arith, x .few))) (zeros (bytes m) (omega (arith, x .small))))
       .then m takes
 
   room : (n : ℕ) → length (canonical m) ≤ n → Room (canonical m) (unnamed n)
@@ -124,12 +130,12 @@ module _ {m : Meaning} (s : Small m) where
   prints-json f k e n h l = written .json (k (tapeOf m) (storeOf m) (unnamed n) tape-lent store-lent (zeros n l)) .then well-formed e (room n h)
 
 small-null : Small null
-unfolding canonical depth depthLimit
-small-null = record { good = record { parts = tt; shallow = lit≤ tt }; short = lit≤ tt }
+unfolding canonical depth depthLimit once
+small-null = record { good = record { parts = tt; shallow = lit≤ tt; single = refl }; short = lit≤ tt }
 
 small-true : Small (bool true)
-unfolding canonical depth depthLimit
-small-true = record { good = record { parts = tt; shallow = lit≤ tt }; short = lit≤ tt }
+unfolding canonical depth depthLimit once
+small-true = record { good = record { parts = tt; shallow = lit≤ tt; single = refl }; short = lit≤ tt }
 
 -- ---- how each fails
 
@@ -161,8 +167,8 @@ touches-nothing : (f : Reader) → ((text tape store : List ℕ) → (f text tap
 touches-nothing f r = leaves-tape f (λ text tape store. r text tape store .0)
 
 small-a : Small (string (letters "a"))
-unfolding canonical quoted escapes escaped depth depthLimit
-small-a = record { good = record { parts = ascii-octets (letters "a") (omega arith); shallow = lit≤ tt }; short = lit≤ tt }
+unfolding canonical quoted escapes escaped depth depthLimit once
+small-a = record { good = record { parts = ascii-octets (letters "a") (omega arith); shallow = lit≤ tt; single = refl }; short = lit≤ tt }
 
 leaves-store : (f : Reader) → ((text tape store : List ℕ) → f text tape store .2 ≡ store) → KeepsRead f → ⊥
 unfolding storeOf le
@@ -172,8 +178,8 @@ leaves-store f r k =
     omega arith
 
 small-array : Small (array (more none null))
-unfolding canonical depth most depthLimit
-small-array = record { good = record { parts = (tt, tt); shallow = lit≤ tt }; short = lit≤ tt }
+unfolding canonical depth most depthLimit once onceElements
+small-array = record { good = record { parts = (tt, tt); shallow = lit≤ tt; single = refl }; short = lit≤ tt }
 
 leaves-counts : (f : Reader) → ((text tape store : List ℕ) → getD (f text tape store .1) 4 0 ≡ 0) → KeepsRead f → ⊥
 unfolding tapeOf recordsOf recordsBytes recordBytes elementsCount le
@@ -183,8 +189,8 @@ leaves-counts f r k =
     omega arith
 
 small-object : Small (object (member bare [] null))
-unfolding canonical quoted escapes depth most depthLimit
-small-object = record { good = record { parts = (tt, ascii-octets [] tt, tt); shallow = lit≤ tt }; short = lit≤ tt }
+unfolding canonical quoted escapes depth most depthLimit once onceMembers held
+small-object = record { good = record { parts = (tt, ascii-octets [] tt, tt); shallow = lit≤ tt; single = refl }; short = lit≤ tt }
 
 counts-records : (f : Reader)
     → ((text tape store : List ℕ) (ms : Members) → Takes text tape store (object ms) → getD (f text tape store .1) 4 0 ≡ membersRecords ms)
@@ -219,6 +225,42 @@ older-jaxn f r k = older-ill (written .jaxn (k olderTape [] [] older-lent (zeros
 older-json : (f : Writer) → ((out : List ℕ) → Wrote (f olderTape [] out .0)) → KeepsJson f → ⊥
 unfolding le
 older-json f r k = older-ill (written .json (k olderTape [] [] older-lent (zeros 0 (lit< tt)) (zeros 0 (lit< tt))) .exactly .0 (r []) .0)
+
+-- ---- two equal keys on a tape
+
+twice-parts : GoodParts twice
+twice-parts = let a = ascii-octets (letters "a") (omega arith) in ((tt, a, tt), a, tt)
+
+-- the tape and the store have this meaning alone, and it is not good
+twice-ill : WellFormed (tapeOf twice) (storeOf twice) → ⊥
+unfolding once onceMembers held same records membersRecords storeOf membersStore
+twice-ill w =
+    let e : w .meaning ≡ twice = injective (w .meaning) twice (w .good .parts) twice-parts (w .few) (lit≤ tt) (w .short) (sym (w .taped)) (sym (w .stored)) in
+    let f : false ≡ true = subst (λ (m : Meaning). once m ≡ true) e (w .good .single) in
+    let z : _≡_ {A = ℕ} 0 1 = cc in
+    omega arith
+
+twice-tape : Lent (tapeOf twice)
+unfolding records membersRecords
+twice-tape = let l : length (tapeOf twice) ≡ 5 * 16 = tape-length twice in record { each = tape-bytes twice; few = omega arith }
+
+twice-store : Lent (storeOf twice)
+unfolding storeOf membersStore
+twice-store = record { each = omega arith; few = lit< tt }
+
+twice-room : length (canonical twice) ≤ length (unnamed 19)
+unfolding canonical membersText quoted escapes escaped
+twice-room = omega (arith, le-length 19 0)
+
+repeated-jaxn : (f : Writer) → PrintsTwice f → KeepsJaxn f → ⊥
+repeated-jaxn f r k =
+    let p = written .jaxn (k (tapeOf twice) (storeOf twice) (unnamed 19) twice-tape twice-store (zeros 19 (lit< tt))) in
+    twice-ill (p .exactly .0 (_, r (unnamed 19) twice-room .answer) .0)
+
+repeated-json : (f : Writer) → PrintsTwice f → KeepsJson f → ⊥
+repeated-json f r k =
+    let p = written .json (k (tapeOf twice) (storeOf twice) (unnamed 19) twice-tape twice-store (zeros 19 (lit< tt))) in
+    twice-ill (p .exactly .0 (_, r (unnamed 19) twice-room .answer) .0)
 
 -- two outputs of four bytes, one `null` and one `true`
 two-texts : (t x y : List ℕ) → x ≡ t ++ drop (length t) (unnamed 4) → y ≡ t ++ drop (length t) (unnamed 4) → x ≡ canonical null
@@ -272,10 +314,10 @@ copies f r k =
 -- ---- measure
 
 invents : (f : Measurer) {text : List ℕ} {m : Meaning} → Text true text m → (f text ≡ Answer.Counts (records m) (bytes m) → ⊥) → KeepsMeasure f → ⊥
-invents f {text} {m} x n k = n (measured (k text (text-lent x)) .then m x .answer)
+invents f {text} {m} x n k = n (measured (k text (text-lent (x .loose))) .then m x .answer)
 
 counted : {m : Meaning} → Small m → (f : Measurer) → KeepsMeasure f → f (canonical m) ≡ Answer.Counts (records m) (bytes m)
-counted {m} s f k = let x = derived s in measured (k (canonical m) (text-lent x)) .then m x .answer
+counted {m} s f k = let x = derived s in measured (k (canonical m) (text-lent (x .loose))) .then m x .answer
 
 one-count : (f : Measurer) (r s : ℕ) → ((text : List ℕ) → Counted (f text) → f text ≡ Answer.Counts r s) → KeepsMeasure f → ⊥
 unfolding records
@@ -293,13 +335,66 @@ counts-all f g k =
     let d = g [] in
     subst (Says 3 0) (d .2) (x .measured (f []) (k [] (record { each = tt; few = lit< tt })))
 
+-- ---- a key that is repeated: `{a:{b:1,b:2},a:3}`
+
+abbrev text₀ : List ℕ
+text₀ = letters "{a:{b:1,b:2},a:3}"
+
+first₀ : RepeatsFirst text₀ 8
+first₀ = repeats-first (keys-twice .1)
+
+fits₀ : Fits text₀ (first₀ .meaning)
+fits₀ = text-fits (first₀ .means)
+
+lent₀ : Lent text₀
+lent₀ = text-lent (first₀ .means)
+
+-- counts are no refusal
+not-counted : {a : Answer} {why : Refusal} → a ≡ Answer.Refused why → Counted a → ⊥
+not-counted e d = let c = d .2 in let z : _≡_ {A = ℕ} 0 1 = cc in omega arith
+
+refuses-at : (f : Measurer) → KeepsMeasure f → f text₀ ≡ Answer.Refused (RepeatedKey 8)
+refuses-at f k = measure-refuses (keys-twice .1) (k text₀ lent₀)
+
+earlier-key : (f : Measurer)
+    → ((text : List ℕ) (p : ℕ) → Text-refused text (RepeatedKey p) → (q : ℕ) × (q < p) × (f text ≡ Answer.Refused (RepeatedKey q)))
+    → KeepsMeasure f → ⊥
+earlier-key f r k =
+    let w = r text₀ 8 (keys-twice .1) in
+    let e = w .2 in
+    let g = refuses-at f k in
+    let z : w .0 ≡ 8 = cc in
+    omega (arith, w .1)
+
+measures-repeated : (f : Measurer) → ((text : List ℕ) (m : Meaning) → Loose true text m → Counted (f text)) → KeepsMeasure f → ⊥
+measures-repeated f r k = not-counted (refuses-at f k) (r text₀ (first₀ .meaning) (first₀ .means))
+
+reads-repeated : (f : Reader)
+    → ((text tape store : List ℕ) (m : Meaning) → Loose true text m → tapeBytes m ≤ length tape → bytes m ≤ length store → Counted (f text tape store .0))
+    → KeepsRead f → ⊥
+reads-repeated f r k =
+    let m = first₀ .meaning in
+    let t = unnamed (tapeBytes m) in
+    let s = unnamed (bytes m) in
+    let d = r text₀ t s m (first₀ .means) (omega (arith, le-length (tapeBytes m) 0)) (omega (arith, le-length (bytes m) 0)) in
+    not-counted (read-refuses (keys-twice .1) (k text₀ t s lent₀ (zeros (tapeBytes m) (omega (arith, fits₀ .few)))
+    (zeros (bytes m) (omega (arith, fits₀ .small))))) d
+
+checks-keys : (f : Checker)
+    → ((ps : List (List ℕ)) (p : ℕ) → Text-refused (joined ps) (RepeatedKey p) → answers f ps ≡ Answer.Refused (RepeatedKey p)) → KeepsCheck f → ⊥
+checks-keys f r k =
+    let m = first₀ .meaning in
+    let ps = text₀ ∷ [] in
+    let e = one-outcome-loosely text₀ (answers f ps) (Answer.Counts (records m) (bytes m)) (k ps lent₀) (Loosely.sizes (first₀ .means) refl) in
+    not-counted (r ps 8 (keys-twice .1)) (records m, bytes m, e)
+
 -- ---- a text in parts
 
 module _ (f : Checker) (k : KeepsCheck f) where
   counted-parts : {m : Meaning} → Small m → (ps : List (List ℕ)) → canonical m ≡ joined ps → answers f ps ≡ Answer.Counts (records m) (bytes m)
   counted-parts {m} s ps e =
-      let x : Text true (joined ps) m = subst (λ (t : List ℕ). Text true t m) e (derived s) in
-      measured (k ps (text-lent x)) .then m x .answer
+      let x : Loose true (joined ps) m = subst (λ (t : List ℕ). Loose true t m) e (loosely s) in
+      one-outcome-loosely (joined ps) (answers f ps) (Answer.Counts (records m) (bytes m)) (k ps (text-lent x)) (Loosely.sizes x refl)
 
   -- two texts of one and of two records are not told apart
   not-apart : (ps qs : List (List ℕ)) → canonical null ≡ joined ps → canonical (array (more none null)) ≡ joined qs → answers f ps ≡ answers f qs → ⊥
@@ -411,6 +506,8 @@ impostors =
       counts-records = counts-records;
       older-jaxn = older-jaxn;
       older-json = older-json;
+      repeated-jaxn = repeated-jaxn;
+      repeated-json = repeated-json;
       one-text-jaxn = one-text-jaxn;
       one-text-json = one-text-json;
       copies = copies;
@@ -419,6 +516,10 @@ impostors =
       counts-all = counts-all;
       misplaces = misplaces;
       misplaces-reading = misplaces-reading;
+      earlier-key = earlier-key;
+      measures-repeated = measures-repeated;
+      reads-repeated = reads-repeated;
+      checks-keys = checks-keys;
       one-answer = one-answer;
       forgets = forgets;
       first-only = first-only;

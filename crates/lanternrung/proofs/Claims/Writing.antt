@@ -15,7 +15,7 @@ use Rattle.meaning.specs.Tape.{bytes, tapeOf, storeOf, WellFormed}
 use Rattle.meaning.specs.Canonical.{canonical}
 use Rattle.meaning.specs.Json.{noJson, json}
 use Rattle.meaning.proofs.Whole.{one-meaning, tape-length, well-formed-length}
-use Rattle.grammar.specs.Values.{Text}
+use Rattle.grammar.specs.Values.{Loose, Text}
 use Rattle.grammar.proofs.Good.{text-good}
 use Rattle.grammar.proofs.Sizes.{text-fits}
 use Rattle.grammar.proofs.Canonical.{text-derived}
@@ -72,8 +72,8 @@ module _ {tape store out : List ℕ} where
       prints : (w : WellFormed tape store) → noJson (w .meaning) ≡ none → Room (canonical (w .meaning)) out → Prints (canonical (w .meaning)) out a out'
       prints w f r = printed r (writer.written-json w f p)
 
-text-length : {t : List ℕ} {m : Meaning} → Text true t m → length t ≤ textLimit
-text-length (Text.text w v l h) = h
+pub text-length : {t : List ℕ} {m : Meaning} → Loose true t m → length t ≤ textLimit
+text-length (Loose.text w v l h) = h
 
 filled : {text tape store : List ℕ} {r s : ℕ} {tape' store' : List ℕ} → Reads text tape store (Answer.Counts r s) tape' store'
     → (w : WellFormed (take (r * 16) tape') (take s store')) × Text true text (w .meaning)
@@ -81,8 +81,8 @@ filled {text} {tape} {store} {r} {s} {tape'} {store'} p =
     let h = read-accepts text tape store r s tape' store' p in
     let m = h .meaning in
     let x = h .text-means in
-    let f = text-fits x in
-    let l = text-length x in (
+    let f = text-fits (x .loose) in
+    let l = text-length (x .loose) in (
       record {
         meaning = m;
         good = text-good x;

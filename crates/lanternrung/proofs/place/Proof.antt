@@ -49,6 +49,9 @@ enum-known-why-12 c = search needs
 enum-known-why-13 : tie.Need-enum-known-why-13
 enum-known-why-13 c = search needs
 
+enum-known-why-14 : tie.Need-enum-known-why-14
+enum-known-why-14 c = search needs
+
 returns : tie.Need-returns
 returns c = sym (ap placeOf (c .enum-told .given .1))
 
@@ -91,6 +94,9 @@ returns-13 c = sym (ap placeOf (c .before .why12 .given .1))
 returns-14 : tie.Need-returns-14
 returns-14 c = sym (ap placeOf (c .before .why13 .given .1))
 
+returns-15 : tie.Need-returns-15
+returns-15 c = sym (ap placeOf (c .before .why14 .given .1))
+
 pub place-spec : {M : Type 1} → statement M
 place-spec =
     tie.close
@@ -109,6 +115,7 @@ place-spec =
     enum-known-why-11
     enum-known-why-12
     enum-known-why-13
+    enum-known-why-14
     returns
     returns-2
     returns-3
@@ -122,4 +129,5 @@ place-spec =
     returns-11
     returns-12
     returns-13
-    returns-14)
+    returns-14
+    returns-15)

@@ -11,16 +11,18 @@ use Rattle.rules.specs.Rfc3629.{Judged}
 use Rattle.rules.specs.Rfc3339.{Dated}
 use Rattle.meaning.specs.declared.Record.{Record}
 use Rattle.meaning.specs.declared.Refusal.{Refusal}
+use Rattle.meaning.specs.Canonical.{canonical}
 use Rattle.meaning.specs.Good.{Bytes}
+use Rattle.meaning.specs.Letters.{letters}
 use Rattle.meaning.specs.Look.{wholeRecords}
-use Rattle.meaning.specs.Meaning.{Meaning, Members, null, object}
+use Rattle.meaning.specs.Meaning.{Meaning, Members, null, object, bare, member}
 use Rattle.meaning.specs.Tape.{records, membersRecords, bytes, recordsBytes, tapeOf, storeOf}
-use Rattle.grammar.specs.Values.{Text}
+use Rattle.grammar.specs.Values.{Loose, Text}
 use Rattle.grammar.specs.Refused.{Text-refused}
 use Rattle.tape.specs.declared.Looked.{Looked}
 use Rattle.tape.specs.Looking.{Looks}
 use Rattle.reader.specs.declared.Answer.{Answer}
-use Rattle.reader.specs.Answers.{Measures, Reads}
+use Rattle.reader.specs.Answers.{tapeBytes, Measures, Loosely, Reads}
 use Rattle.arriving.specs.Between.Arriving.{joined}
 use Rattle.writer.specs.declared.Written.{Written}
 use Rattle.writer.specs.Written.{WritesJaxn, WritesJson}
@@ -90,7 +92,7 @@ abbrev pub answers : Checker → List (List ℕ) → Answer
 answers f ps = f .finish (after f (f .start) ps)
 
 abbrev pub KeepsCheck : Checker → Type 0
-KeepsCheck f = (ps : List (List ℕ)) → Lent (joined ps) → Measures (joined ps) (answers f ps)
+KeepsCheck f = (ps : List (List ℕ)) → Lent (joined ps) → Loosely (joined ps) (answers f ps)
 
 -- whatever it writes is the text t
 abbrev pub WritesOnly : List ℕ → Writer → Type 0
@@ -100,6 +102,15 @@ WritesOnly t f = (tape store out : List ℕ) (n : ℕ) → f tape store out .0 �
 -- `[null]` as it was taped before there were counts
 abbrev pub olderTape : List ℕ
 olderTape = recordsBytes (Record.Array 0 2 ∷ Record.Null ∷ [])
+
+-- `{"a":null,"a":null}`, which no text means
+abbrev pub twice : Meaning
+twice = object (member (member bare (letters "a") null) (letters "a") null)
+
+-- prints the canonical text of its tape, where there is room
+abbrev pub PrintsTwice : Writer → Type 0
+PrintsTwice f = (out : List ℕ) → length (canonical twice) ≤ length out
+    → Prints (canonical twice) out (f (tapeOf twice) (storeOf twice) out .0) (f (tapeOf twice) (storeOf twice) out .1)
 
 pub record Impostors : Type 0 where
   -- a reader that refuses everything, for whatever reason
@@ -124,6 +135,9 @@ pub record Impostors : Type 0 where
   -- a writer that takes a tape from before there were counts
   pub older-jaxn : (f : Writer) → ((out : List ℕ) → Wrote (f olderTape [] out .0)) → KeepsJaxn f → ⊥
   pub older-json : (f : Writer) → ((out : List ℕ) → Wrote (f olderTape [] out .0)) → KeepsJson f → ⊥
+  -- a writer that prints an object with two equal keys
+  pub repeated-jaxn : (f : Writer) → PrintsTwice f → KeepsJaxn f → ⊥
+  pub repeated-json : (f : Writer) → PrintsTwice f → KeepsJson f → ⊥
   -- a writer that always prints one text, or refuses
   pub one-text-jaxn : (f : Writer) (t : List ℕ) → WritesOnly t f → KeepsJaxn f → ⊥
   pub one-text-json : (f : Writer) (t : List ℕ) → WritesOnly t f → KeepsJson f → ⊥
@@ -143,6 +157,20 @@ pub record Impostors : Type 0 where
       → (f text ≡ Answer.Refused why → ⊥) → KeepsMeasure f → ⊥
   pub misplaces-reading : (f : Reader) {text : List ℕ} {why : Refusal} → Lent text → Text-refused text why
       → (f text [] [] .0 ≡ Answer.Refused why → ⊥) → KeepsRead f → ⊥
+  -- a measure that answers 15 at an earlier place, as that of the key which is repeated; a measure, and a reader, that
+  -- takes a text with repeated keys
+  pub earlier-key : (f : Measurer)
+      → ((text : List ℕ) (p : ℕ) → Text-refused text (Refusal.RepeatedKey p)
+      → (q : ℕ) × (q < p) × (f text ≡ Answer.Refused (Refusal.RepeatedKey q))) → KeepsMeasure f → ⊥
+  pub measures-repeated : (f : Measurer) → ((text : List ℕ) (m : Meaning) → Loose true text m → Counted (f text))
+      → KeepsMeasure f → ⊥
+  pub reads-repeated : (f : Reader)
+      → ((text tape store : List ℕ) (m : Meaning) → Loose true text m → tapeBytes m ≤ length tape
+      → bytes m ≤ length store → Counted (f text tape store .0)) → KeepsRead f → ⊥
+  -- a check that answers 15
+  pub checks-keys : (f : Checker)
+      → ((ps : List (List ℕ)) (p : ℕ) → Text-refused (joined ps) (Refusal.RepeatedKey p)
+      → answers f ps ≡ Answer.Refused (Refusal.RepeatedKey p)) → KeepsCheck f → ⊥
   -- a check that answers the same whatever parts come; one that forgets all but the last part; one that takes the first
   -- part only
   pub one-answer : (f : Checker) (a : Answer) → ((ps : List (List ℕ)) → answers f ps ≡ a) → KeepsCheck f → ⊥

@@ -58,6 +58,12 @@ samples =
     ∷ (letters "\"\\ud834\"+\"\\udd1e\"", refused 4 1)
     -- empty binary
     ∷ (letters "$", taken (binary []) (letters "$"))
+    -- two keys that repeat an earlier one: at the first
+    ∷ (letters "{\"a\":1,b:2,a:3,b:4}", refused 15 11)
+    -- one in an object within
+    ∷ (letters "{a:{b:1,b:2},a:3}", refused 15 8)
+    -- 1 to 7 come before 15
+    ∷ (letters "{a:1,a:1e99999}", refused 6 7)
     ∷ []
 
 -- ---- the slips to rule out that are a text read amiss
