@@ -75,7 +75,9 @@ enum lr_refusal {
     /* written text over 16,777,216 bytes; place: length it would have */
     LR_WRITTEN_TOO_LONG = 13,
     /* index not below the number of whole records; place: the index */
-    LR_NO_SUCH_RECORD = 14
+    LR_NO_SUCH_RECORD = 14,
+    /* repeated key: an object holds two equal keys; place: first byte of the first key in the text that repeats an earlier one */
+    LR_REPEATED_KEY = 15
 };
 /* refusals: end. docs/REFUSALS.md says of each what was found, and what to do. */
 

@@ -52,6 +52,9 @@ static void reading(void)
     lr_sizes long_text = lanternrung_measure(big, 16777217);
     assert(long_text.refused == LR_TEXT_TOO_LONG && long_text.place == 16777216);
 
+    lr_sizes twice = lanternrung_measure(text("{a: 1, 'a': 2}"), 14);
+    assert(twice.refused == LR_REPEATED_KEY && twice.place == 7);
+
     lr_sizes short_tape = lanternrung_read(text("[1, NaN]"), 8, tape, 32, NULL, 0);
     assert(short_tape.refused == LR_TAPE_TOO_SHORT && short_tape.place == 48);
 

@@ -1,9 +1,11 @@
 //! Texts at the limit of 16,777,216 bytes and one byte over it, tapes at their limits, and how the time grows: a figure, not a
 //! test.
 
-use crate::archive;
+use crate::archive::{self, LrSizes, LrWritten};
 use crate::check::{self, same, Check, Effort};
+use crate::collide;
 use crate::parts::sliced;
+use second::Refusal;
 use std::hint::black_box;
 
 /// A text of just `size` bytes: `before`, `piece` as often as it fits, `filler` until it is full, `after`.
@@ -47,7 +49,7 @@ fn kinds() -> Vec<Kind> {
         kind("bytes joined", "$", "+$", b' ', "+$'\\x41'"),
         kind("nested arrays at the limit", "[", &nested, b' ', "]"),
         kind("one key", "{", "k", b'k', ":1}"),
-        kind("many short keys", "{", "a:1,", b' ', "}"),
+        kind("many short keys", "[", "{a:1,b:2},", b' ', "]"),
         kind("many numbers", "[", "1,", b' ', "]"),
         kind("times", "[", "2021-03-04 05:06:07.5-01:30,", b' ', "]"),
         kind("comments only", "", "/**/#\n", b' ', ""),
@@ -83,12 +85,133 @@ pub fn all() -> u64 {
         stop_at(name, check::tape(&tape, &store, Effort::One(0)));
         n += 1;
     }
-    n
+    n + keys()
+}
+
+/// The worst texts and the worst tape for the search for repeated keys, each once, since some take seconds.
+fn keys() -> u64 {
+    println!("| keys, 16 MiB | outcome | measure s | write s |");
+    println!("|---|---|---|---|");
+    let mut n = 0;
+    for (name, text) in key_texts() {
+        stop_at(name, keyed(name, &text));
+        n += 1;
+    }
+    let (tape, store) = shortest_keys_on_tape();
+    let (answer, took) = timed(|| archive::write_jaxn(&tape, &store, &mut []));
+    let should = second::decode(&tape, &store).map(|value| second::place_text(&second::canonical(&value), &mut []));
+    let call = || "write_jaxn (output of 0 bytes)".to_string();
+    stop_at("shortest keys on a tape", same(call, answer, LrWritten::from(should.expect("well formed"))));
+    println!("| shortest keys on a tape | {} keys | - | {took:.2} |", tape.len() / 32);
+    n + 1
+}
+
+/// An object with these keys, as many as fit into 16 MiB, each with this after it.
+fn object(keys: impl Iterator<Item = Vec<u8>>, value: &str) -> Vec<u8> {
+    let mut text = b"{".to_vec();
+    for key in keys {
+        if text.len() + key.len() + value.len() > FULL - 1 {
+            break;
+        }
+        text.extend(key);
+        text.extend(value.bytes());
+    }
+    text.push(b'}');
+    text
+}
+
+/// As many of a text side by side, in an array, as fit into 16 MiB.
+fn many(one: &[u8]) -> Vec<u8> {
+    let mut text = b"[".to_vec();
+    while text.len() + one.len() < FULL - 1 {
+        text.extend(one);
+        text.push(b',');
+    }
+    text.push(b']');
+    text
+}
+
+/// Two keys of 8 MiB, the second with this last letter.
+fn long_keys(last: char) -> Vec<u8> {
+    let key = "k".repeat(FULL / 2 - 6);
+    format!("{{{key}k:1,'{key}{last}':2}}").into_bytes()
+}
+
+/// Texts that take many windows, with many objects, with long keys, and with keys of one bucket.
+fn key_texts() -> impl Iterator<Item = (&'static str, Vec<u8>)> {
+    type Make = fn() -> Vec<u8>;
+    let all: [(&'static str, Make); 10] = [
+        ("shortest keys", || object(collide::names(), ":1,")),
+        ("keys of 11 letters", || object((0..).map(|n| format!("\"key{n:08}\"").into_bytes()), ":1234,")),
+        ("keys of 88 bytes that begin alike", || {
+            object((0..).map(|n| format!("\"{}{n:010}\"", "/long/".repeat(13)).into_bytes()), ":1,")
+        }),
+        ("keys of one bucket", || collide::text(FULL, 0, 128)),
+        ("62 objects of 30 keys in each other", || many(&crate::keys::deep(62, 30, None))),
+        ("objects of 5,000 keys", || many(&object(collide::names().take(5_000), ":1,"))),
+        ("the last of many keys twice", || {
+            let mut text = object(collide::names().take(1_000_000), ":1,");
+            text.truncate(text.len() - 1);
+            [&text[..], b"'A':1}"].concat()
+        }),
+        ("one key, many times", || object(std::iter::repeat(b"a".to_vec()), ":1,")),
+        ("two long keys, the same", || long_keys('k')),
+        ("two long keys but for the last letter", || long_keys('l')),
+    ];
+    all.into_iter().map(|(name, make)| (name, make()))
+}
+
+/// A text of keys through measure, a check in parts and write, once each.
+fn keyed(name: &str, text: &[u8]) -> Check {
+    let (value, repeated) = second::parse_all(text).expect("a text");
+    let (tape, store) = second::tape(&value);
+    let sizes = second::sizes(&tape, &store);
+    let (answer, measure) = timed(|| archive::measure(text));
+    same(|| "measure".into(), answer, LrSizes::from(repeated.map_or(Ok(sizes), Err)))?;
+    same(|| "check in parts of 4096".into(), sliced(text, 4096), LrSizes::from(Ok(sizes)))?;
+    let (mut out, mut full) = (vec![1; FULL], vec![1; FULL]);
+    let (answer, write) = timed(|| archive::write_jaxn(&tape, &store, &mut out));
+    let should = match repeated {
+        Some(_) => Err(Refusal::new(10, 0)),
+        None => second::place_text(&second::canonical(&value), &mut full),
+    };
+    same(|| "write_jaxn".into(), answer, LrWritten::from(should))?;
+    same(|| "write_jaxn, what is written".into(), out == full, true)?;
+    let outcome = repeated.map_or(format!("{} records, {} bytes", sizes.records, sizes.bytes), |r| {
+        format!("{} at {}", r.number, r.place)
+    });
+    println!("| {name} | {outcome} | {measure:.2} | {write:.2} |");
+    Ok(())
+}
+
+/// An object of as many keys as a store of 16 MiB holds: all of one, two and three characters, and then of four.
+fn shortest_keys_on_tape() -> (Vec<u8>, Vec<u8>) {
+    let (mut keys, mut store) = (Vec::new(), Vec::new());
+    for n in (1..=4).flat_map(|length| (0..128u32.pow(length)).map(move |n| (length, n))) {
+        let key: Vec<u8> = (0..n.0).map(|place| (n.1 >> (7 * place) & 127) as u8).collect();
+        if store.len() + key.len() > FULL {
+            break;
+        }
+        keys.extend([record(b"ky", key.len(), store.len()), record(b"nu", 0, 0)].concat());
+        store.extend(key);
+    }
+    let members = keys.len() / 32;
+    ([record(b"ob", members, 1 + 2 * members), keys].concat(), store)
+}
+
+/// An answer, and how many seconds it took.
+fn timed<T>(call: impl FnOnce() -> T) -> (T, f64) {
+    let start = now();
+    let answer = call();
+    (answer, now() - start)
 }
 
 /// A text checked in parts of some sizes, one of them no power of two.
 fn in_parts(text: &[u8]) -> Check {
-    let should = archive::measure(text);
+    let should = match archive::measure(text) {
+        told if told.refused == 15 => LrSizes::from(second::check(text)),
+        told => told,
+    };
     [4096, 61].into_iter().try_for_each(|size| same(|| format!("check in parts of {size}"), sliced(text, size), should))
 }
 

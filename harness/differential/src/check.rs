@@ -79,20 +79,23 @@ fn same_buffer(call: impl FnOnce() -> String, got: &Lent, should: &Lent) -> Chec
     Err(Mismatch { call: call(), got: show(got), should: show(should) })
 }
 
-/// The second reader's reading of a text, made once for all calls.
+/// The second reader's reading of a text, made once for all calls. Where a key is repeated, there are a value and a tape too: the check in
+/// parts answers its sizes, and the writers refuse it.
 struct Reading {
     value: Option<Value>,
     answer: Result<second::Sizes, Refusal>,
+    in_parts: Result<second::Sizes, Refusal>,
     tape: Vec<u8>,
     store: Vec<u8>,
 }
 
 fn reading(text: &[u8]) -> Reading {
-    match second::parse(text) {
-        Err(r) => Reading { value: None, answer: Err(r), tape: Vec::new(), store: Vec::new() },
-        Ok(value) => {
+    match second::parse_all(text) {
+        Err(r) => Reading { value: None, answer: Err(r), in_parts: Err(r), tape: Vec::new(), store: Vec::new() },
+        Ok((value, repeated)) => {
             let (tape, store) = second::tape(&value);
-            Reading { value: Some(value), answer: Ok(second::sizes(&tape, &store)), tape, store }
+            let sizes = second::sizes(&tape, &store);
+            Reading { value: Some(value), answer: repeated.map_or(Ok(sizes), Err), in_parts: Ok(sizes), tape, store }
         }
     }
 }
@@ -109,7 +112,8 @@ pub fn lent<R>(guard: &'static LocalKey<RefCell<Guard>>, with: impl FnOnce(&mut 
     guard.with(|g| with(&mut g.borrow_mut()))
 }
 
-/// A text through utf8, measure, a check in parts and read; where it is accepted, its tape through look and the writers.
+/// A text through utf8, measure, a check in parts and read; where it is accepted or has a repeated key, its tape through look and the
+/// writers.
 pub fn text(text: &[u8], effort: Effort) -> Check {
     let should = reading(text);
     lent(&TEXT, |guard| {
@@ -118,7 +122,7 @@ pub fn text(text: &[u8], effort: Effort) -> Check {
         same(|| "the text after the calls".into(), placed == text, true)
     })?;
     match &should.value {
-        Some(value) => tape_calls(Some(value), &should.tape, &should.store, effort),
+        Some(value) => tape_calls(should.answer.ok().map(|_| value), &should.tape, &should.store, effort),
         None => Ok(()),
     }
 }
@@ -126,7 +130,7 @@ pub fn text(text: &[u8], effort: Effort) -> Check {
 fn read_calls(text: &[u8], should: &Reading, effort: Effort) -> Check {
     same(|| "utf8".into(), archive::utf8(text), LrStatus::from(second::utf8(text)))?;
     same(|| "measure".into(), archive::measure(text), LrSizes::from(should.answer))?;
-    parts::text(text, LrSizes::from(should.answer), effort)?;
+    parts::text(text, LrSizes::from(should.in_parts), effort)?;
     for (tape_length, store_length) in read_lengths(should, effort) {
         read(text, should, tape_length, store_length)?;
     }
@@ -167,8 +171,10 @@ fn crossed(tapes: &[usize], stores: &[usize]) -> Vec<(usize, usize)> {
 
 fn read_lengths(should: &Reading, effort: Effort) -> Vec<(usize, usize)> {
     let (t, s) = (should.tape.len(), should.store.len());
-    if should.value.is_none() {
-        return vec![(0, 0), (48, 16)];
+    match should.answer {
+        Err(r) if r.number == 15 => return vec![(0, 0), (t, 0), (t, s), (t + 16, s + 1)],
+        Err(_) => return vec![(0, 0), (48, 16)],
+        Ok(_) => {}
     }
     let (tapes, stores) = (around(t, &[-17, -16, -15, -1, 0, 1, 15, 16, 33]), around(s, &[-2, -1, 0, 1, 2, 20]));
     let edges = crossed(&tapes, &stores);
@@ -263,9 +269,7 @@ fn broken(tape: &[u8], store: &[u8]) -> Check {
 /// Bytes that are no text, through utf8 alone.
 pub fn utf8(bytes: &[u8]) -> Check {
     let should = LrStatus::from(second::utf8(bytes));
-    lent(&TEXT, |guard| {
-        same(|| format!("utf8 {}", bytes.escape_ascii()), archive::utf8(guard.place(bytes)), should)
-    })
+    lent(&TEXT, |guard| same(|| format!("utf8 {}", bytes.escape_ascii()), archive::utf8(guard.place(bytes)), should))
 }
 
 pub fn date(year: u64, month: u64, day: u64) -> Check {

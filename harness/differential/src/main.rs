@@ -1,16 +1,19 @@
 //! Compares the archive with the second reader, call by call, and prints how many cases it ran.
 //!
-//!     differential [--seed N] [--count N] [--big] [--program PATH] [--trace]
+//!     differential [--seed N] [--count N] [--big] [--program PATH] [--keys] [--collide SIZE BEFORE SLOTS] [--trace]
 //!
 //! `--count` is the number of random texts; `--big` adds texts of 16,777,216 bytes, `--program` the program's own input and
-//! output; `--trace` prints each case to standard error before it is run. A mismatch prints the shortened case and ends the
+//! output; `--keys` runs only the texts and tapes that are full of keys (for `harness/small`); `--collide SIZE BEFORE SLOTS` runs
+//! nothing and writes a text of keys that fall into one bucket, after some others (`collide`); `--trace` prints each case to standard error before it is run. A mismatch prints the shortened case and ends the
 //! driver with status 1.
 
 mod archive;
 mod big;
 mod check;
+mod collide;
 mod counted;
 mod guard;
+mod keys;
 mod parts;
 mod program;
 mod random;
@@ -22,6 +25,7 @@ mod tapes;
 
 use check::{Check, Effort, Mismatch};
 use random::Random;
+use std::io::Write;
 use std::time::Instant;
 
 struct Options {
@@ -29,11 +33,21 @@ struct Options {
     count: u64,
     big: bool,
     program: Option<String>,
+    keys: bool,
+    collide: Option<[usize; 3]>,
     trace: bool,
 }
 
 fn options() -> Options {
-    let mut o = Options { seed: 20_260_101, count: 300_000, big: false, program: None, trace: false };
+    let mut o = Options {
+        seed: 20_260_101,
+        count: 300_000,
+        big: false,
+        program: None,
+        keys: false,
+        collide: None,
+        trace: false,
+    };
     let mut words = std::env::args().skip(1);
     while let Some(word) = words.next() {
         let mut number = || words.next().and_then(|n| n.parse().ok()).expect("a number after the option");
@@ -42,6 +56,8 @@ fn options() -> Options {
             "--count" => o.count = number(),
             "--big" => o.big = true,
             "--program" => o.program = words.next(),
+            "--keys" => o.keys = true,
+            "--collide" => o.collide = Some([(); 3].map(|()| number() as usize)),
             "--trace" => o.trace = true,
             other => panic!("no such option: {other}"),
         }
@@ -114,8 +130,8 @@ fn close(short: Check, long: Mismatch) -> ! {
 
 /// The stated cases, with every buffer length. The texts are answered, to be damaged later.
 fn stated(run: &mut Run) -> Vec<Vec<u8>> {
-    use second::cases::{further, readings, rfc8259, rules, samples, specification};
-    let listed = [rules(), specification(), rfc8259(), readings(), further()].concat();
+    use second::cases::{further, keys, readings, rfc8259, rules, samples, specification};
+    let listed = [rules(), specification(), rfc8259(), readings(), further(), keys()].concat();
     for case in &listed {
         run.text(&case.text, Effort::Every);
         let outcome = match second::parse(&case.text) {
@@ -209,6 +225,70 @@ fn widths(run: &mut Run) {
     for n in (254..259).chain(65_534..65_539) {
         for (open, one, close) in [("[", "0,", "]"), ("{", "a:[],", "}"), ("[[", "0,", "],{}]")] {
             run.text(format!("{open}{}{close}", one.repeat(n)).as_bytes(), Effort::One(n));
+        }
+        run.text(&keys::wide(n, &[]), Effort::One(n));
+    }
+}
+
+/// Keys in all their spellings, beside each other and in objects in each other.
+fn spelled_keys(run: &mut Run) {
+    let quick = |run: &mut Run, t: &[u8]| run.text(t, Effort::One(run.texts as usize));
+    keys::pairs(|t| quick(run, t));
+    keys::members(|t| quick(run, t));
+    keys::nests(6, |t| quick(run, t));
+}
+
+/// Objects of as many keys as fill the first table, the second and one of the widest, and of some more or less; objects in each other.
+fn many_keys(run: &mut Run) {
+    let quick = |run: &mut Run, t: &[u8]| run.text(t, Effort::One(run.texts as usize));
+    keys::wides((4..12).chain(120..135).chain(4_215..4_235).chain([70_000]), |t| quick(run, t));
+    let both = |few: usize| (120..131).flat_map(move |many| [(few, many), (many, few), (many / 2 - few, many / 2)]);
+    keys::nested((0..5).flat_map(both), |t| quick(run, t));
+    for (depth, n) in [(63, 1), (64, 2), (62, 30), (64, 66), (3, 42), (40, 110)] {
+        for again in [None, Some(0), Some(1), Some(depth / 2), Some(depth - 1)] {
+            quick(run, &keys::deep(depth, n, again));
+        }
+    }
+}
+
+/// Tapes in which a key has the bytes of another: every two of a tape with many objects, and some of an object that fills tables.
+fn renamed_keys(run: &mut Run, sizes: &[usize]) {
+    let of = |text: &[u8]| second::tape(&second::parse(text).expect("a text"));
+    let (tape, store) = of(tapes::KEYED.as_bytes());
+    run.tape(&tape, &store, Effort::Edges);
+    for (to, from) in
+        tapes::keys(&tape, &store).into_iter().flat_map(|a| tapes::keys(&tape, &store).into_iter().map(move |b| (a, b)))
+    {
+        let (tape, store) = tapes::renamed(&tape, &store, to, from);
+        run.tape(&tape, &store, Effort::Edges);
+    }
+    for &n in sizes {
+        let (tape, store) = of(&keys::wide(n, &[]));
+        let all = tapes::keys(&tape, &store);
+        run.tape(&tape, &store, Effort::One(0));
+        for (to, from) in [(n - 1, 0), (0, n - 1), (1, 0), (n / 2, 0), (n - 1, n / 2), (n - 1, n - 2)] {
+            let (tape, store) = tapes::renamed(&tape, &store, all[to], all[from]);
+            run.tape(&tape, &store, Effort::One(0));
+        }
+    }
+}
+
+/// Random texts that are full of keys; of each its tape, with keys renamed.
+fn random_keys(run: &mut Run, seed: u64, count: u64, limit: usize) {
+    let mut r = Random::new(seed);
+    for _ in 0..count {
+        let mut text = keys::text(&mut r, limit);
+        if r.one_in(8) {
+            random::damage(&mut r, &mut text);
+        }
+        run.text(&text, if r.one_in(64) { Effort::Edges } else { Effort::One(r.below(1000)) });
+        let Ok((value, _)) = second::parse_all(&text) else { continue };
+        let (tape, store) = second::tape(&value);
+        let all = tapes::keys(&tape, &store);
+        if !all.is_empty() {
+            let (to, from) = (all[r.below(all.len())], all[r.below(all.len())]);
+            let (tape, store) = tapes::renamed(&tape, &store, to, from);
+            run.tape(&tape, &store, Effort::One(r.below(1000)));
         }
     }
 }
@@ -304,10 +384,31 @@ fn dates() -> u64 {
     n
 }
 
+/// What is full of keys alone, with objects that fit tables of a few slots.
+fn only_keys(run: &mut Run, seed: u64, count: u64) {
+    second::cases::keys().iter().for_each(|case| run.text(&case.text, Effort::Edges));
+    spelled_keys(run);
+    let quick = |run: &mut Run, t: &[u8]| run.text(t, Effort::One(run.texts as usize));
+    keys::wides((4..20).chain([100]), |t| quick(run, t));
+    keys::nested((0..7).flat_map(|n| (0..7).map(move |m| (n, m))), |t| quick(run, t));
+    for (depth, n) in (1..8).flat_map(|depth| (1..5).map(move |n| (depth, n))).chain([(64, 1)]) {
+        (0..depth).map(Some).chain([None]).for_each(|again| quick(run, &keys::deep(depth, n, again)));
+    }
+    renamed_keys(run, &[4, 5, 6, 7, 8, 9, 10, 100]);
+    random_keys(run, seed, count, 20);
+}
+
 fn main() {
     let o = options();
     let start = Instant::now();
     let mut run = Run { trace: o.trace, texts: 0, accepted: 0, tapes: 0, bytes: 0 };
+    if let Some([size, before, slots]) = o.collide {
+        return std::io::stdout().write_all(&collide::text(size, before, slots as u32)).expect("it is written");
+    }
+    if o.keys {
+        only_keys(&mut run, o.seed, o.count);
+        return last_line(&run, start);
+    }
     let say = |what: &str, run: &Run| {
         println!("{what}: {} texts, {} tapes so far, {:.1} s", run.texts, run.tapes, start.elapsed().as_secs_f64())
     };
@@ -315,6 +416,11 @@ fn main() {
     say("stated cases", &run);
     systematic(&mut run);
     say("systematic", &run);
+    spelled_keys(&mut run);
+    many_keys(&mut run);
+    renamed_keys(&mut run, &[126, 127, 128, 129, 4_220, 4_225, 70_000]);
+    random_keys(&mut run, o.seed, o.count / 10, 200);
+    say("keys", &run);
     counted(&mut run);
     say("values around their limits", &run);
     counted_tapes(&mut run);
@@ -332,11 +438,10 @@ fn main() {
     if o.big {
         println!("{} big texts and tapes", big::all());
     }
-    println!(
-        "differential: {} texts and {} tapes agree in {} calls, {:.0} s",
-        run.texts,
-        run.tapes,
-        archive::calls(),
-        start.elapsed().as_secs_f64()
-    );
+    last_line(&run, start);
+}
+
+fn last_line(run: &Run, start: Instant) {
+    let (calls, took) = (archive::calls(), start.elapsed().as_secs_f64());
+    println!("differential: {} texts and {} tapes agree in {calls} calls, {took:.0} s", run.texts, run.tapes);
 }

@@ -1,4 +1,4 @@
-//! A text through a check in parts, cut in many ways: the finish answers what `measure` answers for the text, on both sides. The
+//! A text through a check in parts, cut in many ways: the finish answers what `measure` answers for the text with 15 left out. The
 //! state lies between margins and is filled with a pattern before the start; parts end at a wall.
 
 use crate::archive::{self, LrSizes, CHECK_BYTES};
@@ -130,7 +130,7 @@ pub fn wild(seed: u64, count: u64, texts: &[Vec<u8>]) -> u64 {
             feed(&mut state, &text[r.below(text.len() + 1)..]);
         }
         let answer = archive::check_finish(state.part());
-        let told = answer.refused <= 14 && (answer.refused == 0 || answer.records + answer.bytes == 0);
+        let told = answer.refused <= 15 && (answer.refused == 0 || answer.records + answer.bytes == 0);
         assert!(told && state.margins_stand(n as u8), "a state by hand: {answer:?}");
     }
     count

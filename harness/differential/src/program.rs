@@ -1,5 +1,6 @@
 //! The program, by its standard input and output, against `second::program`.
 
+use crate::keys;
 use crate::random::{self, Random};
 use std::io::{Read, Write};
 use std::process::{Command, Stdio};
@@ -50,6 +51,11 @@ fn sizes() -> Vec<Vec<u8>> {
     for n in 4_093..=4_097 {
         all.push(format!("[{}1]", "1,".repeat(n)).into_bytes());
         all.push(format!("[{}x", "1,".repeat(n)).into_bytes());
+    }
+    for n in [2_046, 2_047, 2_048, 5_000] {
+        all.push(keys::wide(n, &[]));
+        all.push(keys::wide(n, &[(0, n - 1)]));
+        all.push(keys::wide(n, &[(n / 2, n - 1)]));
     }
     all.push(format!("\"{}\"", "\\0".repeat(32_767)).into_bytes());
     all.push(format!("\"{}\"", "\\0".repeat(10_922)).into_bytes());

@@ -1,5 +1,7 @@
 //! Texts made by chance from a fixed seed: grown along the grammar, then often damaged.
 
+use crate::keys::Drawn;
+
 /// A small fixed-seed generator (xorshift64*).
 pub struct Random(u64);
 
@@ -124,7 +126,7 @@ const PIECES: &[&[u8]] = &[
 /// The bytes that mean something to some rule.
 const SIGNS: &[u8] = b"\"'\\/*#$+-:,.[]{}\n\r 019TtZzeExu";
 
-fn damage(r: &mut Random, text: &mut Vec<u8>) {
+pub fn damage(r: &mut Random, text: &mut Vec<u8>) {
     let at = r.below(text.len() + 1);
     match r.below(8) {
         0 => text.truncate(at),
@@ -151,7 +153,7 @@ fn run(r: &mut Random, out: &mut Vec<u8>, bytes: &[u8]) {
     }
 }
 
-fn layout(r: &mut Random, out: &mut Vec<u8>) {
+pub fn layout(r: &mut Random, out: &mut Vec<u8>) {
     run(r, out, b" \n\t\r");
     while r.one_in(5) {
         let pieces: &[&[u8]] = &[
@@ -182,7 +184,10 @@ fn value(r: &mut Random, depth: usize, out: &mut Vec<u8>) {
         6 | 7 => joined(r, out, string_part),
         8 | 9 => joined(r, out, binary_part),
         10..=12 => container(r, out, b"[]", |r, out| value(r, depth + 1, out)),
-        _ => container(r, out, b"{}", |r, out| member(r, depth + 1, out)),
+        _ => {
+            let mut keys = Drawn::new(r);
+            container(r, out, b"{}", |r, out| member(r, depth + 1, &mut keys, out))
+        }
     }
 }
 
@@ -210,11 +215,12 @@ fn container(
     (0..deep).for_each(|_| out.push(b']'));
 }
 
-fn member(r: &mut Random, depth: usize, out: &mut Vec<u8>) {
-    match r.below(3) {
+fn member(r: &mut Random, depth: usize, keys: &mut Drawn, out: &mut Vec<u8>) {
+    match r.below(9) {
         0 => out.extend(r.pick(&["a", "$", "_9", "true", "NaN", "e5", "T", "eta", "aZ0$"]).bytes()),
-        1 => joined(r, out, string_part),
-        _ => string_part(r, out),
+        1 | 2 => joined(r, out, string_part),
+        3 => string_part(r, out),
+        _ => keys.next(r, out),
     }
     layout(r, out);
     out.push(b':');
@@ -284,8 +290,9 @@ fn time(r: &mut Random, out: &mut Vec<u8>) {
         text += &format!(".{}", r.digits(n));
     }
     if dated && r.one_in(2) {
-        text +=
-            r.pick(&["Z", "z", "+00:00", "-00:00", "+23:59", "-23:59", "-00:01", "+01:30", "+24:00", "-12:60", "+22:60"]);
+        text += r.pick(&[
+            "Z", "z", "+00:00", "-00:00", "+23:59", "-23:59", "-00:01", "+01:30", "+24:00", "-12:60", "+22:60",
+        ]);
     }
     out.extend(text.bytes());
 }

@@ -3,8 +3,8 @@
 
 use crate::archive::{LrRecord, LrSizes, LrStatus, LrWritten};
 use crate::tapes;
-use second::{Refusal, Sizes, Written};
-use std::collections::VecDeque;
+use second::{Refusal, Sizes, Value, Written};
+use std::collections::{HashSet, VecDeque};
 use std::slice::{from_raw_parts, from_raw_parts_mut};
 use std::sync::{Mutex, OnceLock};
 
@@ -25,9 +25,98 @@ fn date(year: u64, month: u64, day: u64) -> Result<(), Refusal> {
     second::date(if fault() == 2 { year & 0xFFFF_FFFF } else { year }, month, day)
 }
 
+/// Whether some object has a key that it should not know of: one of the objects around it or, where `beside` is set, of those that closed
+/// before it.
+fn knows(value: &Value, keys: &mut Vec<String>, beside: bool) -> bool {
+    match value {
+        Value::Array(values) => values.iter().any(|v| knows(v, keys, beside)),
+        Value::Object(members) => {
+            let known = keys.len();
+            let own = || members.iter().map(|(key, _)| key.clone());
+            if own().any(|key| keys.contains(&key)) {
+                return true;
+            }
+            if !beside {
+                keys.extend(own());
+            }
+            let found = members.iter().any(|(_, v)| knows(v, keys, beside));
+            if beside {
+                keys.extend(own());
+            } else {
+                keys.truncate(known);
+            }
+            found
+        }
+        _ => false,
+    }
+}
+
+/// Whether the only keys that are repeated have 126 others before them in their object.
+fn beyond(value: &Value) -> bool {
+    fn near(value: &Value) -> bool {
+        match value {
+            Value::Array(values) => values.iter().any(near),
+            Value::Object(members) => {
+                let first: HashSet<&String> = members.iter().take(126).map(|(key, _)| key).collect();
+                members.iter().filter(|(key, _)| first.contains(key)).count() > first.len()
+                    || members.iter().any(|(_, v)| near(v))
+            }
+            _ => false,
+        }
+    }
+    !second::once(value) && !near(value)
+}
+
+/// Whether two keys of an object are the same but for their last byte.
+fn alike(value: &Value) -> bool {
+    match value {
+        Value::Array(values) => values.iter().any(alike),
+        Value::Object(members) => {
+            let begin = |key: &str| key.as_bytes()[..key.len().max(2) - 1].to_vec();
+            let long = || members.iter().filter(|(key, _)| key.len() > 1);
+            let begins: HashSet<Vec<u8>> = long().map(|(key, _)| begin(key)).collect();
+            begins.len() < long().count() || members.iter().any(|(_, v)| alike(v))
+        }
+        _ => false,
+    }
+}
+
+/// 15 as a search with this fault tells it. 40: keys are compared as they stand in the text; 41: the earlier key's place; 42: told before a
+/// 3 that comes later; 43: keys of the objects around are known too; 44: those of an object that has closed too; 45: only the first
+/// 126 keys of an object are known; 46: a key is taken for another one that begins like it; 47: of two, the one that is found last.
+fn repeated(text: &[u8], answer: Result<Sizes, Refusal>) -> Result<Sizes, Refusal> {
+    let raw = |at: usize| text[at..].iter().position(|b| *b == b':').map(|end| &text[at..at + end]);
+    let first = |place: usize| Err(Refusal::new(15, place));
+    match (fault(), answer, second::parse_all(text)) {
+        (40, Err(r), _) if r.number == 15 => {
+            let key = raw(r.place as usize).unwrap_or(b"");
+            if text[..r.place as usize].windows(key.len()).any(|w| w == key) {
+                answer
+            } else {
+                second::check(text)
+            }
+        }
+        (41, Err(r), _) if r.number == 15 => first(text.iter().position(|b| *b == b'{').unwrap_or(0) + 1),
+        (42, Err(r), _) if r.number == 3 => {
+            let closed = [&text[..r.place as usize], b"}"].concat();
+            second::measure(&closed).err().filter(|early| early.number == 15).map_or(answer, Err)
+        }
+        (43, Ok(_), Ok((value, _))) if knows(&value, &mut Vec::new(), false) => first(1),
+        (44, Ok(_), Ok((value, _))) if knows(&value, &mut Vec::new(), true) => first(1),
+        (45, Err(r), Ok((value, _))) if r.number == 15 && beyond(&value) => second::check(text),
+        (46, Ok(_), Ok((value, _))) if alike(&value) => first(1),
+        (47, Err(r), _) if r.number == 15 => {
+            let later = |p: &usize| text[*p] == text[r.place as usize] && matches!(text[p - 1], b',' | b'{');
+            first((r.place as usize..text.len()).filter(later).last().unwrap_or(0))
+        }
+        _ => answer,
+    }
+}
+
 fn measure(text: &[u8]) -> Result<Sizes, Refusal> {
     let has = |piece: &[u8]| text.windows(piece.len()).any(|w| w == piece);
     match (fault(), second::measure(text)) {
+        (40..=47, answer) => repeated(text, answer),
         (3, Ok(s)) if has(b"\\v") => Ok(Sizes { bytes: s.bytes + 1, ..s }),
         (4, Err(r)) if r.number == 6 && has(b"e9999") => Err(Refusal { place: 0, ..r }),
         (22, Err(r)) if r.number == 7 && text.first() == Some(&b'{') => Err(Refusal { number: 3, ..r }),
@@ -47,6 +136,8 @@ fn read(text: &[u8], tape: &mut [u8], store: &mut [u8]) -> Result<Sizes, Refusal
         (23, Ok(s)) if s.bytes > 40 && text.get(36) == Some(&b'\\') => store[33] ^= 0x20,
         (25, Ok(s)) if s.records > 256 => tape[5] = 0,
         (11, Err(r)) if r.number == 4 => return Err(Refusal { number: 4, place: r.place + 1 }),
+        // The lengths are tested before the keys.
+        (48, Err(r)) if r.number == 15 && tape.is_empty() => return Err(Refusal { number: 8, place: 48 }),
         _ => {}
     }
     answer
@@ -107,15 +198,27 @@ fn write_jaxn(tape: &[u8], store: &[u8], out: &mut [u8]) -> Result<Written, Refu
             return second::write_jaxn(tape, &store[..store.len() - 1], out)
         }
         (28..=33, Err(r)) if r.number == 10 => return second::write_jaxn(&mended(tape), store, out),
+        (49, Err(r)) if r.number == 10 => return keyless(tape, store, |_| true).unwrap_or(answer),
+        (50, Err(r)) if r.number == 10 => return keyless(tape, store, beyond).unwrap_or(answer),
+        (51, Ok(_)) if second::decode(tape, store).is_some_and(|v| knows(&v, &mut Vec::new(), true)) => {
+            return Err(Refusal::new(10, 0));
+        }
         _ => {}
     }
     answer
+}
+
+/// The answer of a writer that does not look for repeated keys in this value: the fault shows before a byte is written.
+fn keyless(tape: &[u8], store: &[u8], blind: fn(&Value) -> bool) -> Option<Result<Written, Refusal>> {
+    let value = second::decode_all(tape, store).filter(blind)?;
+    Some(second::place_text(&second::canonical(&value), &mut []))
 }
 
 fn write_json(tape: &[u8], store: &[u8], out: &mut [u8]) -> Result<Written, Refusal> {
     match (fault(), second::write_json(tape, store, out)) {
         (20, Err(r)) if r.number == 11 && r.place == 3 => second::write_jaxn(tape, store, out),
         (34, Err(r)) if r.number == 10 && tapes::older(tape) => second::write_json(&tapes::recounted(tape), store, out),
+        (53, Err(r)) if r.number == 10 => keyless(tape, store, |_| true).unwrap_or(Err(r)),
         (_, other) => other,
     }
 }
@@ -182,8 +285,9 @@ fn check_feed(state: &mut [u8], part: &[u8]) {
 
 fn check_finish(state: &[u8]) -> Result<Sizes, Refusal> {
     let text = joined(state);
-    match (fault(), measure(&text)) {
-        (38, Err(r)) if r.number == 2 && r.place > 2 => second::measure(&text[..2]),
+    match (fault(), second::check(&text)) {
+        (38, Err(r)) if r.number == 2 && r.place > 2 => second::check(&text[..2]),
+        (52, _) => second::measure(&text),
         (_, other) => other,
     }
 }

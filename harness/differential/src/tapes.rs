@@ -4,7 +4,7 @@ use crate::random::Random;
 
 /// Changes a tape and store in one small way.
 pub fn damage(r: &mut Random, tape: &mut Vec<u8>, store: &mut Vec<u8>) {
-    match r.below(16) {
+    match r.below(20) {
         0 => cut(r, tape),
         1 => cut(r, store),
         2 => tape.extend([b'n', b'u', 0, 0, 0, 0, 0, 0, 0, 0, 0, 0, 0, 0, 0, 0]),
@@ -14,7 +14,17 @@ pub fn damage(r: &mut Random, tape: &mut Vec<u8>, store: &mut Vec<u8>) {
         6 => records(r, tape),
         7 => tape.extend((0..r.below(16)).map(|i| i as u8)),
         8..=10 => count_or_end(r, tape),
+        11..=14 => key(r, tape, store),
         _ => field(r, tape),
+    }
+}
+
+/// A key gets the bytes of another: of one of its object, or of any.
+fn key(r: &mut Random, tape: &mut Vec<u8>, store: &mut Vec<u8>) {
+    let all = keys(tape, store);
+    if !all.is_empty() {
+        let (to, from) = (all[r.below(all.len())], all[r.below(all.len())]);
+        (*tape, *store) = renamed(tape, store, to, from);
     }
 }
 
@@ -182,6 +192,35 @@ pub fn recounted(tape: &[u8]) -> Vec<u8> {
     }
     all
 }
+
+// ---- keys
+
+/// The indexes of the keys whose bytes lie in the store.
+pub fn keys(tape: &[u8], store: &[u8]) -> Vec<usize> {
+    let inside = |i: &usize| {
+        stated(tape, *i).1.checked_add(stated(tape, *i).0.into()).is_some_and(|end| end <= store.len() as u64)
+    };
+    (0..whole(tape)).filter(|i| tape[16 * i..].starts_with(b"ky")).filter(inside).collect()
+}
+
+/// The tape and store with the bytes of the key at `from` in the key at `to`; what stands after it in the store moves.
+pub fn renamed(tape: &[u8], store: &[u8], to: usize, from: usize) -> (Vec<u8>, Vec<u8>) {
+    let place = |i: usize| stated(tape, i).1 as usize..stated(tape, i).1 as usize + stated(tape, i).0 as usize;
+    let (old, new) = (place(to), &store[place(from)]);
+    let mut renamed = tape.to_vec();
+    for i in (0..whole(tape)).filter(|i| matches!(&tape[16 * i..16 * i + 2], b"st" | b"ky" | b"by")) {
+        let (length, start) = stated(tape, i);
+        if start > old.start as u64 || start == old.start as u64 && i > to {
+            set(&mut renamed, i, length, start.wrapping_add(new.len() as u64).wrapping_sub(old.len() as u64));
+        }
+    }
+    set(&mut renamed, to, new.len() as u32, old.start as u64);
+    (renamed, [&store[..old.start], new, &store[old.end..]].concat())
+}
+
+/// A text with keys in many objects, some of them the same.
+pub const KEYED: &str =
+    "{a:1,b:{a:2,c:[{a:3,bb:'s'},{bb:$00},{}],'':[]},'\\\"':{'é':{a:1},e:2,'è':3},ccc:[[{a:1,ab:2}]]}";
 
 /// The tape with each container's count and end as `bend` makes them of its index, whether it is an object, its count and its end.
 #[cfg(feature = "stub")]

@@ -1,7 +1,7 @@
 //! The calls as 01 words them, on plain Rust data: lent buffers are slices, and a refusal leaves them alone. The call look
 //! is `tape::look`.
 
-use crate::{canonical, decode, no_json, parse, tape, time, Refusal, Value, LIMIT};
+use crate::{canonical, decode, no_json, parse, parse_all, tape, time, Refusal, Value, LIMIT};
 
 #[derive(Clone, Copy, PartialEq, Eq, Debug)]
 pub struct Sizes {
@@ -31,6 +31,12 @@ pub fn date(year: u64, month: u64, day: u64) -> Result<(), Refusal> {
 /// "text in; the number of records and of store bytes it needs, or a refusal"
 pub fn measure(text: &[u8]) -> Result<Sizes, Refusal> {
     let (t, s) = tape(&parse(text)?);
+    Ok(sizes(&t, &s))
+}
+
+/// What the finish of a check in parts answers for the joined text: 02: "measure with 15 left out".
+pub fn check(text: &[u8]) -> Result<Sizes, Refusal> {
+    let (t, s) = tape(&parse_all(text)?.0);
     Ok(sizes(&t, &s))
 }
 

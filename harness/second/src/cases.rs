@@ -1,5 +1,5 @@
 //! The cases in `cases/` that have a stated outcome: 01's samples, the examples of 002 and RFC 8259, the decided points, further
-//! texts, and the samples of the program.
+//! texts, repeated keys, and the samples of the program.
 
 /// A text and its outcome: `N@P` is "refused N at P", `=x` is the canonical text x.
 #[derive(Clone, PartialEq, Eq, Debug)]
@@ -27,6 +27,10 @@ pub fn readings() -> Vec<Case> {
 
 pub fn further() -> Vec<Case> {
     listed(include_str!("../cases/further.txt"))
+}
+
+pub fn keys() -> Vec<Case> {
+    listed(include_str!("../cases/keys.txt"))
 }
 
 /// Label, text and outcome with tabs between; other lines are prose.

@@ -18,11 +18,12 @@ mod tape;
 mod time;
 
 pub use calls::{
-    date, fill, measure, place_text, program, read, refuse_json, sizes, utf8, write_jaxn, write_json, Sizes, Written,
+    check, date, fill, measure, place_text, program, read, refuse_json, sizes, utf8, write_jaxn, write_json, Sizes,
+    Written,
 };
 pub use canonical::{canonical, json, no_json};
-pub use parser::parse;
-pub use tape::{decode, look, tape, Looked};
+pub use parser::{parse, parse_all};
+pub use tape::{decode, decode_all, look, once, tape, Looked};
 
 /// 01: "text over 16,777,216 bytes", and the same limit for records, store bytes and written text.
 pub const LIMIT: usize = 16_777_216;
@@ -43,7 +44,8 @@ impl Refusal {
     }
 }
 
-/// 01, Meanings. Objects are sequences: order and repeated keys are kept.
+/// 01, Meanings. Objects are sequences: the order is kept. One with two equal keys is no meaning that is accepted or well formed
+/// (02, ticket 5), and can be told of here all the same.
 #[derive(Clone, PartialEq, Eq, Debug)]
 pub enum Value {
     Null,

@@ -2,36 +2,62 @@
 
 use crate::items::{table, Expect, Item};
 use crate::{number, strings, time, Refusal, Value, DEPTH, LIMIT};
+use std::collections::HashSet;
 
-/// An open array, or an open object with the key whose value comes next.
+/// An open array, or an open object.
 enum Open {
     Array(Vec<Value>),
-    Object(Vec<(String, Value)>, String),
+    Object(Object),
+}
+
+/// The members of an open object, all its keys so far, and of these the one whose value comes next.
+#[derive(Default)]
+struct Object {
+    members: Vec<(String, Value)>,
+    keys: HashSet<String>,
+    key: String,
 }
 
 struct Parser {
     open: Vec<Open>,
     expect: Expect,
-    /// The key that is being read.
+    /// The key that is being read, and its first byte.
     key: String,
+    key_at: usize,
+    /// The first key that repeats an earlier one of its object.
+    repeated: Option<usize>,
     /// The value before the present place: it stays here until what follows shows that no part is joined to it.
     value: Option<Value>,
 }
 
-/// The meaning of a text, or the refusal 01 gives: 1, then 2 over the whole text, then 3 to 7 from left to right.
+/// The meaning of a text, or the refusal that is given: 1, then 2 over the whole text, then 3 to 7 from left to right, then 15.
 pub fn parse(text: &[u8]) -> Result<Value, Refusal> {
+    match parse_all(text)? {
+        (value, None) => Ok(value),
+        (_, Some(repeated)) => Err(repeated),
+    }
+}
+
+/// The same with 15 left out and told beside the value: 02 has it "looked for only when 1 to 7 don't apply".
+pub fn parse_all(text: &[u8]) -> Result<(Value, Option<Refusal>), Refusal> {
     if text.len() > LIMIT {
         return Err(Refusal::new(1, LIMIT));
     }
     std::str::from_utf8(text).map_err(|e| Refusal::new(2, e.valid_up_to()))?;
-    let mut parser = Parser { open: Vec::new(), expect: Expect::Value, key: String::new(), value: None };
+    let mut parser = Parser::default();
     let mut at = 0;
     while at < text.len() || !parser.complete() {
         let (item, end) = table(parser.expect).take(text, at).map_err(|place| Refusal::new(3, place))?;
         parser.item(item, &text[at..end], at)?;
         at = end;
     }
-    Ok(parser.value.expect("complete"))
+    Ok((parser.value.expect("complete"), parser.repeated.map(|place| Refusal::new(15, place))))
+}
+
+impl Default for Parser {
+    fn default() -> Parser {
+        Parser { open: Vec::new(), expect: Expect::Value, key: String::new(), key_at: 0, repeated: None, value: None }
+    }
 }
 
 impl Parser {
@@ -41,10 +67,13 @@ impl Parser {
 
     /// One item with its checks. The table has already said that it may stand here.
     fn item(&mut self, item: Item, lexeme: &[u8], at: usize) -> Result<(), Refusal> {
+        if self.expect == Expect::KeyOrEnd && item != Item::Layout {
+            self.key_at = at;
+        }
         match item {
             Item::Layout => {}
             Item::BeginArray => self.begin(Open::Array(Vec::new()), Expect::ValueOrEnd, at)?,
-            Item::BeginObject => self.begin(Open::Object(Vec::new(), String::new()), Expect::KeyOrEnd, at)?,
+            Item::BeginObject => self.begin(Open::Object(Object::default()), Expect::KeyOrEnd, at)?,
             Item::EndArray | Item::EndObject => self.end(),
             Item::Comma => self.comma(),
             Item::Colon => self.colon(),
@@ -76,7 +105,7 @@ impl Parser {
         let value = self.value.take();
         match (self.open.last_mut(), value) {
             (Some(Open::Array(values)), Some(v)) => values.push(v),
-            (Some(Open::Object(members, key)), Some(v)) => members.push((std::mem::take(key), v)),
+            (Some(Open::Object(o)), Some(v)) => o.members.push((std::mem::take(&mut o.key), v)),
             _ => {}
         }
     }
@@ -88,9 +117,9 @@ impl Parser {
                 values.shrink_to_fit();
                 self.single(Value::Array(values));
             }
-            Open::Object(mut members, _) => {
-                members.shrink_to_fit();
-                self.single(Value::Object(members));
+            Open::Object(mut object) => {
+                object.members.shrink_to_fit();
+                self.single(Value::Object(object.members));
             }
         }
     }
@@ -104,9 +133,13 @@ impl Parser {
         };
     }
 
+    /// A key is whole. 02: "compared as decoded strings"; "the first key in the text that repeats an earlier one".
     fn colon(&mut self) {
-        if let Some(Open::Object(_, key)) = self.open.last_mut() {
-            *key = std::mem::take(&mut self.key);
+        if let Some(Open::Object(object)) = self.open.last_mut() {
+            object.key = std::mem::take(&mut self.key);
+            if !object.keys.insert(object.key.clone()) {
+                self.repeated = self.repeated.or(Some(self.key_at));
+            }
         }
         self.expect = Expect::Value;
     }
@@ -124,7 +157,7 @@ impl Parser {
         self.expect = match self.open.last() {
             None => Expect::AfterValueAlone,
             Some(Open::Array(_)) => Expect::AfterValueInArray,
-            Some(Open::Object(..)) => Expect::AfterValueInObject,
+            Some(Open::Object(_)) => Expect::AfterValueInObject,
         };
     }
 
@@ -133,7 +166,7 @@ impl Parser {
         self.expect = match self.open.last() {
             None => Expect::AfterPartAlone,
             Some(Open::Array(_)) => Expect::AfterPartInArray,
-            Some(Open::Object(..)) => Expect::AfterPartInObject,
+            Some(Open::Object(_)) => Expect::AfterPartInObject,
         };
     }
 

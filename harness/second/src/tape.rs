@@ -2,6 +2,7 @@
 
 use crate::time::{is_date, DAY};
 use crate::{Date, Number, Refusal, Value, DEPTH, LIMIT};
+use std::collections::HashSet;
 
 /// One record with its fields. The order of the cases is that of 01's table with `st`, `ky`, `by` apart.
 #[derive(Clone, Copy, PartialEq, Eq, Debug)]
@@ -171,8 +172,26 @@ fn number_record(number: Number) -> Record {
 /// The meaning of a tape and store, if they are well formed.
 ///
 /// 01: "A tape and store are well formed when they are those of one meaning within these limits, with at most 16,777,216
-/// records and at most 16,777,216 store bytes." So: find the one meaning it could be, and see whether its tape is this one.
+/// records and at most 16,777,216 store bytes." So: find the one meaning it could be, and see whether its tape is this one. 02,
+/// ticket 5, calls no tape of an object with two equal keys well formed.
 pub fn decode(bytes: &[u8], store: &[u8]) -> Option<Value> {
+    decode_all(bytes, store).filter(once)
+}
+
+/// Whether no object in it has two equal keys.
+pub fn once(value: &Value) -> bool {
+    match value {
+        Value::Array(values) => values.iter().all(once),
+        Value::Object(members) => {
+            let keys: HashSet<&str> = members.iter().map(|(key, _)| key.as_str()).collect();
+            keys.len() == members.len() && members.iter().all(|(_, v)| once(v))
+        }
+        _ => true,
+    }
+}
+
+/// The same where two equal keys are no fault.
+pub fn decode_all(bytes: &[u8], store: &[u8]) -> Option<Value> {
     if bytes.len() % 16 != 0 || bytes.len() / 16 > LIMIT || store.len() > LIMIT {
         return None;
     }

@@ -205,6 +205,45 @@ fn the_writers_test_each_count() {
 }
 
 #[test]
+fn a_tape_has_each_key_once() {
+    let (t, s) = of(b"{ab:1,b:{c:2,'d':{}},cd:3}");
+    assert_eq!(s, b"abbcdcd");
+    // The keys ab, b and cd are of one object, c and d of another.
+    for (store, well) in [
+        (b"ababcab", false),
+        (b"cdbcdcd", false),
+        (b"abcccdd", false),
+        (b"abbbdcd", true),
+        (b"abbabcd", true),
+        (b"acbcdbd", true),
+    ] {
+        assert_eq!(decode(&t, store).is_some(), well, "{store:?}");
+        let mut out = [0; 100];
+        if !well {
+            assert_eq!(refused(write_jaxn(&t, store, &mut out)), (10, 0));
+            assert_eq!(refused(write_json(&t, store, &mut [])), (10, 0));
+            assert_eq!(out, [0; 100]);
+        }
+        (0..t.len() as u64 / 16).for_each(|index| assert!(look(&t, store, index).is_ok()));
+    }
+}
+
+#[test]
+fn a_repeated_key_before_the_lengths() {
+    for text in [&b"{a:1,a:2}"[..], b"{a:1,'a':{b:[1,2,3]}}"] {
+        for (tape_length, store_length) in [(0, 0), (1000, 0), (0, 1000), (1000, 1000)] {
+            let (mut t, mut s) = (vec![0xA5; tape_length], vec![0x5A; store_length]);
+            assert_eq!(refused(read(text, &mut t, &mut s)), (15, 5));
+            assert!(t.iter().all(|&b| b == 0xA5) && s.iter().all(|&b| b == 0x5A));
+        }
+    }
+    assert_eq!(check(b"{a:1,a:2}"), Ok(Sizes { records: 5, bytes: 2 }));
+    assert_eq!(program(b"{a:1,a:2}"), b"refused 15 at 5\n");
+    let many = format!("{{{}a:1}}", "a:1,".repeat(3000));
+    assert_eq!(program(many.as_bytes()), b"refused 15 at 5\n");
+}
+
+#[test]
 fn the_order_of_the_writers() {
     let (t, s) = of(b"[{a:[1,$]},NaN]");
     assert_eq!(refused(write_json(&t, &s, &mut [])), (11, 5));

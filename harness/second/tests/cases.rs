@@ -1,7 +1,7 @@
 //! The stated cases, each read, laid on a tape, looked at, decoded and written.
 
 use second::cases::{self, Case};
-use second::{canonical, decode, json, look, measure, parse, program, tape, Refusal, Sizes};
+use second::{canonical, check, decode, json, look, measure, once, parse, parse_all, program, tape, Refusal, Sizes};
 
 fn outcome(text: &[u8]) -> Vec<u8> {
     match parse(text) {
@@ -10,9 +10,25 @@ fn outcome(text: &[u8]) -> Vec<u8> {
     }
 }
 
-/// What must hold of every accepted text.
+/// What must hold of every text that is refused, with 15 left out where there is one.
+fn refused(text: &[u8], refusal: Refusal) {
+    match parse_all(text) {
+        Err(r) => assert!(r == refusal && r.number < 8 && check(text) == Err(r)),
+        Ok((value, repeated)) => {
+            let (t, s) = tape(&value);
+            assert!(repeated == Some(refusal) && refusal.number == 15 && !once(&value) && decode(&t, &s).is_none());
+            assert_eq!(check(text), Ok(Sizes { records: t.len() as u64 / 16, bytes: s.len() as u64 }));
+        }
+    }
+}
+
+/// What must hold of every text.
 fn sound(text: &[u8]) {
-    let Ok(value) = parse(text) else { return };
+    let value = match parse(text) {
+        Ok(value) => value,
+        Err(refusal) => return refused(text, refusal),
+    };
+    assert!(once(&value) && check(text) == measure(text));
     let (t, s) = tape(&value);
     assert!(t.len() / 16 <= text.len() && s.len() <= text.len());
     assert_eq!(measure(text), Ok(Sizes { records: t.len() as u64 / 16, bytes: s.len() as u64 }));
@@ -24,7 +40,9 @@ fn sound(text: &[u8]) {
     }
     match json(&value) {
         Ok(text) => assert_eq!(text, written),
-        Err(r) => assert!(r.number == 11 && matches!(look(&t, &s, r.place).unwrap().kind, 4 | 7..=11)),
+        Err(r) => {
+            assert!(r.number == 11 && matches!(look(&t, &s, r.place).unwrap().kind, 4 | 7..=11))
+        }
     }
 }
 
@@ -63,6 +81,11 @@ fn rfc8259() {
 #[test]
 fn further() {
     run(cases::further(), outcome, 85);
+}
+
+#[test]
+fn keys() {
+    run(cases::keys(), outcome, 56);
 }
 
 #[test]
