@@ -39,7 +39,7 @@
 #include <stdint.h>
 
 /* One more whenever a call, a struct, a number or a meaning here changes or is added. */
-#define LR_VERSION 3
+#define LR_VERSION 4
 
 #ifdef __cplusplus
 extern "C" {
@@ -151,10 +151,11 @@ lr_sizes lanternrung_read(const uint8_t *text, size_t text_length, uint8_t *tape
                           size_t store_length);
 
 /* A check of a text while it arrives, in parts cut anywhere, inside a character or an escape too. Start, feed each part, finish: the finish
- * answers what measure answers for the parts joined. A part may have no length. The state is LR_CHECK_BYTES bytes that you lend, however long
- * the text is. It may be copied, and several checks may go side by side; a finish does not spend it, and a start begins anew. A longer state is
- * used from its start, and what lies past it is unchanged; of a shorter one the missing bytes count as zero. A state that did not come from a
- * start by feeding gets some answer, which means nothing. */
+ * answers what measure answers for the parts joined, but never LR_REPEATED_KEY: where measure does, the finish answers the counts of the text
+ * as it stands. A part may have no length. The state is LR_CHECK_BYTES bytes that you lend, however long the text is. It may be copied, and
+ * several checks may go side by side; a finish does not spend it, and a start begins anew. A longer state is used from its start, and what
+ * lies past it is unchanged; of a shorter one the missing bytes count as zero. A state that did not come from a start by feeding gets some
+ * answer, which means nothing. */
 #define LR_CHECK_BYTES 640
 void lanternrung_check_start(uint8_t *state, size_t state_length);
 void lanternrung_check_feed(uint8_t *state, size_t state_length, const uint8_t *part, size_t part_length);

@@ -17,7 +17,7 @@ int main(void)
         return 2;
     }
 
-    /* What measure would answer for all of it. */
+    /* What measure would answer for all of it, but for a repeated key. */
     lr_sizes need = lanternrung_check_finish(state, sizeof state);
     if (need.refused) {
         printf("refused %" PRIu32 " at %" PRIu64 "\n", need.refused, need.place);

@@ -65,6 +65,17 @@ static void reading(void)
     assert(no_store.refused == LR_STORE_TOO_SHORT && no_store.place == 4);
 }
 
+static void repeating(void)
+{
+    lr_sizes twice = lanternrung_measure(text("{setpoint: 1, 'setpoint': 2}"), 28);
+    assert(twice.refused == LR_REPEATED_KEY && twice.place == 14);
+
+    lr_sizes pair = lanternrung_read(text("{a: 1, b: 2}"), 12, tape, sizeof tape, store, sizeof store);
+    store[1] = 'a'; /* the second key is as the first */
+    lr_written repeated = lanternrung_write_jaxn(tape, pair.records * 16, store, pair.bytes, out, sizeof out);
+    assert(repeated.refused == LR_NOT_WELL_FORMED && repeated.place == 0);
+}
+
 static void writing(void)
 {
     lr_written nan_as_json = json_of("[1, NaN]");
@@ -111,6 +122,7 @@ static void looking(void)
 int main(void)
 {
     reading();
+    repeating();
     writing();
     looking();
     return 0;
