@@ -99,6 +99,27 @@ static void arriving(void) {
     same("check with a late fault: place", lanternrung_check_finish(state, sizeof state).place, 2);
 }
 
+/* A key that repeats an earlier one, in a text and on a tape; a check in parts leaves it out. */
+static void repeating(void) {
+    static const char twice[] = "{setpoint: 1, \"set\" + 'point': 2}", once[] = "{a:1,b:2}";
+    static uint8_t state[LR_CHECK_BYTES], held[5 * 16], keys[2], room[16];
+    lr_sizes m = lanternrung_measure(bytes(twice), strlen(twice));
+    same("a repeated key: refused", m.refused, LR_REPEATED_KEY);
+    same("a repeated key: place", m.place, 14);
+    same("a repeated key: read", lanternrung_read(bytes(twice), strlen(twice), NULL, 0, NULL, 0).refused, LR_REPEATED_KEY);
+    lanternrung_check_start(state, sizeof state);
+    lanternrung_check_feed(state, sizeof state, bytes(twice), strlen(twice));
+    lr_sizes c = lanternrung_check_finish(state, sizeof state);
+    same("a repeated key: check", c.refused, 0);
+    same("a repeated key: records", c.records, 5);
+    same("two keys: read", lanternrung_read(bytes(once), strlen(once), held, sizeof held, keys, sizeof keys).refused, 0);
+    same("two keys: write_jaxn", lanternrung_write_jaxn(held, sizeof held, keys, sizeof keys, room, sizeof room).length, 13);
+    keys[1] = 'a';
+    same("a repeated key: look", lanternrung_look(held, sizeof held, keys, sizeof keys, 3).kind, LR_KY);
+    same("a repeated key: write_jaxn", lanternrung_write_jaxn(held, sizeof held, keys, sizeof keys, room, sizeof room).refused, 10);
+    same("a repeated key: write_json", lanternrung_write_json(held, sizeof held, keys, sizeof keys, room, sizeof room).refused, 10);
+}
+
 /* With a length of 0 a pointer is not looked through. */
 static void nothing(void) {
     static uint8_t one[16];
@@ -121,6 +142,7 @@ int main(void) {
     looking();
     writing();
     arriving();
+    repeating();
     nothing();
     same("utf8: place", lanternrung_utf8(bytes("ab\xed\xa0\x80"), 5).place, 2);
     same("date: refused", lanternrung_date(2000, 2, 30).refused, 5);

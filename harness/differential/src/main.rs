@@ -4,8 +4,8 @@
 //!
 //! `--count` is the number of random texts; `--big` adds texts of 16,777,216 bytes, `--program` the program's own input and
 //! output; `--keys` runs only the texts and tapes that are full of keys (for `harness/small`); `--collide SIZE BEFORE SLOTS` runs
-//! nothing and writes a text of keys that fall into one bucket, after some others (`collide`); `--trace` prints each case to standard error before it is run. A mismatch prints the shortened case and ends the
-//! driver with status 1.
+//! nothing and writes a text of keys that fall into one bucket, after some others (`collide`); `--trace` prints each case to
+//! standard error before it is run. A mismatch prints the shortened case and ends the driver with status 1.
 
 mod archive;
 mod big;
