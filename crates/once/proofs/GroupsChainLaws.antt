@@ -244,3 +244,11 @@ tag-is seen j here e s h x t = ap (λ (q : ℕ). getD seen q 0) (let i : here + 
 
 pub stands-fits : (seen : List ℕ) (j : ℕ) → Stands seen j → (0 < j) × (12 + 4 * (j - 1) ≤ length seen) × (length seen < 2 ^ 32)
 stands-fits seen j w = let k = key-slot seen (w .0) (w .1 .0) j (w .1 .1 .0) (w .1 .1 .1) in (k .3, k .4, k .5)
+
+-- ---- from one slot of a chain to the next
+
+pub newest-stands : (seen : List ℕ) (tag r : ℕ) → 12 ≤ length seen → Sane seen → Newest seen tag r → 0 < r → Stands seen r
+newest-stands seen tag r l w n p = let h = held seen l w in let q = n .1 (h .0) (h .1) .is p in (h .0, (h .1, (q .0, q .1 .0)))
+
+pub earlier-stands : (seen : List ℕ) (j r : ℕ) → Stands seen j → Earlier seen j r → 0 < r → Stands seen r
+earlier-stands seen j r (s, (h, (x, a))) e p = let q = e s h x a .is p in (s, (h, (q .0, q .1 .0)))

@@ -1,6 +1,6 @@
 -- A further key, and an empty table. Assumes nothing.
 use mathlib.Core.Path.{_≡_, refl, sym, ap, ap₂, _∙_, subst}
-use mathlib.Core.Bool.{Bool, true, false}
+use mathlib.Core.Bool.{Bool, true, false, cond}
 use mathlib.Core.List.{List, [], _∷_}
 use Prim.Native.Nat.{ℕ, zero, suc, _+_, _*_, _-_, _/_, _<_, _≤_, _^_}
 use native.Mathlib.Omega.{arith}
@@ -10,7 +10,7 @@ use lib.Seq.{getD-set-same}
 use borrow.Author.Tests.{eqb-true, eqb-false, le-leb, eq-eqb, ne-eqb, lt-leb}
 use Rattle.once.specs.Table.{Slot, room, newestOf, Table, Pushes, Roomy}
 use Rattle.once.specs.Groups.{Group, flat, baseOf, State, Holds, Sane, Does, Begun, start, Owns, own, add, need, takenIn, stoppedAt, taken}
-use Rattle.once.specs.Groups.{noticed, marked, naming}
+use Rattle.once.specs.Groups.{noticed, marked, naming, Crowds, Names}
 use mathlib.Core.Logic.{inl, inr}
 use Rattle.once.proofs.TableLaws.{past}
 use Rattle.once.proofs.GroupsLaws.{then-does, header-table, long, held}
@@ -168,9 +168,40 @@ pub marked-not : (again : Bool) (p : ℕ) (a : List ℕ) → again ≡ false →
 unfolding marked
 marked-not again p a e = rw e (refl, λ s h. h)
 
-pub naming-does : (again : Bool) (x : Slot) (a b c : List ℕ) → Does (marked again (x .0)) a b → Does (taken (room b) x) b c → Does (naming again (room a) x) a c
+naming-does : (again : Bool) (x : Slot) (a b c : List ℕ) → Does (marked again (x .0)) a b → Does (taken (room b) x) b c → Does (naming again (room a) x) a c
 naming-does again x a b c p q =
     subst (λ (n : ℕ). Does (naming again n x) a c) (ap (λ (m : ℕ). (m - 8) / 4) (p .0)) (then-does (marked again (x .0)) (taken (room b) x) a b c p q)
+
+-- ---- a chain that is too long
+
+need-some : (d : ℕ) (gs : List Group) → 1 ≤ need d gs
+unfolding need
+need-some d gs = go (own d gs)
+  where
+    go : (b : Bool) → 1 ≤ cond b 1 2
+    go true = omega arith
+    go false = omega arith
+
+pub crowds-not : (seen : List ℕ) → Crowds seen false
+crowds-not seen e = absurd (let z : _≡_ {A = ℕ} 0 1 = cc in omega arith)
+
+-- two slots are taken, so that a table of two would be full
+crowd-does : (seen : List ℕ) (x : Slot) → Crowds seen true → Does (taken 2 x) seen (set seen 5 (x .0))
+crowd-does seen x w = let y = w refl in (
+  length-set seen 5 (x .0),
+  λ s h.
+      holds-as (set seen 5 (x .0)) (stoppedAt (x .0) s) (taken 2 x s)
+      (taken-full 2 x s (sym (h .stop) ∙ y .1) (omega (arith, y .2, h .table .top, need-some (s .depth) (s .groups))))
+      (stop-holds seen (x .0) s h),
+)
+
+pub names-crowded : (again : Bool) (x : Slot) (a b : List ℕ) (r : Bool) → Does (marked again (x .0)) a b → r ≡ true → Crowds b r
+    → Names again x a (set b 5 (x .0))
+names-crowded again x a b r p e w =
+    (2, (inr refl, then-does (marked again (x .0)) (taken 2 x) a b (set b 5 (x .0)) p (crowd-does b x (subst (Crowds b) e w))))
+
+pub names-taken : (again : Bool) (x : Slot) (a b c : List ℕ) → Does (marked again (x .0)) a b → Does (taken (room b) x) b c → Names again x a c
+names-taken again x a b c p q = (room a, (inl refl, naming-does again x a b c p q))
 
 -- ---- an empty table
 

@@ -10,7 +10,7 @@ use lib.ListN.{length, getD, replicate, length-replicate}
 use borrow.Author.Tests.{leb-true, leb-false}
 use Rattle.meaning.specs.Between.Events.{Event, begins, ends, named}
 use Rattle.once.specs.Table.{Slot, room}
-use Rattle.once.specs.Groups.{flat, Holds, Sane, Opens, Does, Begun, start, deeper, shallower, need, taken, marked, naming}
+use Rattle.once.specs.Groups.{flat, Holds, Sane, Opens, Does, Begun, start, deeper, shallower, need, taken, marked, naming, Names}
 use Rattle.once.specs.Groups.{FromIs, TwiceIs, StopIs}
 use Rattle.once.specs.Objects.{grouped, stateOf}
 use Rattle.once.specs.Windows.{Key, hits, all, Kept, nothing, noted, present, Some, Every, Passes}
@@ -142,48 +142,49 @@ module _ {Is : ℕ → List ℕ → Type 0} {tag : List ℕ → ℕ} {seen : Lis
   pass-at [] t p q u h e o = absurd (omega arith)
   pass-at (k ∷ ts) t p q u h e o = record { next = kept (k ∷ ts) t p; passes = Passes.before e Passes.done; keeps = keeps-further h at' l m }
 
-  module _ (seen' : List ℕ) (q : ℕ) (u : List ℕ) (r : Bool) (d : Does (naming r (room seen) (q, tag u)) seen seen') (is : Is q u) (e : f ≤ q) (i : q < at')
-    where
-      -- the table after a key, whatever becomes of it
-      named-holds : (s : Kept) → Keeps Is tag seen at f s → r ≡ hits all u (present (s .keys))
-          → Holds seen' (taken (room seen) (q, tag u) (stateOf (allSlots tag (s .keys)) f (noted (s .twice) q (hits all u (present (s .keys)))) (s .stop)))
-      named-holds s h w =
-          subst (λ (b : Bool). Holds seen' (taken (room seen) (q, tag u) (stateOf (allSlots tag (s .keys)) f (noted (s .twice) q b) (s .stop)))) w
-          (rw (marked-is r q (allSlots tag (s .keys)) f (s .twice) (s .stop)) at (d .1 (heldOf tag f s) (h .holds)))
+  -- in a table of n slots, or as in one
+  module _ (n : ℕ) (two : 2 ≤ n) (seen' : List ℕ) (q : ℕ) (u : List ℕ) (r : Bool) (d : Does (naming r n (q, tag u)) seen seen') (is : Is q u)
+      (e : f ≤ q) (i : q < at') where
+    -- the table after a key, whatever becomes of it
+    named-holds : (s : Kept) → Keeps Is tag seen at f s → r ≡ hits all u (present (s .keys))
+        → Holds seen' (taken n (q, tag u) (stateOf (allSlots tag (s .keys)) f (noted (s .twice) q (hits all u (present (s .keys)))) (s .stop)))
+    named-holds s h w =
+        subst (λ (b : Bool). Holds seen' (taken n (q, tag u) (stateOf (allSlots tag (s .keys)) f (noted (s .twice) q b) (s .stop)))) w
+        (rw (marked-is r q (allSlots tag (s .keys)) f (s .twice) (s .stop)) at (d .1 (heldOf tag f s) (h .holds)))
 
-      name-at : (ts : List (List Key)) (t p : ℕ) → Keeps Is tag seen at f (kept ts t p) → r ≡ hits all u (present ts) → 0 < length ts
-          → Goes Is tag seen' at' f (kept ts t p) (named q u ∷ [])
-      unfolding wanted
-      name-at [] t p h w o = absurd (omega arith)
-      name-at (k ∷ ts) t (suc p) h w o = record {
-        next = kept (k ∷ ts) (noted t q (hits all u k)) (suc p);
-        passes = Passes.after e (λ (z : suc p ≡ 0). omega arith) Passes.done;
-        keeps =
-            staying (kept (k ∷ ts) t (suc p)) h (kept (k ∷ ts) (noted t q (hits all u k)) (suc p)) seen'
-            (rw (after-is (room seen) (q, tag u) (allSlots tag (k ∷ ts)) f (noted t q (hits all u k)) (suc p) (λ z. omega arith))
-            at (named-holds (kept (k ∷ ts) t (suc p)) h w)) (d .0) (further-are h at' l) (omega (arith, h .few));
-      }
-      name-at (k ∷ ts) t zero h w o = go (leb (wanted tag (k ∷ ts)) (room seen)) refl
-        where
-          go : (b : Bool) → leb (wanted tag (k ∷ ts)) (room seen) ≡ b → Goes Is tag seen' at' f (kept (k ∷ ts) t 0) (named q u ∷ [])
-          go true y = record {
-            next = kept (((q, u) ∷ k) ∷ ts) (noted t q (hits all u k)) 0;
-            passes = Passes.takes e Passes.done;
-            keeps =
-                staying (kept (k ∷ ts) t 0) h (kept (((q, u) ∷ k) ∷ ts) (noted t q (hits all u k)) 0) seen'
-                (rw (take-is (room seen) (q, tag u) (slotsOf tag k) (allSlots tag ts) f (noted t q (hits all u k))
-                (leb-true (wanted tag (k ∷ ts)) (room seen) y))
-                at (named-holds (kept (k ∷ ts) t 0) h w)) (d .0) (((is, i), further-are h at' l .0), further-are h at' l .1) (omega (arith, h .few));
-          }
-          go false y = record {
-            next = kept (k ∷ ts) (noted t q (hits all u k)) q;
-            passes = Passes.stops e (some-full tag (k ∷ ts) (room seen) (omega (arith, h .roomy)) (leb-false (wanted tag (k ∷ ts)) (room seen) y)) Passes.done;
-            keeps =
-                staying (kept (k ∷ ts) t 0) h (kept (k ∷ ts) (noted t q (hits all u k)) q) seen'
-                (rw (stop-is (room seen) (q, tag u) (slotsOf tag k) (allSlots tag ts) f (noted t q (hits all u k))
-                (leb-false (wanted tag (k ∷ ts)) (room seen) y))
-                at (named-holds (kept (k ∷ ts) t 0) h w)) (d .0) (further-are h at' l) (omega (arith, h .few));
-          }
+    name-at : (ts : List (List Key)) (t p : ℕ) → Keeps Is tag seen at f (kept ts t p) → r ≡ hits all u (present ts) → 0 < length ts
+        → Goes Is tag seen' at' f (kept ts t p) (named q u ∷ [])
+    unfolding wanted
+    name-at [] t p h w o = absurd (omega arith)
+    name-at (k ∷ ts) t (suc p) h w o = record {
+      next = kept (k ∷ ts) (noted t q (hits all u k)) (suc p);
+      passes = Passes.after e (λ (z : suc p ≡ 0). omega arith) Passes.done;
+      keeps =
+          staying (kept (k ∷ ts) t (suc p)) h (kept (k ∷ ts) (noted t q (hits all u k)) (suc p)) seen'
+          (rw (after-is n (q, tag u) (allSlots tag (k ∷ ts)) f (noted t q (hits all u k)) (suc p) (λ z. omega arith))
+          at (named-holds (kept (k ∷ ts) t (suc p)) h w)) (d .0) (further-are h at' l) (omega (arith, h .few));
+    }
+    name-at (k ∷ ts) t zero h w o = go (leb (wanted tag (k ∷ ts)) n) refl
+      where
+        go : (b : Bool) → leb (wanted tag (k ∷ ts)) n ≡ b → Goes Is tag seen' at' f (kept (k ∷ ts) t 0) (named q u ∷ [])
+        go true y = record {
+          next = kept (((q, u) ∷ k) ∷ ts) (noted t q (hits all u k)) 0;
+          passes = Passes.takes e Passes.done;
+          keeps =
+              staying (kept (k ∷ ts) t 0) h (kept (((q, u) ∷ k) ∷ ts) (noted t q (hits all u k)) 0) seen'
+              (rw (take-is n (q, tag u) (slotsOf tag k) (allSlots tag ts) f (noted t q (hits all u k))
+              (leb-true (wanted tag (k ∷ ts)) n y))
+              at (named-holds (kept (k ∷ ts) t 0) h w)) (d .0) (((is, i), further-are h at' l .0), further-are h at' l .1) (omega (arith, h .few));
+        }
+        go false y = record {
+          next = kept (k ∷ ts) (noted t q (hits all u k)) q;
+          passes = Passes.stops e (some-full tag (k ∷ ts) n two (leb-false (wanted tag (k ∷ ts)) n y)) Passes.done;
+          keeps =
+              staying (kept (k ∷ ts) t 0) h (kept (k ∷ ts) (noted t q (hits all u k)) q) seen'
+              (rw (stop-is n (q, tag u) (slotsOf tag k) (allSlots tag ts) f (noted t q (hits all u k))
+              (leb-false (wanted tag (k ∷ ts)) n y))
+              at (named-holds (kept (k ∷ ts) t 0) h w)) (d .0) (further-are h at' l) (omega (arith, h .few));
+        }
 
 module _ {Is : ℕ → List ℕ → Type 0} {tag : List ℕ → ℕ} {seen : List ℕ} {at f : ℕ} {s : Kept} (h : Keeps Is tag seen at f s) (at' : ℕ) (l : at ≤ at')
     (m : at' < 4294967295) where
@@ -207,6 +208,10 @@ module _ {Is : ℕ → List ℕ → Type 0} {tag : List ℕ → ℕ} {seen : Lis
   before-on q u e o = pass-at at' l m (s .keys) (s .twice) (s .stop) q u h e o
 
   -- a key of the window; r is what the search for it answers
-  pub names-on : (seen' : List ℕ) (q : ℕ) (u : List ℕ) (r : Bool) → Does (naming r (room seen) (q, tag u)) seen seen' → r ≡ hits all u (present (s .keys))
+  pub names-on : (seen' : List ℕ) (q : ℕ) (u : List ℕ) (r : Bool) → Names r (q, tag u) seen seen' → r ≡ hits all u (present (s .keys))
       → Is q u → f ≤ q → q < at' → 0 < length (s .keys) → Goes Is tag seen' at' f s (named q u ∷ [])
-  names-on seen' q u r d w is e i o = name-at at' l m seen' q u r d is e i (s .keys) (s .twice) (s .stop) h w o
+  names-on seen' q u r (n, (c, d)) w is e i o = name-at at' l m n (two c) seen' q u r d is e i (s .keys) (s .twice) (s .stop) h w o
+    where
+      two : (n ≡ room seen) ⊎ (n ≡ 2) → 2 ≤ n
+      two (inl y) = omega (arith, h .roomy)
+      two (inr y) = omega arith

@@ -7,7 +7,7 @@ use native.Mathlib.Omega.{arith}
 use native.Mathlib.Decide.{decLt}
 use lib.Dec.{eqb}
 use lib.ListN.{length, length-append}
-use borrow.Author.Tests.{eqb-true}
+use borrow.Author.Tests.{eqb-true, eq-eqb}
 use Rattle.meaning.specs.Once.{same}
 use Rattle.once.specs.Table.{Slot, room}
 use Rattle.once.specs.Groups.{flat, baseOf, State, At, Newest, Stands, Earlier, Placed, Tagged}
@@ -30,8 +30,13 @@ same-is (a ∷ u) (b ∷ v) e = go (eqb a b) refl e (same-is u v)
     go true f g h = let x = eqb-true a b f in let y = h g in cc
     go false f g h = absurd (let z : _≡_ {A = ℕ} 0 1 = cc in omega arith)
 
+pub same-self : (u : List ℕ) → same u u ≡ true
+unfolding same
+same-self [] = refl
+same-self (a ∷ u) = rw (eq-eqb a a refl) (same-self u)
+
 -- keys that something tells apart
-apart : (u v : List ℕ) → (u ≡ v → ⊥) → same u v ≡ false
+pub apart : (u v : List ℕ) → (u ≡ v → ⊥) → same u v ≡ false
 apart u v n = go (same u v) refl
   where
     go : (t : Bool) → same u v ≡ t → t ≡ false

@@ -8,10 +8,10 @@ use mathlib.Core.Option.{Option, some}
 use mathlib.Core.List.{List, [], _∷_, _++_}
 use native.Mathlib.Omega.{arith}
 use lib.Dec.{eqb, leb, ltb}
-use borrow.Author.Tests.{eqb-true, eqb-false, leb-false, le-leb, ltb-true, ltb-false, ne-eqb, lt-leb, lt-ltb, le-ltb}
+use borrow.Author.Tests.{eqb-true, eqb-false, leb-true, leb-false, le-leb, ltb-true, ltb-false, ne-eqb, lt-leb, lt-ltb, le-ltb}
 use Rattle.meaning.specs.Once.{same}
 use Rattle.meaning.specs.Between.Events.{Event, begins, ends, named, among, firstRepeat, Spans}
-use Rattle.once.specs.Windows.{Key, hits, all, repeatIn, window, least, num, Kept, nothing, noted, Some, Passes, Each, Every}
+use Rattle.once.specs.Windows.{Key, hits, all, repeatIn, window, least, onward, num, Kept, nothing, noted, Some, Passes, Each, Every}
 
 -- ---- one pass after the other
 
@@ -382,3 +382,50 @@ repeat-first (named q u ∷ es) (o ∷ os) =
 pub window-last : (es : List Event) → repeatIn (window 0 0) [] es ≡ num (firstRepeat [] es)
 unfolding allKeys
 window-last es = repeat-cong (window 0 0) all (λ e. rw (le-leb 0 e (omega arith))) es [] ∙ repeat-first es []
+
+-- ---- where no further window is needed
+
+-- a key that repeats one of the keys from f on comes after f
+repeat-after : (f p : ℕ) (es : List Event) (os : List (List Key)) (a b : ℕ) → Spans a b es → Every (Past a) os → From (suc f) (repeatIn (window f p) os es)
+unfolding repeatIn
+repeat-after f p [] os a b s g = inl refl
+repeat-after f p (begins ∷ es) os a b s g = repeat-after f p es ([] ∷ os) a b s (tt, g)
+repeat-after f p (ends ∷ es) [] a b s g = repeat-after f p es [] a b s tt
+repeat-after f p (ends ∷ es) (o ∷ os) a b s g = repeat-after f p es os a b s (g .1)
+repeat-after f p (named q u ∷ es) [] a b s g = repeat-after f p es [] (suc q) b (s .1) tt
+repeat-after f p (named q u ∷ es) (o ∷ os) a b s g =
+    go (leb q f) refl (hits (window f p) u o) (λ l. none-before f p a u o (g .0) l)
+    (repeat-after f p es (((q, u) ∷ o) ∷ os) (suc q) b (s .1) (past-more a q u o os (s .0) g))
+  where
+    go : {n : ℕ} (x : Bool) → leb q f ≡ x → (y : Bool) → (a ≤ f → y ≡ false) → From (suc f) n → From (suc f) (cond y q n)
+    go true e y h r = rw (h (omega (arith, leb-true q f e, s .0))) r
+    go false e true h r = inr (omega (arith, leb-false q f e))
+    go false e false h r = r
+
+-- so the first so far is the first of all where it stands no later
+enough : (best p b : ℕ) (es : List Event) → Spans 1 b es → best ≡ repeatIn (window 0 p) [] es → (best ≡ 0 → ⊥) → best ≤ p
+    → best ≡ repeatIn (window 0 0) [] es
+enough best p b es s e n l =
+    sym (least-first best (repeatIn (window p 0) [] es) n (from-less (suc p) (suc best) (omega arith) (repeat-after p 0 es [] 1 b s tt)))
+    ∙ ap (λ (r : ℕ). least r (repeatIn (window p 0) [] es)) e
+    ∙ repeat-either (window 0 p) (window p 0) es [] 1 b (omega arith) s
+    ∙ repeat-cong (either (window 0 p) (window p 0)) (window 0 0) (joined p 0 (λ z. n (let y : best ≡ 0 = omega arith in y)) (inl refl)) es []
+
+-- the next window may begin there
+pub window-onward : (best p b : ℕ) (es : List Event) → Spans 1 b es → best ≡ repeatIn (window 0 p) [] es → best
+    ≡ repeatIn (window 0 (onward best p)) [] es
+window-onward best p b es s e = go (eqb best 0) refl (leb best p) refl
+  where
+    go : (x : Bool) → eqb best 0 ≡ x → (y : Bool) → leb best p ≡ y → best ≡ repeatIn (window 0 (cond x p (cond y 0 p))) [] es
+    go true i y j = e
+    go false i true j = enough best p b es s e (eqb-false best 0 i) (leb-true best p j)
+    go false i false j = e
+
+-- it begins where the last one stopped, or nowhere
+pub onward-is : (best p : ℕ) → (onward best p ≡ 0) ⊎ (onward best p ≡ p)
+onward-is best p = go (eqb best 0) (leb best p)
+  where
+    go : (x y : Bool) → (cond x p (cond y 0 p) ≡ 0) ⊎ (cond x p (cond y 0 p) ≡ p)
+    go true y = inr refl
+    go false true = inl refl
+    go false false = inr refl

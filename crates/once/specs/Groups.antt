@@ -1,7 +1,7 @@
 -- The keys of the open objects in a table (docs/FORMAT.md, 7.2): each object that has a key in it is a group, begun by
 -- a mark. Assumes nothing.
 use mathlib.Core.Path.{_≡_}
-use mathlib.Core.Bool.{Bool, false, cond}
+use mathlib.Core.Bool.{Bool, true, false, cond}
 use mathlib.Core.Logic.{_⊎_}
 use mathlib.Core.List.{List, [], _∷_, _++_}
 use Prim.Native.Nat.{ℕ, suc, _+_, _-_, _%_, _<_, _≤_}
@@ -168,6 +168,15 @@ marked again p s = cond again (noticed p s) s
 
 abbrev pub naming : Bool → ℕ → Slot → State → State
 naming again n x s = taken n x (marked again (x .0) s)
+
+-- a chain may only be too long where some key is taken in, and none was refused
+abbrev pub Crowds : List ℕ → Bool → Type 0
+Crowds seen r = r ≡ true → (12 ≤ length seen) × (getD seen 5 0 ≡ 0) × (2 ≤ getD seen 0 0)
+
+-- a further key is named, in a table of its slots, or, where its chain is too long, as in one of two slots, which is
+-- full
+abbrev pub Names : Bool → Slot → List ℕ → List ℕ → Type 0
+Names again x before after = (n : ℕ) × (((n ≡ room before) ⊎ (n ≡ 2)) × Does (naming again n x) before after)
 
 -- ---- the header as it is read
 

@@ -39,6 +39,11 @@ window f p e = leb f e && (eqb p 0 || ltb e p)
 abbrev pub least : ℕ → ℕ → ℕ
 least a b = cond (eqb a 0) b (cond (eqb b 0) a (cond (leb a b) a b))
 
+-- where the next window begins, 0 for none, after those before p: none is needed where a repeated key stands at p or
+-- before it
+abbrev pub onward : ℕ → ℕ → ℕ
+onward best p = cond (eqb best 0) p (cond (leb best p) 0 p)
+
 -- a place, 0 for none
 abbrev pub num : Option ℕ → ℕ
 num none = 0

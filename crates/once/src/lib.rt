@@ -10,8 +10,12 @@ ghost use Prim.Native.Nat.{_+_, _*_, _-_, _/_, _%_, _^_, _<_, _≤_};
 ghost use lib.ListN.{length, getD};
 ghost use Rattle.once.specs.Table.{room, Roomy, Pushes, Filled, Pops, Above, Drops};
 ghost use Rattle.once.specs.Groups.{Sane, Set, Does, without, Begun, Opens, deeper, shallower, taken, noticed, Owns};
-ghost use Rattle.once.specs.Groups.{Newest, Stands, Earlier, Placed, Tagged, marked, naming, FromIs, TwiceIs, StopIs};
+ghost use Rattle.once.specs.Groups.{Newest, Stands, Earlier, Placed, Tagged, marked, Crowds, Names, FromIs, TwiceIs, StopIs};
 ghost use Rattle.once.specs.Hash.{stirred, seed, mix, finish};
+ghost use Rattle.once.specs.Windows.{least as lesser, onward};
+
+// How many keys of one object may stand in a chain; a key that finds so many there is not taken in.
+const CHAIN_LIMIT: u32 = 128;
 
 // How many slots there are.
 fn slots(len: usize) -> usize
@@ -264,12 +268,43 @@ fn mark(seen: &mut [u32], place: u32, again: bool)
     }
 }
 
-// A further key of the present object: where it repeats one it is noticed, and it is taken in.
+// Whether the tag's chain has as many keys of the present object as it may, so that a further one would make it too long.
+fn crowded(seen: &[u32], tag: u32) -> bool
+    requires { ⌜ Sane (now seen) ⌝ }
+    ensures { λ r. ⌜ Crowds (now (seen .entry)) r ⌝ }
+{
+    if seen.len() < 12 {
+        return false;
+    }
+    if seen[5] != 0 {
+        return false;
+    }
+    let mut left = CHAIN_LIMIT;
+    if seen[0] <= left {
+        return false;
+    }
+    let mut at = newest(seen, tag);
+    while at > 0 {
+        left -= 1;
+        if left == 0 {
+            return true;
+        }
+        at = earlier(seen, at);
+    }
+    false
+}
+
+// A further key of the present object: where it repeats one it is noticed, and it is taken in. Where its chain is too long, the
+// table stops there, as where there is no slot: keys made to stand in one chain cost no more than that in any one window.
 pub fn named(seen: &mut [u32], tag: u32, place: u32, again: bool)
     requires { ⌜ Sane (now seen) ⌝ }
-    ensures { λ _. ⌜ Does (naming again (room (now (seen .entry))) (place, tag)) (now (seen .entry)) (now (seen .exit)) ⌝ }
+    ensures { λ _. ⌜ Names again (place, tag) (now (seen .entry)) (now (seen .exit)) ⌝ }
 {
     mark(seen, place, again);
+    if crowded(seen, tag) {
+        seen[5] = place;
+        return;
+    }
     take_in(seen, tag, place);
 }
 
@@ -291,6 +326,36 @@ pub fn stopped(seen: &[u32]) -> usize
         return 0;
     }
     seen[5] as usize
+}
+
+// The lesser of two places, 0 for none.
+pub fn least(a: usize, b: usize) -> usize
+    ensures { λ r. ⌜ r ≡ lesser a b ⌝ }
+{
+    if a == 0 {
+        return b;
+    }
+    if b == 0 {
+        return a;
+    }
+    if a <= b {
+        return a;
+    }
+    b
+}
+
+// Where the next window begins, 0 for none, after one that stopped there: a key that repeats one of the keys from there on
+// comes after them, so none is needed where a repeated key stands before.
+pub fn further(best: usize, stop: usize) -> usize
+    ensures { λ r. ⌜ r ≡ onward best stop ⌝ }
+{
+    if best == 0 {
+        return stop;
+    }
+    if best <= stop {
+        return 0;
+    }
+    stop
 }
 
 // From where keys are taken in. It salts their tags too.

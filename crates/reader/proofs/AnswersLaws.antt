@@ -29,14 +29,14 @@ use Rattle.machine.proofs.Sound.{derives}
 use Rattle.machine.proofs.Refusals.Whole.{refusals}
 use Rattle.machine.proofs.Accepted.{none-accepted, first-refused}
 use Rattle.once.specs.Groups.{TwiceIs, StopIs}
-use Rattle.once.specs.Windows.{nothing, num}
+use Rattle.once.specs.Windows.{nothing, num, onward}
 use Rattle.reader.specs.Answers.{answerSaid, Measures, Reads, filled, tape-short, store-short}
 use Rattle.reader.specs.Between.Repeat.{Keeping}
 use Rattle.reader.specs.Between.Walk.{WalkSays, Searching, AnsweredSays}
 use Rattle.reader.specs.declared.Answer.{Answer}
 use Rattle.reader.specs.declared.Answer.the-variants.{Counts, Refused}
 use Rattle.reader.proofs.Claims.{Sized, measure-accepts, bounded}
-use Rattle.reader.proofs.WalkWindowLaws.{keys-span, first-window, search-ends, first-past}
+use Rattle.reader.proofs.WalkWindowLaws.{keys-span, first-window, searching-onward, search-ends, first-past}
 
 no-meaning : {m : Meaning} {why : Refusal} → Ok m ≡ No why → ⊥
 no-meaning e = let z : _≡_ {A = ℕ} 0 1 = cc in omega arith
@@ -49,7 +49,7 @@ pub record Counted (text seen : List ℕ) (r s : ℕ) : Type 0 where
   pub means : Loose true text meaning
   pub counted : r ≡ records meaning
   pub held : s ≡ bytes meaning
-  pub searching : (twice stop : ℕ) → TwiceIs seen twice → StopIs seen stop → Searching text twice stop
+  pub searching : (twice stop : ℕ) → TwiceIs seen twice → StopIs seen stop → Searching text twice (onward twice stop)
 
 module _ (text : List ℕ) where
   pub measure-long : textLimit < length text → Measures text (Refused TextTooLong)
@@ -75,7 +75,8 @@ module _ (text : List ℕ) where
             means = x;
             counted = er;
             held = es;
-            searching = λ twice stop i z. first-window w twice stop i z k (keys-span x (w .keys) (ap (λ (t : Told). t .heard) (w .told))) h;
+            searching = λ twice stop i z.
+                searching-onward (first-window w twice stop i z k (keys-span x (w .keys) (ap (λ (t : Told). t .heard) (w .told))) h);
           }
 
 module _ {text seen : List ℕ} {r s : ℕ} (t : Counted text seen r s) where

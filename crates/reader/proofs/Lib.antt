@@ -28,6 +28,8 @@ pub mod WalkWindowLaws
 pub mod AnswersLaws
 -- SpellingHeardLaws: what the next colon names
 pub mod SpellingHeardLaws
+-- SpellingGivenLaws: the bytes given of a key are its first
+pub mod SpellingGivenLaws
 -- SpellingLaws: a key, spelled a byte at a time
 pub mod SpellingLaws
 -- TagLaws: the tag of a key

@@ -1,144 +1,104 @@
 -- The search for a repeated key: two keys spelled side by side, the keys that are taken in one after the other, and what a further key does to the table.
 -- Assumes nothing.
 use mathlib.Core.Path.{_≡_, refl, sym, ap, _∙_, subst}
-use mathlib.Core.Bool.{Bool, true, false, cond}
+use mathlib.Core.Bool.{Bool, true, false}
 use mathlib.Core.Logic.{inl, inr}
 use mathlib.Core.List.{List, [], _∷_, _++_}
-use Prim.Native.Nat.{ℕ, suc, _+_, _≤_, _<_}
+use Prim.Native.Nat.{ℕ, _+_, _≤_, _<_}
 use native.Mathlib.Omega.{arith}
 use lib.Dec.{eqb}
 use lib.ListN.{length, length-append}
+use borrow.Author.Tests.{eqb-true, eqb-false}
 use Rattle.meaning.specs.Once.{same}
-use Rattle.once.specs.Table.{room}
-use Rattle.once.specs.Groups.{Does, naming, Sane, Newest, Stands, Earlier, Placed, Tagged, FromIs}
+use Rattle.once.specs.Groups.{Names, Sane, Newest, Stands, Earlier, Placed, Tagged, FromIs}
 use Rattle.once.specs.Windows.{Kept}
 use Rattle.once.specs.Hash.{hashOf}
 use Rattle.once.proofs.KeepingLaws.{keeps-sane, keeps-since, keeps-from, names-on, before-on}
-use Rattle.once.proofs.KeepingSeekLaws.{Sought, seek-begins, seek-stands, seek-key, seek-finds, seek-falls, seek-past, seek-past-tag, seek-ends}
+use Rattle.once.proofs.KeepingSeekLaws.{same-self, apart, Sought, seek-begins, seek-stands, seek-key, seek-finds, seek-falls, seek-past, seek-past-tag}
+use Rattle.once.proofs.KeepingSeekLaws.{seek-ends}
 use Rattle.reader.specs.Between.Spelling.{InText, Spells, LetterSays}
-use Rattle.reader.specs.Between.Repeat.{KeyIs, AtKey, Keeping, Tabled, OutSays, EndSays, SameSays, TagSays, Seeks, RepeatSays, NoteSays}
+use Rattle.reader.specs.Between.Repeat.{KeyIs, AtKey, Keeping, Tabled, OverSays, SameSays, TagSays, Seeks, RepeatSays, NoteSays}
 use Rattle.reader.specs.declared.spelling.Spelling.{Spelling}
 use Rattle.reader.specs.declared.spelling.Letter.{Letter}
-
--- ---- a key, spelled to its end
-
-pub record Outgoing (text : List ℕ) (from s : Spelling) : Type 0 where
-  pub within : InText text s
-  pub goes : (e u : List ℕ) → Spells text from e u → (d : List ℕ) × (Spells text s d u × (length e ≤ length d))
-
-module _ (text : List ℕ) (from : Spelling) where
-  pub out-begins : InText text from → Outgoing text from from
-  out-begins l = record { within = l; goes = λ e u w. (e, (w, omega arith)) }
-
-  module _ (s : Spelling) (v : Outgoing text from s) where
-    pub out-more : (b : ℕ) (t : Spelling) → LetterSays text s (Letter.Byte b t) → Outgoing text from t
-    out-more b t w = record {
-      within = w .0 .within;
-      goes = λ e u h.
-          let y = v .goes e u h in
-          (y .0 ++ (b ∷ []), (w .1 (y .0) u (y .1 .0), omega (arith, y .1 .1, length-append (y .0) (b ∷ []))));
-    }
-
-    pub out-over : LetterSays text s Letter.Over → OutSays text from
-    out-over w e u h = let y = v .goes e u h in omega (arith, y .1 .1, ap length (w (y .0) u (y .1 .0)))
+use Rattle.reader.proofs.SpellingGivenLaws.{Front, spells-front}
 
 -- ---- two keys, side by side
 
--- keys of different lengths
-pub unlike : (u v : List ℕ) → (length u ≡ length v → ⊥) → false ≡ same u v
-unfolding same
-unlike [] [] n = absurd (n refl)
-unlike [] (b ∷ v) n = refl
-unlike (a ∷ u) [] n = refl
-unlike (a ∷ u) (b ∷ v) n = by (eqb a b) (unlike u v (λ e. n (ap suc e)))
-  where
-    by : (t : Bool) → false ≡ same u v → false ≡ cond t (same u v) false
-    by true e = e
-    by false e = refl
+-- with a byte more than e
+longer : (e u : List ℕ) (x : ℕ) → Front (e ++ (x ∷ [])) u → length e < length u
+longer e u x (w, z) = omega (arith, ap length z, length-append (e ++ (x ∷ [])) w, length-append e (x ∷ []))
 
-pub same-more : (d e : List ℕ) (x y : ℕ) → length d ≡ length e → same (d ++ (x ∷ [])) (e ++ (y ∷ [])) ≡ cond (same d e) (eqb x y) false
-unfolding same
-same-more [] [] x y l = by (eqb x y)
-  where
-    by : (t : Bool) → cond t true false ≡ t
-    by true = refl
-    by false = refl
-same-more [] (b ∷ e) x y l = absurd (omega arith)
-same-more (a ∷ d) [] x y l = absurd (omega arith)
-same-more (a ∷ d) (b ∷ e) x y l = by (eqb a b) (same-more d e x y (omega arith))
-  where
-    by : (t : Bool) → same (d ++ (x ∷ [])) (e ++ (y ∷ [])) ≡ cond (same d e) (eqb x y) false
-        → cond t (same (d ++ (x ∷ [])) (e ++ (y ∷ []))) false ≡ cond (cond t (same d e) false) (eqb x y) false
-    by true m = m
-    by false m = refl
+-- behind the same bytes, another byte
+other : (e v w : List ℕ) (x y : ℕ) → (e ++ (x ∷ [])) ++ v ≡ (e ++ (y ∷ [])) ++ w → x ≡ y
+other [] v w x y z = cc
+other (a ∷ e) v w x y z = let i : (e ++ (x ∷ [])) ++ v ≡ (e ++ (y ∷ [])) ++ w = cc in other e v w x y i
 
--- as many bytes of each, the same or not
-pub record Beside (text : List ℕ) (s t : Spelling) (so-far : Bool) (u v : List ℕ) : Type 0 where
-  pub left : List ℕ
-  pub right : List ℕ
-  pub spells-left : Spells text s left u
-  pub spells-right : Spells text t right v
-  pub long : length left ≡ length right
-  pub is : so-far ≡ same left right
+module _ (text : List ℕ) where
+  pub over-yes : (s : Spelling) → LetterSays text s Letter.Over → OverSays text s true
+  over-yes s w e u h = sym (ap (same e) (sym (w e u h)) ∙ same-self e)
 
-pub record Comparing (text : List ℕ) (a b : ℕ) (s t : Spelling) (so-far : Bool) : Type 0 where
-  pub left : InText text s
-  pub right : InText text t
-  pub goes : (u v : List ℕ) → KeyIs text a u → KeyIs text b v → Beside text s t so-far u v
+  pub over-no : (s : Spelling) (b : ℕ) (t : Spelling) → LetterSays text s (Letter.Byte b t) → OverSays text s false
+  over-no s b t w e u h =
+      sym (apart e u (λ z. omega (arith, ap length z, longer e u b (spells-front text t (e ++ (b ∷ [])) u (w .1 e u h)))))
 
 abbrev Begins : List ℕ → ℕ → Spelling → Type 0
 Begins text a s = InText text s × ((u : List ℕ) → KeyIs text a u → Spells text s [] u)
 
-module _ (text : List ℕ) where
-  pub end-over : (s : Spelling) (so-far : Bool) → LetterSays text s Letter.Over → EndSays text s so-far so-far
-  end-over s so-far w d e u h l x = x ∙ ap (same d) (w e u h)
+-- the same bytes have been given of each
+abbrev Beside : List ℕ → Spelling → Spelling → List ℕ → List ℕ → Type 0
+Beside text s t u v = (e : List ℕ) × (Spells text s e u × Spells text t e v)
 
-  pub end-more : (s : Spelling) (so-far : Bool) (b : ℕ) (t : Spelling) → LetterSays text s (Letter.Byte b t) → OutSays text t → EndSays text s so-far false
-  end-more s so-far b t w o d e u h l x = unlike d u (λ z. omega (arith, o (e ++ (b ∷ [])) u (w .1 e u h), length-append e (b ∷ [])))
+-- alike so far, or known to be apart
+pub record Comparing (text : List ℕ) (a b : ℕ) (s t : Spelling) (alike : Bool) : Type 0 where
+  pub left : InText text s
+  pub right : InText text t
+  pub goes : alike ≡ true → (u v : List ℕ) → KeyIs text a u → KeyIs text b v → Beside text s t u v
+  pub parts : alike ≡ false → SameSays text a b false
 
-  module _ (a b : ℕ) where
-    pub compare-begins : (s t : Spelling) → Begins text a s → Begins text b t → Comparing text a b s t true
-    unfolding same
-    compare-begins s t f g = record {
-      left = f .0;
-      right = g .0;
-      goes = λ u v i j. record { left = []; right = []; spells-left = f .1 u i; spells-right = g .1 v j; long = refl; is = refl };
-    }
+module _ (text : List ℕ) (a b : ℕ) (s t : Spelling) where
+  pub compare-begins : Begins text a s → Begins text b t → Comparing text a b s t true
+  compare-begins f g = record {
+    left = f .0;
+    right = g .0;
+    goes = λ z u v i j. ([], (f .1 u i, g .1 v j));
+    parts = λ z. absurd (let y : _≡_ {A = ℕ} 0 1 = cc in omega arith);
+  }
 
-    module _ (s t : Spelling) (so-far : Bool) (c : Comparing text a b s t so-far) where
-      pub compare-over : LetterSays text s Letter.Over → (r : Bool) → EndSays text t so-far r → SameSays text a b r
-      compare-over w r g u v i j =
-          let y = c .goes u v i j in
-          g (y .left) (y .right) v (y .spells-right) (y .long) (y .is) ∙ ap (λ (x : List ℕ). same x v) (w (y .left) u (y .spells-left))
+  module _ (alike : Bool) (c : Comparing text a b s t alike) (so : alike ≡ true) where
+    pub compare-over : LetterSays text s Letter.Over → (r : Bool) → OverSays text t r → SameSays text a b r
+    compare-over w r o u v i j =
+        let y = c .goes so u v i j in
+        o (y .0) v (y .1 .1) ∙ ap (λ (d : List ℕ). same d v) (w (y .0) u (y .1 .0))
 
-      module _ (x : ℕ) (s' : Spelling) (m : LetterSays text s (Letter.Byte x s')) where
-        pub compare-longer : LetterSays text t Letter.Over → OutSays text s' → SameSays text a b false
-        compare-longer w o u v i j =
-            let y = c .goes u v i j in
-            unlike u v
-            (λ z. omega (
-              arith,
-              y .long,
-              o (y .left ++ (x ∷ [])) u (m .1 (y .left) u (y .spells-left)),
-              length-append (y .left) (x ∷ []),
-              ap length (w (y .right) v (y .spells-right)),
-            ))
+    module _ (x : ℕ) (s' : Spelling) (m : LetterSays text s (Letter.Byte x s')) where
+      -- u begins with e and x
+      front : (e u : List ℕ) → Spells text s e u → Front (e ++ (x ∷ [])) u
+      front e u h = spells-front text s' (e ++ (x ∷ [])) u (m .1 e u h)
 
-        pub compare-more : (z : ℕ) (t' : Spelling) → LetterSays text t (Letter.Byte z t') → (r : Bool) → r ≡ cond so-far (eqb x z) false
-            → Comparing text a b s' t' r
-        compare-more z t' n r e = record {
+      pub compare-longer : LetterSays text t Letter.Over → SameSays text a b false
+      compare-longer w u v i j =
+          let y = c .goes so u v i j in
+          sym (apart u v (λ z. omega (arith, ap length z, ap length (w (y .0) v (y .1 .1)), longer (y .0) u x (front (y .0) u (y .1 .0)))))
+
+      module _ (y : ℕ) (t' : Spelling) (n : LetterSays text t (Letter.Byte y t')) where
+        differ : (x ≡ y → ⊥) → SameSays text a b false
+        differ d u v i j =
+            let k = c .goes so u v i j in
+            let l = front (k .0) u (k .1 .0) in
+            let r = spells-front text t' (k .0 ++ (y ∷ [])) v (n .1 (k .0) v (k .1 .1)) in
+            sym (apart u v (λ z. d (other (k .0) (l .0) (r .0) x y (sym (l .1) ∙ z ∙ r .1))))
+
+        go-on : x ≡ y → (u v : List ℕ) → KeyIs text a u → KeyIs text b v → Beside text s' t' u v
+        go-on e u v i j =
+            let k = c .goes so u v i j in
+            (k .0 ++ (x ∷ []), (m .1 (k .0) u (k .1 .0), subst (λ (b : ℕ). Spells text t' (k .0 ++ (b ∷ [])) v) (sym e) (n .1 (k .0) v (k .1 .1))))
+
+        pub compare-more : Comparing text a b s' t' (eqb x y)
+        compare-more = record {
           left = m .0 .within;
           right = n .0 .within;
-          goes = λ u v i j.
-              let y = c .goes u v i j in
-              record {
-                left = y .left ++ (x ∷ []);
-                right = y .right ++ (z ∷ []);
-                spells-left = m .1 (y .left) u (y .spells-left);
-                spells-right = n .1 (y .right) v (y .spells-right);
-                long = omega (arith, y .long, length-append (y .left) (x ∷ []), length-append (y .right) (z ∷ []));
-                is = e ∙ ap (λ (d : Bool). cond d (eqb x z) false) (y .is) ∙ sym (same-more (y .left) (y .right) x z (y .long));
-              };
+          goes = λ e. go-on (eqb-true x y e);
+          parts = λ e. differ (eqb-false x y e);
         }
 
 -- ---- the keys that are taken in, one after the other
@@ -218,12 +178,12 @@ module _ (text seen : List ℕ) (q : ℕ) (k : AtKey text q) where
           (k, (x .0, (x .1 .0, (x .1 .1, λ u i. t u i ∙ ap (λ (f : ℕ). hashOf f u) (keeps-from (x .1 .1) from g)))))
 
       pub note-named : from ≤ q → (tag : ℕ) → TagSays text q from tag → (r : Bool) → RepeatSays text seen q r → (seen' : List ℕ)
-          → Does (naming r (room seen) (q, tag)) seen seen' → NoteSays text seen seen' q
+          → Names r (q, tag) seen seen' → NoteSays text seen seen' q
       note-named m tag t r a seen' d = record {
-        long = d .0;
+        long = d .1 .1 .0;
         leads = λ f s h o u i.
             let y = keeps-from h from g in
             names-on h (q + 1) (omega arith) (omega (arith, k .inside, k .short)) seen' q u r
-            (subst (λ (x : ℕ). Does (naming r (room seen) (q, x)) seen seen') (t u i ∙ ap (λ (x : ℕ). hashOf x u) y) d)
+            (subst (λ (x : ℕ). Names r (q, x) seen seen') (t u i ∙ ap (λ (x : ℕ). hashOf x u) y) d)
             (a f s h u i) i (omega arith) (omega arith) o;
       }

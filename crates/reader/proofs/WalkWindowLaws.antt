@@ -1,7 +1,7 @@
 -- The windows of the search for a repeated key: the first, each next one, and what they come to. Assumes nothing.
 use mathlib.Core.Path.{_≡_, sym, ap, _∙_, subst}
 use mathlib.Core.Bool.{Bool, true, false, cond}
-use mathlib.Core.Logic.{inr}
+use mathlib.Core.Logic.{_⊎_, inl, inr}
 use mathlib.Core.Option.{some}
 use mathlib.Core.List.{List, [], _∷_}
 use Prim.Native.Nat.{ℕ, suc, _-_, _≤_, _<_, _^_}
@@ -18,9 +18,9 @@ use Rattle.machine.specs.Heard.{Told, telling, heardOf}
 use Rattle.machine.proofs.Repeated.{text-keys, heard-one}
 use Rattle.once.specs.Groups.{Begun, TwiceIs, StopIs}
 use Rattle.once.specs.Hash.{hashOf}
-use Rattle.once.specs.Windows.{Kept, nothing, repeatIn, window, least, num, Passes}
+use Rattle.once.specs.Windows.{Kept, nothing, repeatIn, window, least, onward, num, Passes}
 use Rattle.once.proofs.KeepingLaws.{keeps-twice, keeps-stop, zeroes-keep, begun-keeps}
-use Rattle.once.proofs.WindowsLaws.{window-first, window-next, window-last, moves-on}
+use Rattle.once.proofs.WindowsLaws.{window-first, window-next, window-last, window-onward, onward-is, moves-on}
 use Rattle.reader.specs.Between.Repeat.{KeyIs, Keeping}
 use Rattle.reader.specs.Between.Cursor.{Seen}
 use Rattle.reader.specs.Between.Walk.{WalkSays, Walked, Searching, AtWindow}
@@ -64,6 +64,28 @@ keys-span {text} x keys h =
     subst (Spans 1 (length text)) (heard-one (k .keys) keys (sym (ap (λ (z : Told). z .heard) (k .heard)) ∙ h)) (k .spans)
 
 -- ---- one window
+
+-- where the next one begins
+pub searching-onward : {text : List ℕ} {best stop : ℕ} → Searching text best stop → Searching text best (onward best stop)
+searching-onward {text} {best} {stop} s = record {
+  keys = s .keys;
+  told = s .told;
+  spans = s .spans;
+  found = window-onward best stop (length text) (s .keys) (s .spans) (s .found);
+  inside = by (onward-is best stop);
+  short = s .short;
+}
+  where
+    by : (onward best stop ≡ 0) ⊎ (onward best stop ≡ stop) → onward best stop ≤ length text
+    by (inl e) = omega arith
+    by (inr e) = omega (arith, s .inside)
+
+onward-later : (from best stop : ℕ) → ((stop ≡ 0 → ⊥) → from < stop) → (onward best stop ≡ 0 → ⊥) → from < onward best stop
+onward-later from best stop h n = by (onward-is best stop)
+  where
+    by : (onward best stop ≡ 0) ⊎ (onward best stop ≡ stop) → from < onward best stop
+    by (inl e) = absurd (n e)
+    by (inr e) = let y = h (λ z. n (e ∙ z)) in omega arith
 
 stop-inside : (f b : ℕ) (es : List Event) (s : Kept) → Passes f nothing es s → Spans 1 b es → s .stop ≤ b
 stop-inside f b es s x w = by (decLt 0 (s .stop))
@@ -113,9 +135,11 @@ module _ {text tape tape' store store' seen seen' : List ℕ} {m : Meaning} (w :
 
 pub window-says : {text tape tape' store store' seen₀ seen seen' : List ℕ} {best from : ℕ} → AtWindow text seen₀ best from → Begun from seen₀ seen
     → (r s : ℕ) → WalkSays text tape tape' store store' seen seen' (Counts r s) → (twice stop : ℕ) → TwiceIs seen' twice → StopIs seen' stop
-    → Searching text (least best twice) stop × ((stop ≡ 0 → ⊥) → from < stop)
+    → Searching text (least best twice) (onward (least best twice) stop)
+    × ((onward (least best twice) stop ≡ 0 → ⊥) → from < onward (least best twice) stop)
 window-says {seen = seen} {best = best} {from = from} a b r s (m, w, er, es) twice stop i j =
-    next-window w twice stop i j best from (a .searching) (a .more) (begun-there a seen b)
+    let x = next-window w twice stop i j best from (a .searching) (a .more) (begun-there a seen b) in
+    (searching-onward (x .0), onward-later from (least best twice) stop (x .1))
 
 -- ---- all windows
 

@@ -11,7 +11,6 @@ ghost use mathlib.Core.Path.{_≡_};
 ghost use Prim.Native.Nat.{_≤_};
 ghost use lib.ListN.{length};
 ghost use Rattle.meaning.specs.Limits.{textLimit};
-ghost use Rattle.once.specs.Windows.{least as lesser};
 ghost use Rattle.reader.specs.Answers.{Measures, Reads};
 ghost use Rattle.reader.specs.Between.Cursor.{Seen};
 ghost use Rattle.reader.specs.Between.Walk.{EndedSays, WalkSays, Searching, AtWindow, WindowSays, SearchSays, AnsweredSays};
@@ -68,19 +67,6 @@ fn walk(text: &[u8], tape: &mut [u8], store: &mut [u8], seen: &mut [u32]) -> Ans
     }
 }
 
-// The lesser of two places, 0 for none.
-fn least(a: usize, b: usize) -> usize
-    ensures { λ r. ⌜ r ≡ lesser a b ⌝ }
-{
-    if a == 0 {
-        return b;
-    }
-    if b == 0 {
-        return a;
-    }
-    if a <= b { a } else { b }
-}
-
 // 15 where a key repeats one, else the counts.
 fn answered(twice: usize, records: usize, bytes: usize) -> Answer
     ensures { λ a. ⌜ AnsweredSays twice records bytes a ⌝ }
@@ -116,10 +102,14 @@ fn window(text: &[u8], seen: &mut [u32], best: usize, from: usize) -> Windowed
         Answer::Counts {
             records: _,
             bytes: _,
-        } => Windowed::Next {
-            best: least(best, once::first_twice(seen)),
-            from: once::stopped(seen),
-        },
+        } => {
+            let first = once::least(best, once::first_twice(seen));
+            let next = once::further(first, once::stopped(seen));
+            Windowed::Next {
+                best: first,
+                from: next,
+            }
+        }
     }
 }
 
@@ -179,11 +169,11 @@ pub fn measure(text: &[u8]) -> Answer
                 Answer::Refused(why) => Answer::Refused(why),
                 Answer::Counts { records, bytes } => {
                     let twice = once::first_twice(&seen);
-                    let stop = once::stopped(&seen);
-                    if stop == 0 {
+                    let from = once::further(twice, once::stopped(&seen));
+                    if from == 0 {
                         return answered(twice, records, bytes);
                     }
-                    match searched(text, twice, stop, 1) {
+                    match searched(text, twice, from, 1) {
                         Search::Refused(why) => Answer::Refused(why),
                         Search::Done(best) => answered(best, records, bytes),
                     }

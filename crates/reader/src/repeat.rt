@@ -1,80 +1,46 @@
 // Keys of the open objects: each is compared with the earlier ones of its object.
-ghost use mathlib.Core.Path.{_≡_};
-ghost use mathlib.Core.Bool.{cond, false};
 ghost use Prim.Native.Nat.{_<_};
-ghost use lib.Dec.{eqb};
 ghost use lib.ListN.{length};
 ghost use Rattle.reader.specs.Between.Spelling.{InText};
-ghost use Rattle.reader.specs.Between.Repeat.{AtKey, Tabled, OutSays, EndSays, SameSays, Seeks, RepeatSays, NoteSays};
+ghost use Rattle.reader.specs.Between.Repeat.{AtKey, Tabled, OverSays, SameSays, Seeks, RepeatSays, NoteSays};
 use crate::spelling;
 use crate::spelling::Letter;
 use crate::spelling::Spelling;
 use crate::tag;
 
-// Spells a key to its end.
-fn spelled_out(text: &[u8], from: Spelling)
+// Whether a key has no byte left.
+fn over(text: &[u8], from: Spelling) -> bool
     requires { ⌜ InText (now text) from ⌝ }
-    ensures { λ _. ⌜ OutSays (now (text .entry)) from ⌝ }
-{
-    let mut s = from;
-    loop {
-        match spelling::next(text, s) {
-            Letter::Over => return,
-            Letter::Byte(_, t) => {
-                s = t;
-            }
-        }
-    }
-}
-
-// Where one key has ended: the other has to end too.
-fn ended_too(text: &[u8], from: Spelling, same: bool) -> bool
-    requires { ⌜ InText (now text) from ⌝ }
-    ensures { λ r. ⌜ EndSays (now (text .entry)) from same r ⌝ }
+    ensures { λ r. ⌜ OverSays (now (text .entry)) from r ⌝ }
 {
     match spelling::next(text, from) {
-        Letter::Over => same,
-        Letter::Byte(_, t) => {
-            spelled_out(text, t);
-            false
-        }
+        Letter::Over => true,
+        Letter::Byte(_, _) => false,
     }
 }
 
-// The bytes so far are alike, and the next two.
-fn still_same(same: bool, x: u8, y: u8) -> bool
-    ensures { λ r. ⌜ r ≡ cond same (eqb x y) false ⌝ }
-{
-    if same {
-        return x == y;
-    }
-    false
-}
-
-// Whether the keys at two places mean the same bytes. Both are spelled to their ends, wherever they differ.
+// Whether the keys at two places mean the same bytes. They are spelled as far as they are alike.
 fn same_key(text: &[u8], a: usize, b: usize) -> bool
     requires { ⌜ (a < length (now text)) × (b < length (now text)) ⌝ }
     ensures { λ r. ⌜ SameSays (now (text .entry)) a b r ⌝ }
 {
     let mut s = spelling::begun(text, a);
     let mut t = spelling::begun(text, b);
-    let mut same = true;
-    loop {
+    let mut alike = true;
+    while alike {
         match spelling::next(text, s) {
-            Letter::Over => return ended_too(text, t, same),
+            Letter::Over => return over(text, t),
             Letter::Byte(x, s1) => match spelling::next(text, t) {
-                Letter::Over => {
-                    spelled_out(text, s1);
-                    return false;
-                }
+                Letter::Over => return false,
                 Letter::Byte(y, t1) => {
-                    same = still_same(same, x, y);
+                    alike = x == y;
                     s = s1;
                     t = t1;
                 }
             },
         }
     }
+    false
 }
 
 // Whether a key of the present object that is taken in is the one at this place.

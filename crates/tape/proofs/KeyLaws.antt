@@ -16,27 +16,16 @@ use Rattle.meaning.specs.Between.Words.{midOf, highOf}
 use Rattle.once.specs.Hash.{seed, mix, finish, mixes, hashOf}
 use Rattle.once.proofs.HashLaws.{mixes-none, mixes-more, hash-done}
 use Rattle.once.specs.Table.{room}
-use Rattle.once.specs.Groups.{Newest, Stands, Earlier, Does, naming}
+use Rattle.once.specs.Groups.{Newest, Stands, Earlier, Names}
 use Rattle.once.proofs.KeepingLaws.{before-on, names-on}
-use Rattle.once.proofs.KeepingSeekLaws.{same-is, Sought, seek-begins, seek-stands, seek-key, seek-finds, seek-falls, seek-past-tag, seek-past, seek-ends}
+use Rattle.once.proofs.KeepingSeekLaws.{same-self, apart, Sought, seek-begins, seek-stands, seek-key, seek-finds, seek-falls, seek-past-tag, seek-past}
+use Rattle.once.proofs.KeepingSeekLaws.{seek-ends}
 use Rattle.tape.specs.declared.Words.{Words}
 use Rattle.tape.specs.Between.Shapes.{wordsAt}
 use Rattle.tape.specs.Between.Key.{arrayTo, objectTo, KeyIs, SlotHolds, SlotIs, other-tag, told, Seeks, Repeats, Coming, Notes, Innermost}
 use Rattle.tape.proofs.LookingLaws.{record-numbers}
 
 -- ---- equal bytes
-
-pub same-self : (u : List ℕ) → same u u ≡ true
-unfolding same
-same-self [] = refl
-same-self (a ∷ u) = rw (eq-eqb a a refl) (same-self u)
-
-pub same-not : (u v : List ℕ) → (u ≡ v → ⊥) → false ≡ same u v
-same-not u v n = go (same u v) refl
-  where
-    go : (t : Bool) → same u v ≡ t → false ≡ t
-    go true e = absurd (n (same-is u v e))
-    go false e = refl
 
 -- as long as each other, and alike so far
 pub record Alike (a b : List ℕ) (i : ℕ) : Type 0 where
@@ -54,7 +43,7 @@ alike-more {a} {b} {i} h e = record { long = h .long; so = λ j l. go j l (decLt
     go j l (Dec.no m) = let z : i ≡ j = omega arith in subst (λ (k : ℕ). getD a k 0 ≡ getD b k 0) z e
 
 pub unlike : (a b : List ℕ) (i : ℕ) → (getD a i 0 ≡ getD b i 0 → ⊥) → false ≡ same a b
-unlike a b i n = same-not a b (λ e. n (ap (λ (l : List ℕ). getD l i 0) e))
+unlike a b i n = sym (apart a b (λ e. n (ap (λ (l : List ℕ). getD l i 0) e)))
 
 pub alike-all : {a b : List ℕ} {i : ℕ} → Alike a b i → length a ≤ i → true ≡ same a b
 alike-all {a} {b} h l =
@@ -164,7 +153,7 @@ module _ {tape store : List ℕ} {index from : ℕ} {key seen : List ℕ} where
   notes-before l s h = before-on (h .keeps) (index + 1) (omega arith) (omega (arith, h .few)) index key l (h .inside)
 
   pub notes-after : from ≤ index → {t : ℕ} → t ≡ hashOf from key → {r : Bool} → Repeats tape store key t seen r → {seen' : List ℕ}
-      → Does (naming r (room seen) (index, t)) seen seen' → Notes tape store index from key seen seen'
+      → Names r (index, t) seen seen' → Notes tape store index from key seen seen'
   notes-after l {t} e {r} g {seen'} d s h =
       names-on (h .keeps) (index + 1) (omega arith) (omega (arith, h .few)) seen' index key r (rw e at d)
       (g index from s (record { keeps = h .keeps; tagged = e })) (h .is) l (omega arith) (h .inside)

@@ -1,6 +1,7 @@
 -- Windows over the keys of records, one after the other, find the first repeated key. Assumes nothing.
 use mathlib.Core.Path.{_≡_, refl, sym, ap, _∙_, subst}
 use mathlib.Core.Bool.{Bool, true, false}
+use mathlib.Core.Logic.{_⊎_, inl, inr}
 use mathlib.Core.List.{List, []}
 use Prim.Native.Nat.{ℕ, zero, suc, _+_, _-_, _≤_, _<_, _^_}
 use native.Mathlib.Omega.{arith}
@@ -10,8 +11,8 @@ use borrow.Author.Tests.{eqb-true, eqb-false}
 use Rattle.meaning.specs.Between.Events.{Spans}
 use Rattle.once.specs.Groups.{Begun, TwiceIs, StopIs}
 use Rattle.once.specs.Hash.{hashOf}
-use Rattle.once.specs.Windows.{repeatIn, window, least}
-use Rattle.once.proofs.WindowsLaws.{window-first, window-next, window-last, moves-on}
+use Rattle.once.specs.Windows.{repeatIn, window, least, onward}
+use Rattle.once.proofs.WindowsLaws.{window-first, window-next, window-last, window-onward, onward-is, moves-on}
 use Rattle.once.proofs.KeepingLaws.{keeps-twice, keeps-stop, begun-keeps, zeroes-keep}
 use Rattle.tape.specs.declared.key.Window.{Window}
 use Rattle.tape.specs.Between.Standing.{recordsFrom}
@@ -45,9 +46,32 @@ module _ {tape store : List ℕ} {bound : ℕ} where
           (λ z. eqb-false (g .next .stop) 0 e z) in
           omega arith
 
-  pub first-window : {seen : List ℕ} → Passed tape store bound 0 seen → {t f : ℕ} → TwiceIs seen t → StopIs seen f
+  -- where the next window begins
+  windowed-onward : {b f : ℕ} → Windowed tape store bound (record { best = b; from = f }) → {n : ℕ} → n ≡ onward b f
+      → Windowed tape store bound (record { best = b; from = n })
+  windowed-onward {b} {f} h {n} e = record {
+    best =
+        window-onward b f (bound + 1) (eventsBelow tape store bound) (spans-bound tape store bound) (h .best)
+        ∙ ap (λ (p : ℕ). repeatIn (window 0 p) [] (eventsBelow tape store bound)) (sym e);
+    near = by (onward-is b f);
+  }
+    where
+      by : (onward b f ≡ 0) ⊎ (onward b f ≡ f) → n ≤ bound
+      by (inl z) = omega arith
+      by (inr z) = omega (arith, h .near)
+
+  later-onward : {w : Window} {b f : ℕ} → Later tape store bound w (record { best = b; from = f }) → {n : ℕ} → n ≡ onward b f
+      → Later tape store bound w (record { best = b; from = n })
+  later-onward {w} {b} {f} h {n} e =
+      record { windowed = windowed-onward (h .windowed) e; later = λ z. by z (onward-is b f) }
+    where
+      by : (n ≡ 0 → ⊥) → (onward b f ≡ 0) ⊎ (onward b f ≡ f) → w .from < n
+      by z (inl y) = absurd (z (e ∙ y))
+      by z (inr y) = let q = h .later (λ i. z (e ∙ y ∙ i)) in omega arith
+
+  first-stop : {seen : List ℕ} → Passed tape store bound 0 seen → {t f : ℕ} → TwiceIs seen t → StopIs seen f
       → Windowed tape store bound (record { best = t; from = f })
-  first-window g {t} {f} x y =
+  first-stop g {t} {f} x y =
       let a = keeps-twice (g .keeps) t x in
       let b = keeps-stop (g .keeps) f y in
       record {
@@ -57,9 +81,13 @@ module _ {tape store : List ℕ} {bound : ℕ} where
         near = omega (arith, near 0 g);
       }
 
-  pub later-window : {w : Window} → Windowed tape store bound w → 0 < w .from → {seen : List ℕ} → Passed tape store bound (w .from) seen → {t f b : ℕ}
+  pub first-window : {seen : List ℕ} → Passed tape store bound 0 seen → {t f n : ℕ} → TwiceIs seen t → StopIs seen f → n ≡ onward t f
+      → Windowed tape store bound (record { best = t; from = n })
+  first-window g x y e = windowed-onward (first-stop g x y) e
+
+  later-stop : {w : Window} → Windowed tape store bound w → 0 < w .from → {seen : List ℕ} → Passed tape store bound (w .from) seen → {t f b : ℕ}
       → TwiceIs seen t → StopIs seen f → b ≡ least (w .best) t → Later tape store bound w (record { best = b; from = f })
-  later-window {w} h n g {t} {f} {b} x y e =
+  later-stop {w} h n g {t} {f} {b} x y e =
       let p = keeps-twice (g .keeps) t x in
       let q = keeps-stop (g .keeps) f y in
       let spans = spans-bound tape store bound in
@@ -75,6 +103,11 @@ module _ {tape store : List ℕ} {bound : ℕ} where
             let y = moves-on (w .from) 1 (bound + 1) (eventsBelow tape store bound) (g .next) (g .passes) spans (λ e. z (q ∙ e)) in
             omega arith;
       }
+
+  pub later-window : {w : Window} → Windowed tape store bound w → 0 < w .from → {seen : List ℕ} → Passed tape store bound (w .from) seen
+      → {t f b n : ℕ} → TwiceIs seen t → StopIs seen f → b ≡ least (w .best) t → n ≡ onward b f
+      → Later tape store bound w (record { best = b; from = n })
+  later-window h o g x y e i = later-onward (later-stop h o g x y e) i
 
   -- none is left
   pub last-window : {w : Window} → Windowed tape store bound w → w .from ≡ 0 → w .best ≡ firstOf tape store bound

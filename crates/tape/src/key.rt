@@ -5,7 +5,6 @@ ghost use Prim.Native.Nat.{_≤_, _<_, _^_};
 ghost use lib.ListN.{length};
 ghost use Rattle.meaning.specs.Once.{same};
 ghost use Rattle.once.specs.Hash.{hashOf};
-ghost use Rattle.once.specs.Windows.{least};
 ghost use Rattle.tape.specs.Between.Key.{firstOf, Standing, SomeKey, SameKey, SlotHolds, SlotIs, Seeks, Repeats, Coming, Notes};
 ghost use Rattle.tape.specs.Between.Key.{Innermost, Walking, Closes, Readied, Steps, Passed, Empty, Windowed, Later};
 use crate::four_words;
@@ -184,22 +183,6 @@ fn pass(tape: &[u8], store: &[u8], bound: usize, from: usize, seen: &mut [u32])
     }
 }
 
-// The lesser of two places, 0 for none.
-fn lesser(a: usize, b: usize) -> usize
-    ensures { λ r. ⌜ r ≡ least a b ⌝ }
-{
-    if a == 0 {
-        return b;
-    }
-    if b == 0 {
-        return a;
-    }
-    if a <= b {
-        return a;
-    }
-    b
-}
-
 // One window more.
 fn next_window(tape: &[u8], store: &[u8], bound: usize, w: Window, seen: &mut [u32]) -> Window
     requires { ⌜ Standing (now tape) (now store) bound × Windowed (now tape) (now store) bound w × (0 < w .from)
@@ -208,8 +191,8 @@ fn next_window(tape: &[u8], store: &[u8], bound: usize, w: Window, seen: &mut [u
 {
     once::begin(seen, w.from as u32);
     pass(tape, store, bound, w.from, seen);
-    let best = lesser(w.best, once::first_twice(seen));
-    let from = once::stopped(seen);
+    let best = once::least(w.best, once::first_twice(seen));
+    let from = once::further(best, once::stopped(seen));
     Window { best, from }
 }
 
@@ -251,7 +234,7 @@ pub fn first_repeat(tape: &[u8], store: &[u8], bound: usize) -> usize
     let mut seen: [u32; 520] = [0; 520];
     pass(tape, store, bound, 0, &mut seen);
     let best = once::first_twice(&seen);
-    let from = once::stopped(&seen);
+    let from = once::further(best, once::stopped(&seen));
     if from == 0 {
         return best;
     }

@@ -1,4 +1,4 @@
-use mathlib.Core.Path.{subst}
+use mathlib.Core.Path.{sym, _∙_, subst}
 use mathlib.Core.Logic.{inr}
 use native.Mathlib.Omega.{arith}
 use Rattle.rules.specs.declared.Utf8Answer.{Utf8Answer}
@@ -14,6 +14,7 @@ use Rattle.reader.proofs.measure.Reads as reads
 use Rattle.reader.proofs.measure.Lts as lts
 use Rattle.once.proofs.first_twice.Reads as first-twice-reads
 use Rattle.once.proofs.stopped.Reads as stopped-reads
+use Rattle.once.proofs.further.Reads as further-reads
 use Rattle.reader.proofs.answered.Reads as answered-reads
 use Rattle.reader.proofs.searched.Reads as searched-reads
 use Rattle.reader.proofs.walk.Reads as walk-reads
@@ -64,6 +65,9 @@ slice-aggregate-stopped c = search needs
 stopped-requires : tie.Need-stopped-requires
 stopped-requires c κs = search needs
 
+further-requires : tie.Need-further-requires
+further-requires c κs = search needs
+
 answered-requires : tie.Need-answered-requires
 answered-requires c κs = search needs
 
@@ -86,13 +90,15 @@ counted c =
     (records .given .0 .0) (records .given .0 .1 .0) (rw (records .given .1) at (walk .ensures)) (zeroes-there _ 520 (omega arith) (omega arith))
 
 returns-2 : tie.Need-returns-2
-returns-2 c = let t = counted (c .before .before .before .before .before .before) in
-    measure-answered t _ (subst (Searching _ _) (c .before .if2 .taken) (t .searching _ _ (c .before .before .before .before .first-twice .ensures)
-    (c .before .before .stopped .ensures))) _ (c .answered .ensures)
+returns-2 c = let t = counted (c .before .before .before .before .before .before .before) in
+    measure-answered t _ (subst (Searching _ _) (sym (c .before .before .further .ensures) ∙ c .before .if2 .taken)
+    (t .searching _ _ (c .before .before .before .before .before .first-twice .ensures) (c .before .before .before .stopped .ensures))) _ (c .answered .ensures)
 
 searched-requires : tie.Need-searched-requires
-searched-requires c κs = counted (c .before .before .before .before .before) .searching _ _ (c .before .before .before .first-twice .ensures)
-    (c .before .stopped .ensures)
+searched-requires c κs =
+    subst (Searching _ _) (sym (c .before .further .ensures))
+    (counted (c .before .before .before .before .before .before) .searching _ _ (c .before .before .before .before .first-twice .ensures)
+    (c .before .before .stopped .ensures))
 
 enum-known-why-2 : tie.Need-enum-known-why-2
 enum-known-why-2 c = search needs
@@ -120,11 +126,12 @@ returns-4 c = let a = c .before .before .before .before .before .before .before 
     (rw (c .before .why .given .1) at (c .before .before .before .before .before .before .walk .ensures))
 
 returns-5 : tie.Need-returns-5
-returns-5 c = absurd (search-refused (counted (c .before .before .before .before .before .before .before .before .before)) (c .before .why2 .given .0 .0)
+returns-5 c = absurd (search-refused (counted (c .before .before .before .before .before .before .before .before .before .before))
+    (c .before .why2 .given .0 .0)
     (rw (c .before .why2 .given .1) at (c .before .before .before .searched .ensures)))
 
 returns-6 : tie.Need-returns-6
-returns-6 c = measure-answered (counted (c .before .before .before .before .before .before .before .before .before .before)) _
+returns-6 c = measure-answered (counted (c .before .before .before .before .before .before .before .before .before .before .before)) _
     (rw (c .before .before .best .given .1) at (c .before .before .before .before .searched .ensures)) _ (c .answered2 .ensures)
 
 pub measure-spec : {M : Type 1} → statement M
@@ -145,6 +152,7 @@ measure-spec =
     first-twice-requires
     slice-aggregate-stopped
     stopped-requires
+    further-requires
     answered-requires
     returns-2
     searched-requires

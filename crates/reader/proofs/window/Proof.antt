@@ -6,8 +6,9 @@ use Rattle.reader.proofs.window.Reads as reads
 use Rattle.reader.proofs.window.Lts as lts
 use Rattle.once.proofs.begin.Reads as begin-reads
 use Rattle.once.proofs.first_twice.Reads as first-twice-reads
+use Rattle.once.proofs.further.Reads as further-reads
+use Rattle.once.proofs.least.Reads as least-reads
 use Rattle.once.proofs.stopped.Reads as stopped-reads
-use Rattle.reader.proofs.least.Reads as least-reads
 use Rattle.reader.proofs.walk.Reads as walk-reads
 
 cast-begin : tie.Need-cast-begin
@@ -41,6 +42,9 @@ least-requires c κs = search needs
 stopped-requires : tie.Need-stopped-requires
 stopped-requires c κs = search needs
 
+further-requires : tie.Need-further-requires
+further-requires c κs = search needs
+
 same-length : tie.Need-same-length
 same-length c = search needs
 
@@ -51,14 +55,13 @@ same-length-2 : tie.Need-same-length-2
 same-length-2 c = search needs
 
 returns-2 : tie.Need-returns-2
-returns-2 c =
-    rw (c .before .before .least .ensures)
+returns-2 c = rw (c .further .ensures, c .before .before .before .least .ensures)
     (window-says (c .before .before .before .before .before .before .before .before .before .before .before .before .before .before .before .before .before
-    .before .before .before .before .pre) (c .before .before .before .before .before .before .before .before .before .before .before .before .before .before
-    .before .before .before .begin .ensures) _ _
-    (rw (c .before .before .before .before .before .enum-told .given .1) at (c .before .before .before .before .before .before .before .before .before .before
-    .before .walk .ensures)) (c .before .before .before .first-twice .result) (c .stopped .result)
-    (c .before .before .before .first-twice .ensures) (c .stopped .ensures))
+    .before .before .before .before .before .pre) (c .before .before .before .before .before .before .before .before .before .before .before .before .before
+    .before .before .before .before .before .begin .ensures) _ _ (rw (c .before .before .before .before .before .before .enum-told .given .1) at
+    (c .before .before .before .before .before .before .before .before .before .before .before .before .walk .ensures))
+    (c .before .before .before .before .first-twice .result) (c .before .stopped .result) (c .before .before .before .before .first-twice .ensures)
+    (c .before .stopped .ensures))
 
 pub window-spec : {M : Type 1} → statement M
 window-spec =
@@ -74,6 +77,7 @@ window-spec =
     first-twice-requires
     least-requires
     stopped-requires
+    further-requires
     same-length
     returns
     same-length-2

@@ -47,13 +47,9 @@ Led text seen at f s es = Goes (KeyIs text) (hashOf f) seen at f s es
 abbrev pub SameSays : List ℕ → ℕ → ℕ → Bool → Type 0
 SameSays text a b r = (u v : List ℕ) → KeyIs text a u → KeyIs text b v → r ≡ same u v
 
--- the key has no fewer bytes than were given of it
-abbrev pub OutSays : List ℕ → Spelling → Type 0
-OutSays text s = (e u : List ℕ) → Spells text s e u → length e ≤ length u
-
--- a key d of as many bytes has ended, and was the same or not so far
-abbrev pub EndSays : List ℕ → Spelling → Bool → Bool → Type 0
-EndSays text s so-far r = (d e u : List ℕ) → Spells text s e u → length d ≡ length e → so-far ≡ same d e → r ≡ same d u
+-- no byte is left of a key of which the bytes e were given
+abbrev pub OverSays : List ℕ → Spelling → Bool → Type 0
+OverSays text s r = (e u : List ℕ) → Spells text s e u → r ≡ same e u
 
 abbrev pub TagSays : List ℕ → ℕ → ℕ → ℕ → Type 0
 TagSays text q salt r = (u : List ℕ) → KeyIs text q u → r ≡ hashOf salt u

@@ -1,9 +1,10 @@
 -- `key::equal`: as long as each other, and byte by byte. Assumes nothing.
 use Prim.Native.Nat.{_-_}
 use native.Mathlib.Omega.{arith}
-use mathlib.Core.Path.{ap}
+use mathlib.Core.Path.{sym, ap}
 use lib.ListN.{length}
-use Rattle.tape.proofs.KeyLaws.{same-not, Alike, alike-none, alike-more, unlike, alike-all}
+use Rattle.once.proofs.KeepingSeekLaws.{apart}
+use Rattle.tape.proofs.KeyLaws.{Alike, alike-none, alike-more, unlike, alike-all}
 use Rattle.tape.proofs.key.equal.Statement.{statement}
 use Rattle.tape.proofs.key.equal.Tie as tie
 
@@ -14,7 +15,7 @@ abbrev μ-loop : tie.MeasureT-loop
 μ-loop a b i₀ i = length a - i
 
 returns : tie.Need-returns Inv-loop μ-loop
-returns c = same-not _ _ (λ e. (c .if1 .taken) (ap length e))
+returns c = sym (apart _ _ (λ e. (c .if1 .taken) (ap length e)))
 
 loop-holds : tie.Need-loop-holds Inv-loop μ-loop
 loop-holds c = alike-none (c .if1 .left)

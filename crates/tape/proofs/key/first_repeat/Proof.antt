@@ -23,15 +23,18 @@ slice-aggregate-stopped c = search needs
 stopped-requires : tie.Need-stopped-requires
 stopped-requires c κs = search needs
 
+further-requires : tie.Need-further-requires
+further-requires c κs = search needs
+
 returns : tie.Need-returns
-returns c = last-window (first-window (c .before .before .before .before .before .before .pass .ensures) (c .before .before .before .first-twice .ensures)
-    (c .before .stopped .ensures)) (c .if1 .taken)
+returns c = last-window (first-window (c .before .before .before .before .before .before .before .pass .ensures)
+    (c .before .before .before .before .first-twice .ensures) (c .before .before .stopped .ensures) (c .before .further .ensures)) (c .if1 .taken)
 
 searched-requires : tie.Need-searched-requires
 searched-requires c κs = (
-  c .before .before .before .before .before .before .before .before .before .before .pre,
-  first-window (c .before .before .before .before .before .before .pass .ensures) (c .before .before .before .first-twice .ensures)
-      (c .before .stopped .ensures),
+  c .before .before .before .before .before .before .before .before .before .before .before .pre,
+  first-window (c .before .before .before .before .before .before .before .pass .ensures) (c .before .before .before .before .first-twice .ensures)
+      (c .before .before .stopped .ensures) (c .before .further .ensures),
 )
 
 returns-2 : tie.Need-returns-2
@@ -47,6 +50,7 @@ first-repeat-spec =
     first-twice-requires
     slice-aggregate-stopped
     stopped-requires
+    further-requires
     returns
     searched-requires
     returns-2)

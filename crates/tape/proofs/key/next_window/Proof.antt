@@ -20,20 +20,23 @@ pass-requires c κs = (
 first-twice-requires : tie.Need-first-twice-requires
 first-twice-requires c κs = search needs
 
-lesser-requires : tie.Need-lesser-requires
-lesser-requires c κs = search needs
+least-requires : tie.Need-least-requires
+least-requires c κs = search needs
 
 stopped-requires : tie.Need-stopped-requires
 stopped-requires c κs = search needs
+
+further-requires : tie.Need-further-requires
+further-requires c κs = search needs
 
 same-length : tie.Need-same-length
 same-length c = search needs
 
 returns : tie.Need-returns
 returns c = later-window ((c .before .before .before .before .before .before .before .before .before .before .before .before .before .before .before .before
-    .before .pre) .1) ((c .before .before .before .before .before .before .before .before .before .before .before .before .before .before .before .before
-    .before .pre) .2) (c .before .before .before .before .before .before .before .pass .ensures) (c .before .before .before .first-twice .ensures)
-    (c .stopped .ensures) (c .before .before .lesser .ensures)
+    .before .before .pre) .1) ((c .before .before .before .before .before .before .before .before .before .before .before .before .before .before .before
+    .before .before .before .pre) .2) (c .before .before .before .before .before .before .before .before .pass .ensures)
+    (c .before .before .before .before .first-twice .ensures) (c .before .stopped .ensures) (c .before .before .before .least .ensures) (c .further .ensures)
 
 pub next-window-spec : {M : Type 1} → statement M
 next-window-spec =
@@ -43,7 +46,8 @@ next-window-spec =
     begin-requires
     pass-requires
     first-twice-requires
-    lesser-requires
+    least-requires
     stopped-requires
+    further-requires
     same-length
     returns)

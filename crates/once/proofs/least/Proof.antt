@@ -1,7 +1,7 @@
--- `key::lesser`: by its tests. Assumes nothing.
+-- `least`: by its tests. Assumes nothing.
 use borrow.Author.Tests.{eq-eqb, ne-eqb, le-leb, lt-leb}
-use Rattle.tape.proofs.key.lesser.Statement.{statement}
-use Rattle.tape.proofs.key.lesser.Tie as tie
+use Rattle.once.proofs.least.Statement.{statement}
+use Rattle.once.proofs.least.Tie as tie
 
 returns : tie.Need-returns
 returns c = simp (eq-eqb _ _ (c .if1 .taken))
@@ -15,5 +15,5 @@ returns-3 c = simp (ne-eqb _ _ (c .before .before .if1 .left), ne-eqb _ _ (c .be
 returns-4 : tie.Need-returns-4
 returns-4 c = simp (ne-eqb _ _ (c .before .before .if1 .left), ne-eqb _ _ (c .before .if2 .left), lt-leb _ _ (c .if3 .left))
 
-pub lesser-spec : {M : Type 1} → statement M
-lesser-spec = tie.close (tie.spec returns returns-2 returns-3 returns-4)
+pub least-spec : {M : Type 1} → statement M
+least-spec = tie.close (tie.spec returns returns-2 returns-3 returns-4)
