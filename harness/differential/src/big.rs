@@ -140,13 +140,16 @@ fn long_keys(last: char) -> Vec<u8> {
 /// Texts that take many windows, with many objects, with long keys, and with keys of one bucket.
 fn key_texts() -> impl Iterator<Item = (&'static str, Vec<u8>)> {
     type Make = fn() -> Vec<u8>;
-    let all: [(&'static str, Make); 10] = [
+    let all: [(&'static str, Make); 12] = [
         ("shortest keys", || object(collide::names(), ":1,")),
         ("keys of 11 letters", || object((0..).map(|n| format!("\"key{n:08}\"").into_bytes()), ":1234,")),
         ("keys of 88 bytes that begin alike", || {
             object((0..).map(|n| format!("\"{}{n:010}\"", "/long/".repeat(13)).into_bytes()), ":1,")
         }),
-        ("keys of one bucket", || collide::text(FULL, 0, 128)),
+        ("keys of one bucket", || collide::text(FULL, 0, 128, 0)),
+        // 127 and 4,095 keys fill the first two windows.
+        ("keys of one bucket of the widest table that begin alike", || collide::text(FULL, 4_222, 65_536, 76)),
+        ("keys of one tag that begin alike", || collide::text(FULL / 16, 4_222, 0, 76)),
         ("62 objects of 30 keys in each other", || many(&crate::keys::deep(62, 30, None))),
         ("objects of 5,000 keys", || many(&object(collide::names().take(5_000), ":1,"))),
         ("the last of many keys twice", || {

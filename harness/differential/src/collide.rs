@@ -21,9 +21,9 @@ fn finished(tag: u32) -> u32 {
     stirred(tag.wrapping_mul(FINISH))
 }
 
-/// The bucket of a tag in a table of so many slots.
+/// The bucket of a tag in a table of so many slots; for none, the tag.
 fn bucket(tag: u32, slots: u32) -> u32 {
-    tag % slots
+    tag.checked_rem(slots).unwrap_or(tag)
 }
 
 // ---- the way back
@@ -66,18 +66,18 @@ pub fn names() -> impl Iterator<Item = Vec<u8>> {
 }
 
 /// Every identifier that falls into the first bucket, the shorter first: good for a table of few slots.
-fn near(salt: u32, slots: u32) -> impl Iterator<Item = Vec<u8>> {
+fn near(start: u32, slots: u32) -> impl Iterator<Item = Vec<u8>> {
     names().flat_map(move |name| {
-        let tag = name.iter().fold(seeded(salt), |tag, byte| mixed(tag, *byte));
+        let tag = name.iter().fold(start, |tag, byte| mixed(tag, *byte));
         let falls = move |byte: &&u8| bucket(finished(mixed(tag, **byte)), slots) == 0;
         LETTERS.iter().filter(falls).map(move |byte| [&name[..], &[*byte]].concat()).collect::<Vec<_>>()
     })
 }
 
-/// Identifiers of seven letters that fall into the first bucket: from each of its tags three letters back, where four letters from the salt on
-/// come to the same.
-fn far(salt: u32, slots: u32) -> impl Iterator<Item = Vec<u8>> {
-    let tag = |n: &usize| name(*n, 4).iter().fold(seeded(salt), |tag, byte| mixed(tag, *byte));
+/// Identifiers that fall into the first bucket, four letters and some more: from each of its tags so many letters back, where four letters from
+/// the start on come to the same.
+fn far(start: u32, slots: u32, back: u32) -> impl Iterator<Item = Vec<u8>> {
+    let tag = |n: &usize| name(*n, 4).iter().fold(start, |tag, byte| mixed(tag, *byte));
     let mut ahead: Vec<(u32, u32)> = (0..54 * 64usize.pow(3)).map(|n| (tag(&n), n as u32)).collect();
     ahead.sort();
     // Where the tags with these first 22 bits begin.
@@ -85,33 +85,36 @@ fn far(salt: u32, slots: u32) -> impl Iterator<Item = Vec<u8>> {
     ahead.iter().for_each(|(tag, _)| starts[(tag >> 10) as usize + 1] += 1);
     (0..1 << 22).for_each(|i| starts[i + 1] += starts[i]);
     let tags = (0..=u32::MAX).filter(move |tag| bucket(*tag, slots) == 0);
-    tags.flat_map(move |tag| {
-        let mut found = Vec::new();
-        for n in 0..64usize.pow(3) {
-            let last = [n / 4096, n / 64 % 64, n % 64].map(|letter| LETTERS[letter]);
-            let middle = last.iter().rev().fold(unfinished(tag), |tag, byte| before(tag, *byte));
-            let near = starts[(middle >> 10) as usize] as usize..starts[(middle >> 10) as usize + 1] as usize;
-            let same = ahead[near].iter().filter(|(tag, _)| *tag == middle);
-            found.extend(same.map(|(_, n)| [&name(*n as usize, 4)[..], &last].concat()));
-        }
-        found
+    let ends = move |tag| (0..64usize.pow(back)).map(move |n| (tag, n));
+    tags.flat_map(ends).flat_map(move |(tag, n)| {
+        let last: Vec<u8> = (0..back).map(|place| LETTERS[n >> (6 * place) & 63]).collect();
+        let middle = last.iter().rev().fold(unfinished(tag), |tag, byte| before(tag, *byte));
+        let near = starts[(middle >> 10) as usize] as usize..starts[(middle >> 10) as usize + 1] as usize;
+        let same = ahead[near].iter().filter(move |(tag, _)| *tag == middle);
+        same.map(move |(_, n)| [&name(*n as usize, 4)[..], &last].concat()).collect::<Vec<_>>()
     })
 }
 
 /// One object of about `size` bytes: `before` keys as they come, then keys that fall into one bucket of a table of so many slots, in the
-/// window that begins with the first of them.
-pub fn text(size: usize, before: usize, slots: u32) -> Vec<u8> {
+/// window that begins with the first of them; for no slots, keys of one tag. The first `shared` letters of all of these are the same.
+pub fn text(size: usize, before: usize, slots: u32, shared: usize) -> Vec<u8> {
     let mut text = b"{".to_vec();
     for n in 0..before {
         text.extend(format!("\"{n}\":1,").bytes());
     }
     let salt = if before == 0 { 0 } else { text.len() as u32 };
-    let keys: Box<dyn Iterator<Item = Vec<u8>>> =
-        if slots <= 128 { Box::new(near(salt, slots)) } else { Box::new(far(salt, slots)) };
+    let front = vec![b'k'; shared];
+    let start = front.iter().fold(seeded(salt), |tag, byte| mixed(tag, *byte));
+    let keys: Box<dyn Iterator<Item = Vec<u8>>> = match slots {
+        0 => Box::new(far(start, slots, 5)),
+        1..=128 => Box::new(near(start, slots)),
+        _ => Box::new(far(start, slots, 3)),
+    };
     for key in keys {
-        if text.len() + key.len() + 4 > size {
+        if text.len() + shared + key.len() + 4 > size {
             break;
         }
+        text.extend(&front);
         text.extend(key);
         text.extend(b":1,");
     }

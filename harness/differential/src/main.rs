@@ -1,9 +1,9 @@
 //! Compares the archive with the second reader, call by call, and prints how many cases it ran.
 //!
-//!     differential [--seed N] [--count N] [--big] [--program PATH] [--keys] [--collide SIZE BEFORE SLOTS] [--trace]
+//!     differential [--seed N] [--count N] [--big] [--program PATH] [--keys] [--collide SIZE BEFORE SLOTS SHARED] [--trace]
 //!
 //! `--count` is the number of random texts; `--big` adds texts of 16,777,216 bytes, `--program` the program's own input and
-//! output; `--keys` runs only the texts and tapes that are full of keys (for `harness/small`); `--collide SIZE BEFORE SLOTS` runs
+//! output; `--keys` runs only the texts and tapes that are full of keys (for `harness/small`); `--collide SIZE BEFORE SLOTS SHARED` runs
 //! nothing and writes a text of keys that fall into one bucket, after some others (`collide`); `--trace` prints each case to
 //! standard error before it is run. A mismatch prints the shortened case and ends the driver with status 1.
 
@@ -34,7 +34,7 @@ struct Options {
     big: bool,
     program: Option<String>,
     keys: bool,
-    collide: Option<[usize; 3]>,
+    collide: Option<[usize; 4]>,
     trace: bool,
 }
 
@@ -57,7 +57,7 @@ fn options() -> Options {
             "--big" => o.big = true,
             "--program" => o.program = words.next(),
             "--keys" => o.keys = true,
-            "--collide" => o.collide = Some([(); 3].map(|()| number() as usize)),
+            "--collide" => o.collide = Some([(); 4].map(|()| number() as usize)),
             "--trace" => o.trace = true,
             other => panic!("no such option: {other}"),
         }
@@ -402,8 +402,8 @@ fn main() {
     let o = options();
     let start = Instant::now();
     let mut run = Run { trace: o.trace, texts: 0, accepted: 0, tapes: 0, bytes: 0 };
-    if let Some([size, before, slots]) = o.collide {
-        return std::io::stdout().write_all(&collide::text(size, before, slots as u32)).expect("it is written");
+    if let Some([size, before, slots, shared]) = o.collide {
+        return std::io::stdout().write_all(&collide::text(size, before, slots as u32, shared)).expect("it is written");
     }
     if o.keys {
         only_keys(&mut run, o.seed, o.count);
