@@ -169,12 +169,11 @@ marked again p s = cond again (noticed p s) s
 abbrev pub naming : Bool → ℕ → Slot → State → State
 naming again n x s = taken n x (marked again (x .0) s)
 
--- a chain may only be too long where some key is taken in, and none was refused
+-- a chain is full only where some key is taken in, which with its mark takes two slots, and the table has not stopped
 abbrev pub Crowds : List ℕ → Bool → Type 0
 Crowds seen r = r ≡ true → (12 ≤ length seen) × (getD seen 5 0 ≡ 0) × (2 ≤ getD seen 0 0)
 
--- a further key is named, in a table of its slots, or, where its chain is too long, as in one of two slots, which is
--- full
+-- a further key is named; where its chain is full, as if the table had two slots, and so none left
 abbrev pub Names : Bool → Slot → List ℕ → List ℕ → Type 0
 Names again x before after = (n : ℕ) × (((n ≡ room before) ⊎ (n ≡ 2)) × Does (naming again n x) before after)
 

@@ -3,7 +3,7 @@
 // table: nothing is kept in it, and nothing found.
 // The first eight numbers are a header: 0 how many slots are taken, 1 one more than how many are below the innermost mark (0
 // for no mark), 2 how many objects are open, 3 from which place keys are taken in, 4 the first key that repeats one and 5 the
-// first for which there was no slot (0 for none). Four numbers follow for each slot: its place, its tag, the next slot of its
+// first that was not taken in (0 for none). Four numbers follow for each slot: its place, its tag, the next slot of its
 // chain, and the first slot of the chain whose number is the slot's.
 ghost use mathlib.Core.Path.{_≡_};
 ghost use Prim.Native.Nat.{_+_, _*_, _-_, _/_, _%_, _^_, _<_, _≤_};
@@ -268,7 +268,7 @@ fn mark(seen: &mut [u32], place: u32, again: bool)
     }
 }
 
-// Whether the tag's chain has as many keys of the present object as it may, so that a further one would make it too long.
+// Whether the tag's chain has as many keys of the present object as it may.
 fn crowded(seen: &[u32], tag: u32) -> bool
     requires { ⌜ Sane (now seen) ⌝ }
     ensures { λ r. ⌜ Crowds (now (seen .entry)) r ⌝ }
@@ -294,8 +294,8 @@ fn crowded(seen: &[u32], tag: u32) -> bool
     false
 }
 
-// A further key of the present object: where it repeats one it is noticed, and it is taken in. Where its chain is too long, the
-// table stops there, as where there is no slot: keys made to stand in one chain cost no more than that in any one window.
+// A further key of the present object: where it repeats one it is noticed, and it is taken in. Where its chain is full the table
+// stops there, as where there is no slot: of keys made to stand in one chain, each is compared with so many in a window.
 pub fn named(seen: &mut [u32], tag: u32, place: u32, again: bool)
     requires { ⌜ Sane (now seen) ⌝ }
     ensures { λ _. ⌜ Names again (place, tag) (now (seen .entry)) (now (seen .exit)) ⌝ }
@@ -318,7 +318,7 @@ pub fn first_twice(seen: &[u32]) -> usize
     seen[4] as usize
 }
 
-// The first key for which there was no slot; 0 for none.
+// The first key that was not taken in; 0 for none.
 pub fn stopped(seen: &[u32]) -> usize
     ensures { λ r. ⌜ StopIs (now (seen .entry)) r ⌝ }
 {

@@ -1,7 +1,7 @@
 -- The bytes that have been given of a key are its first: nothing that comes takes one of them back. Assumes nothing.
 use mathlib.Core.Path.{_≡_, refl, sym, ap, _∙_, subst}
 use mathlib.Core.Bool.{Bool, true, false, cond}
-use mathlib.Core.Option.{Option, none, some}
+use mathlib.Core.Option.{some}
 use mathlib.Core.List.{List, [], _∷_, _++_, append-assoc, append-nil}
 use Prim.Native.Nat.{ℕ, zero, suc, _+_, _*_}
 use native.Mathlib.Omega.{arith}
@@ -18,11 +18,11 @@ use Rattle.machine.specs.Strings.{Ctx, Half, whole, half}
 use Rattle.machine.specs.Names as Names
 use Rattle.machine.specs.Machine as Machine
 use Rattle.machine.specs.Machine.{string, as-key, string-part, Base, wantString, got, base, slash, line, block, star, item, Conf, at, fail, onGot, onOut}
-use Rattle.machine.specs.Machine.{onSlash, onLine, onBlock, onStar, onPart, Item, Got, lift, Bracket, square, curly}
+use Rattle.machine.specs.Machine.{onSlash, onLine, onBlock, onStar, onPart, lift, square, curly}
 use Rattle.machine.specs.Machine.{Class, classOf, blankC, hashC, slashC, commaC, colonC, plusC, quoteC, dollarC, letterN, letterT, letterF, letterC, otherC}
 use Rattle.machine.specs.Machine.{openC, closeC}
 use Rattle.machine.specs.Machine.{Note, noteOf, lineEnd, starN, slashN, plainN, controlN}
-use Rattle.machine.specs.Heard.{Heard, shuts, names, Told, tell, keyHeard, hears, atGot, atOut}
+use Rattle.machine.specs.Heard.{Heard, shuts, names, tell, keyHeard, hears, atGot, atOut}
 use Rattle.reader.specs.Between.Spelling.{gotParts, Part, Inside, between, Quoting, dueOf, Spells}
 use Rattle.reader.specs.declared.spelling.Spelling.{Spelling}
 use Rattle.reader.proofs.SpellingHeardLaws.{name-is}

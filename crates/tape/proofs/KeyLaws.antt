@@ -15,7 +15,6 @@ use Rattle.meaning.specs.Once.{same}
 use Rattle.meaning.specs.Between.Words.{midOf, highOf}
 use Rattle.once.specs.Hash.{seed, mix, finish, mixes, hashOf}
 use Rattle.once.proofs.HashLaws.{mixes-none, mixes-more, hash-done}
-use Rattle.once.specs.Table.{room}
 use Rattle.once.specs.Groups.{Newest, Stands, Earlier, Names}
 use Rattle.once.proofs.KeepingLaws.{before-on, names-on}
 use Rattle.once.proofs.KeepingSeekLaws.{same-self, apart, Sought, seek-begins, seek-stands, seek-key, seek-finds, seek-falls, seek-past-tag, seek-past}
