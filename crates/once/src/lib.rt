@@ -14,8 +14,11 @@ ghost use Rattle.once.specs.Groups.{Newest, Stands, Earlier, Placed, Tag
 ghost use Rattle.once.specs.Hash.{stirred, seed, mix, finish};
 ghost use Rattle.once.specs.Windows.{least as lesser, onward};
 
-// How many keys of one object may stand in a chain; a key that finds so many there is not taken in.
+// How many keys of one object may stand in a chain, in a window from the first place on; one more for each so many places
+// before the window: keys made to stand in one chain of every window then end few of them.
 const CHAIN_LIMIT: u32 = 128;
+
+const CHAIN_GROWTH: u32 = 2048;
 
 // How many slots there are.
 fn slots(len: usize) -> usize
@@ -279,7 +282,7 @@ fn crowded(seen: &[u32], tag: u32) -> bool
     if seen[5] != 0 {
         return false;
     }
-    let mut left = CHAIN_LIMIT;
+    let mut left = CHAIN_LIMIT + seen[3] / CHAIN_GROWTH;
     if seen[0] <= left {
         return false;
     }

@@ -23,11 +23,17 @@ shared-slice-read-if2 c = search needs
 returns-2 : tie.Need-returns-2 Inv-loop μ-loop
 returns-2 c = crowds-not (c .before .before .before .before .args .seen .now)
 
+shared-slice-read-left : tie.Need-shared-slice-read-left Inv-loop μ-loop
+shared-slice-read-left c = search needs
+
+add-left : tie.Need-add-left Inv-loop μ-loop
+add-left c = omega (arith, c .shared-slice-known3 .given 3)
+
 shared-slice-read-if3 : tie.Need-shared-slice-read-if3 Inv-loop μ-loop
 shared-slice-read-if3 c = search needs
 
 returns-3 : tie.Need-returns-3 Inv-loop μ-loop
-returns-3 c = crowds-not (c .before .before .before .before .before .before .args .seen .now)
+returns-3 c = crowds-not (c .before .before .before .before .before .before .before .args .seen .now)
 
 newest-requires : tie.Need-newest-requires Inv-loop μ-loop
 newest-requires c κs = search needs
@@ -35,8 +41,8 @@ newest-requires c κs = search needs
 loop-holds : tie.Need-loop-holds Inv-loop μ-loop
 loop-holds c = (
   omega arith,
-  newest-stands _ _ _ (c .before .before .before .before .before .if1 .left)
-      (c .before .before .before .before .before .before .before .pre) (c .newest .ensures),
+  newest-stands _ _ _ (c .before .before .before .before .before .before .if1 .left)
+      (c .before .before .before .before .before .before .before .before .pre) (c .newest .ensures),
 )
 
 sub-left : tie.Need-sub-left Inv-loop μ-loop
@@ -44,8 +50,8 @@ sub-left c = omega (arith, c .before .loop .inv .0)
 
 returns-4 : tie.Need-returns-4 Inv-loop μ-loop
 returns-4 c = λ e. (
-  c .before .before .before .before .before .before .before .before .if1 .left,
-  c .before .before .before .before .before .before .if2 .left,
+  c .before .before .before .before .before .before .before .before .before .if1 .left,
+  c .before .before .before .before .before .before .before .if2 .left,
   omega (arith, c .before .before .before .before .if3 .left),
 )
 
@@ -63,7 +69,7 @@ loop-again c = (
 )
 
 returns-5 : tie.Need-returns-5 Inv-loop μ-loop
-returns-5 c = crowds-not (c .before .before .before .before .before .before .before .before .before .args .seen .now)
+returns-5 c = crowds-not (c .before .before .before .before .before .before .before .before .before .before .args .seen .now)
 
 pub crowded-spec : {M : Type 1} → statement M
 crowded-spec =
@@ -74,6 +80,8 @@ crowded-spec =
     returns
     shared-slice-read-if2
     returns-2
+    shared-slice-read-left
+    add-left
     shared-slice-read-if3
     returns-3
     newest-requires
