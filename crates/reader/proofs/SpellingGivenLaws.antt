@@ -46,25 +46,25 @@ front-in a d e (w, x) = (w, ap (λ (z : List ℕ). a ++ z) x ∙ sym (append-ass
 -- ---- a scanner that keeps what it has
 
 module _ {S : Type 0} (scan : ℕ → S → ℕ → Out S (List ℕ)) (has : S → List ℕ) where
-  -- after a byte
-  abbrev Keeps : List ℕ → Out S (List ℕ) → Type 0
-  Keeps a (takes s) = Front a (has s)
-  Keeps a (stops v) = Front a v
-  Keeps a (breaks r) = Unit {0}
+  -- after a byte it still has a in front
+  abbrev KeepsFront : List ℕ → Out S (List ℕ) → Type 0
+  KeepsFront a (takes s) = Front a (has s)
+  KeepsFront a (stops v) = Front a v
+  KeepsFront a (breaks r) = Unit {0}
 
   -- its value begins with what it has
-  ran-front : ((p : ℕ) (s : S) (b : ℕ) → Keeps (has s) (scan p s b)) → (t : List ℕ) (p : ℕ) (s : S) (v : List ℕ) (q : ℕ) → ran scan p s t ≡ ended v q
+  ran-front : ((p : ℕ) (s : S) (b : ℕ) → KeepsFront (has s) (scan p s b)) → (t : List ℕ) (p : ℕ) (s : S) (v : List ℕ) (q : ℕ) → ran scan p s t ≡ ended v q
       → Front (has s) v
   unfolding ran
   ran-front k [] p s v q e = go (scan p s over) (k p s over) e
     where
-      go : (o : Out S (List ℕ)) → Keeps (has s) o → goesOn scan p (λ s'. Ran.unended) o ≡ ended v q → Front (has s) v
+      go : (o : Out S (List ℕ)) → KeepsFront (has s) o → goesOn scan p (λ s'. Ran.unended) o ≡ ended v q → Front (has s) v
       go (takes s') h e = absurd (let z : _≡_ {A = ℕ} 0 1 = cc in omega arith)
       go (stops w) h e = let z : w ≡ v = cc in subst (Front (has s)) z h
       go (breaks r) h e = absurd (let z : _≡_ {A = ℕ} 0 1 = cc in omega arith)
   ran-front k (b ∷ t) p s v q e = go (scan p s b) (k p s b) (λ s' x. ran-front k t (suc p) s' v q x) e
     where
-      go : (o : Out S (List ℕ)) → Keeps (has s) o → ((s' : S) → ran scan (suc p) s' t ≡ ended v q → Front (has s') v)
+      go : (o : Out S (List ℕ)) → KeepsFront (has s) o → ((s' : S) → ran scan (suc p) s' t ≡ ended v q → Front (has s') v)
           → goesOn scan p (λ s'. ran scan (suc p) s' t) o ≡ ended v q → Front (has s) v
       go (takes s') h f e = front-join (has s) (has s') v h (f s' e)
       go (stops w) h f e = let z : w ≡ v = cc in subst (Front (has s)) z h
@@ -76,17 +76,17 @@ nameOf : Names.St → List ℕ
 nameOf Names.start = []
 nameOf (Names.name e) = e
 
-name-keeps : (p : ℕ) (s : Names.St) (b : ℕ) → Keeps Names.scan nameOf (nameOf s) (Names.scan p s b)
+name-keeps : (p : ℕ) (s : Names.St) (b : ℕ) → KeepsFront Names.scan nameOf (nameOf s) (Names.scan p s b)
 unfolding nameOf Names.scan Names.onStart Names.onName
 name-keeps p Names.start b = go (Names.classOf b)
   where
-    go : (c : Names.Class) → Keeps Names.scan nameOf [] (Names.onStart p b c)
+    go : (c : Names.Class) → KeepsFront Names.scan nameOf [] (Names.onStart p b c)
     go Names.letter = (b ∷ [], refl)
     go Names.figure = tt
     go Names.neither = tt
 name-keeps p (Names.name e) b = go (Names.classOf b)
   where
-    go : (c : Names.Class) → Keeps Names.scan nameOf e (Names.onName e b c)
+    go : (c : Names.Class) → KeepsFront Names.scan nameOf e (Names.onName e b c)
     go Names.letter = front-more e (b ∷ [])
     go Names.figure = front-more e (b ∷ [])
     go Names.neither = front-all e
@@ -109,7 +109,7 @@ partOf (Strings.brace k from v) = k .acc
 partOf (Strings.done k) = k .acc
 
 abbrev PartKeeps : List ℕ → Out Strings.St (List ℕ) → Type 0
-PartKeeps a o = Keeps Strings.scan partOf a o
+PartKeeps a o = KeepsFront Strings.scan partOf a o
 
 module _ (k : Ctx) (from w : ℕ) where
   same-acc : Front (k .acc) (k .acc)
@@ -236,51 +236,51 @@ data Of (d : List ℕ) : Base → Type 0 where
   joins : {e : List ℕ} → Front d e → Of d (wantString as-key e)
 
 -- a state in which the key so far begins with d, or none
-data Holds (d : List ℕ) : Conf → Type 0 where
-  failed : {r : Refusal} → Holds d (fail r)
-  based : {s : Base} → Of d s → Holds d (at (base s) 0 [])
-  slashed : {s : Base} → Of d s → Holds d (at (slash s) 0 [])
-  lined : {s : Base} → Of d s → Holds d (at (line s) 0 [])
-  blocked : {s : Base} → Of d s → Holds d (at (block s) 0 [])
-  starred : {s : Base} → Of d s → Holds d (at (star s) 0 [])
-  reads : {e : List ℕ} {s : Strings.St} → Front d (e ++ partOf s) → Holds d (at (item (string-part as-key e s)) 0 [])
+data KeyFront (d : List ℕ) : Conf → Type 0 where
+  failed : {r : Refusal} → KeyFront d (fail r)
+  based : {s : Base} → Of d s → KeyFront d (at (base s) 0 [])
+  slashed : {s : Base} → Of d s → KeyFront d (at (slash s) 0 [])
+  lined : {s : Base} → Of d s → KeyFront d (at (line s) 0 [])
+  blocked : {s : Base} → Of d s → KeyFront d (at (block s) 0 [])
+  starred : {s : Base} → Of d s → KeyFront d (at (star s) 0 [])
+  reads : {e : List ℕ} {s : Strings.St} → Front d (e ++ partOf s) → KeyFront d (at (item (string-part as-key e s)) 0 [])
 
--- what a byte says, and the state after it
-data Goes (d : List ℕ) : List Heard → Conf → Type 0 where
-  quiet : {c : Conf} → Holds d c → Goes d [] c
-  shut : {c : Conf} → Goes d (shuts ∷ []) c
-  told : {u : List ℕ} {c : Conf} → Front d u → Goes d (names u ∷ []) c
+-- what a byte says, and the state after it: still so
+data FrontAfter (d : List ℕ) : List Heard → Conf → Type 0 where
+  quiet : {c : Conf} → KeyFront d c → FrontAfter d [] c
+  shut : {c : Conf} → FrontAfter d (shuts ∷ []) c
+  told : {u : List ℕ} {c : Conf} → Front d u → FrontAfter d (names u ∷ []) c
 
 module _ {d : List ℕ} (p : ℕ) where
-  on-slash : {s : Base} → Of d s → (n : Note) → Holds d (onSlash p 0 [] s n)
+  on-slash : {s : Base} → Of d s → (n : Note) → KeyFront d (onSlash p 0 [] s n)
   on-slash o slashN = lined o
   on-slash o starN = blocked o
   on-slash o lineEnd = failed
   on-slash o plainN = failed
   on-slash o controlN = failed
 
-  on-line : {s : Base} → Of d s → (n : Note) → Holds d (onLine p 0 [] s n)
+  on-line : {s : Base} → Of d s → (n : Note) → KeyFront d (onLine p 0 [] s n)
   on-line o lineEnd = based o
   on-line o controlN = failed
   on-line o slashN = lined o
   on-line o starN = lined o
   on-line o plainN = lined o
 
-  on-block : {s : Base} → Of d s → (n : Note) → Holds d (onBlock p 0 [] s n)
+  on-block : {s : Base} → Of d s → (n : Note) → KeyFront d (onBlock p 0 [] s n)
   on-block o starN = starred o
   on-block o controlN = failed
   on-block o slashN = blocked o
   on-block o lineEnd = blocked o
   on-block o plainN = blocked o
 
-  on-star : {s : Base} → Of d s → (n : Note) → Holds d (onStar p 0 [] s n)
+  on-star : {s : Base} → Of d s → (n : Note) → KeyFront d (onStar p 0 [] s n)
   on-star o slashN = based o
   on-star o starN = starred o
   on-star o controlN = failed
   on-star o lineEnd = blocked o
   on-star o plainN = blocked o
 
-  on-got : {e : List ℕ} → Front d e → (c : Class) → Goes d (atGot (string as-key e) c) (onGot p 0 [] (string as-key e) c)
+  on-got : {e : List ℕ} → Front d e → (c : Class) → FrontAfter d (atGot (string as-key e) c) (onGot p 0 [] (string as-key e) c)
   on-got f blankC = quiet (based (parts f))
   on-got f hashC = quiet (lined (parts f))
   on-got f slashC = quiet (slashed (parts f))
@@ -299,29 +299,29 @@ module _ {d : List ℕ} (p : ℕ) where
   on-got f otherC = quiet failed
 
   on-scan : (e : List ℕ) (b : ℕ) (s : Strings.St) → Front d (e ++ partOf s) → (o : Out Strings.St (List ℕ)) → PartKeeps (partOf s) o
-      → Goes d (atOut b (lift (string-part as-key e) (λ x. string as-key (e ++ x)) o))
+      → FrontAfter d (atOut b (lift (string-part as-key e) (λ x. string as-key (e ++ x)) o))
       (onOut p 0 [] b (lift (string-part as-key e) (λ x. string as-key (e ++ x)) o))
   on-scan e b s f (takes s') h = quiet (reads (front-join d (e ++ partOf s) (e ++ partOf s') f (front-in e (partOf s) (partOf s') h)))
   on-scan e b s f (stops v) h = on-got (front-join d (e ++ partOf s) (e ++ v) f (front-in e (partOf s) v h)) (classOf b)
   on-scan e b s f (breaks r) h = quiet failed
 
   -- the first byte of the next part is said by nobody
-  on-first : {e : List ℕ} (b : ℕ) → Front d e → Holds d (Machine.start p 0 [] b (string-part as-key e Strings.begin))
+  on-first : {e : List ℕ} (b : ℕ) → Front d e → KeyFront d (Machine.start p 0 [] b (string-part as-key e Strings.begin))
   unfolding Strings.scan partOf
   on-first {e} b f = go (eqb b (ch "\"")) (eqb b (ch "'"))
     where
-      opening : Holds d (at (item (string-part as-key e (Strings.one b))) 0 [])
+      opening : KeyFront d (at (item (string-part as-key e (Strings.one b))) 0 [])
       opening = reads (subst (Front d) (sym (append-nil e)) f)
 
       go : (x y : Bool)
-          → Holds d (onOut p 0 [] b (lift (string-part as-key e) (λ x. string as-key (e ++ x))
+          → KeyFront d (onOut p 0 [] b (lift (string-part as-key e) (λ x. string as-key (e ++ x))
           (cond x (takes (Strings.one b)) (cond y (takes (Strings.one b)) (breaks (NotGrammar p))))))
       go true y = opening
       go false true = opening
       go false false = failed
 
   on-part : {e : List ℕ} (b : ℕ) → Front d e → (c : Class)
-      → Holds d (onPart p 0 [] b (wantString as-key e) (Machine.start p 0 [] b (string-part as-key e Strings.begin)) (Machine.odd p) c)
+      → KeyFront d (onPart p 0 [] b (wantString as-key e) (Machine.start p 0 [] b (string-part as-key e Strings.begin)) (Machine.odd p) c)
   on-part b f blankC = based (joins f)
   on-part b f hashC = lined (joins f)
   on-part b f slashC = slashed (joins f)
@@ -338,7 +338,7 @@ module _ {d : List ℕ} (p : ℕ) where
   on-part b f colonC = failed
   on-part b f otherC = failed
 
-  on-byte : (c : Conf) (b : ℕ) → Holds d c → Goes d (hears p c b) (Machine.step p c b)
+  on-byte : (c : Conf) (b : ℕ) → KeyFront d c → FrontAfter d (hears p c b) (Machine.step p c b)
   on-byte c b failed = quiet failed
   on-byte c b (based (parts f)) = on-got f (classOf b)
   on-byte c b (based (joins f)) = quiet (on-part b f (classOf b))
@@ -349,12 +349,12 @@ module _ {d : List ℕ} (p : ℕ) where
   on-byte c b (reads {e = e} {s = s} f) = on-scan e b s f (Strings.scan p s b) (part-keeps p s b)
 
 -- what is named begins with d
-holds-front : {d u : List ℕ} (t : List ℕ) (p : ℕ) (c : Conf) → Holds d c → keyHeard (tell p c t .heard) ≡ some u → Front d u
+named-front : {d u : List ℕ} (t : List ℕ) (p : ℕ) (c : Conf) → KeyFront d c → keyHeard (tell p c t .heard) ≡ some u → Front d u
 unfolding tell
-holds-front [] p c h e = absurd (let z : _≡_ {A = ℕ} 0 1 = cc in omega arith)
-holds-front {d} {u} (b ∷ t) p c h e = go (hears p c b) (Machine.step p c b) (on-byte p c b h) (λ c' g. holds-front t (suc p) c' g) e
+named-front [] p c h e = absurd (let z : _≡_ {A = ℕ} 0 1 = cc in omega arith)
+named-front {d} {u} (b ∷ t) p c h e = go (hears p c b) (Machine.step p c b) (on-byte p c b h) (λ c' g. named-front t (suc p) c' g) e
   where
-    go : (hs : List Heard) (c' : Conf) → Goes d hs c' → ((c' : Conf) → Holds d c' → keyHeard (tell (suc p) c' t .heard) ≡ some u → Front d u)
+    go : (hs : List Heard) (c' : Conf) → FrontAfter d hs c' → ((c' : Conf) → KeyFront d c' → keyHeard (tell (suc p) c' t .heard) ≡ some u → Front d u)
         → keyHeard (hs ++ tell (suc p) c' t .heard) ≡ some u → Front d u
     go hs c' (quiet g) more e = more c' g e
     go hs c' shut more e = absurd (let z : _≡_ {A = ℕ} 0 1 = cc in omega arith)
@@ -367,7 +367,7 @@ module _ (text : List ℕ) where
   part-front s p before u h =
       front-join (before ++ partOf s) (before ++ h .value) u
       (front-in before (partOf s) (h .value) (ran-front Strings.scan partOf part-keeps (drop p text) p s (h .value) (h .close) (h .runs)))
-      (holds-front {d = before ++ h .value} (drop (h .close) text) (h .close) (gotParts (before ++ h .value)) (based (parts (front-all (before ++ h .value))))
+      (named-front {d = before ++ h .value} (drop (h .close) text) (h .close) (gotParts (before ++ h .value)) (based (parts (front-all (before ++ h .value))))
       (h .names))
 
   inside-front : (state : List ℕ → Strings.St) → ((a : List ℕ) → partOf (state a) ≡ a) → (p : ℕ) (e u : List ℕ) → Inside text state p e u → Front e u

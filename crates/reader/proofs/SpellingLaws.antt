@@ -27,7 +27,7 @@ use Rattle.items.proofs.PlacesLaws.{alike, byte-in, byte-out, runs-by, broken-b
 use Rattle.reader.specs.Between.Joined.{Alone, Joining, Stray}
 use Rattle.reader.specs.Between.Repeat.{KeyIs}
 use Rattle.reader.specs.Between.Spelling.{dueOf, OctetSays, NamesNext, gotParts, gotName, Part, Inside, between, Quoting, Naming, Spells}
-use Rattle.reader.specs.Between.Spelling.{InText, toCome, Further, SpeltSays, StepSays, LetterSays, ThreeSays}
+use Rattle.reader.specs.Between.Spelling.{InText, toCome, Further, StepFromSays, StepSays, LetterSays, ThreeSays}
 use Rattle.reader.specs.declared.spelling.Spelling.{Spelling}
 use Rattle.reader.specs.declared.spelling.Spelt.{Spelt}
 use Rattle.reader.specs.declared.spelling.Letter.{Letter}
@@ -153,7 +153,7 @@ further-more n l h = record { within = h .within; falls = omega (arith, h .falls
 module _ (text : List ℕ) (m n : ℕ) where
   -- from another state that leads to the same keys
   pub spelt-from : (From Was : List ℕ → List ℕ → Type 0) (r : Spelt) → m ≤ n → ((e u : List ℕ) → Was e u → From e u)
-      → SpeltSays text m From r → SpeltSays text n Was r
+      → StepFromSays text m From r → StepFromSays text n Was r
   spelt-from From Was (Spelt.Byte b s) l f w = (further-more n l (w .0), λ e u h. w .1 e u (f e u h))
   spelt-from From Was (Spelt.On s) l f w = (further-more n l (w .0), λ e u h. w .1 e u (f e u h))
   spelt-from From Was Spelt.Over l f w = λ e u h. w e u (f e u h)
@@ -194,7 +194,7 @@ module _ (text : List ℕ) (p : ℕ) where
   pub after-stray : (why : Refusal) → Stray text p why → (e u : List ℕ) → Behind e u → e ≡ u
   after-stray why s e u h = absurd (parts-stray text u e p why s h)
 
-  pub after-next : (q : ℕ) → p ≤ length text → Joining text p q → SpeltSays text (8 * (length text - p)) Behind (Spelt.On (Spelling.Opening q))
+  pub after-next : (q : ℕ) → p ≤ length text → Joining text p q → StepFromSays text (8 * (length text - p)) Behind (Spelt.On (Spelling.Opening q))
   after-next q l j = (
     record { within = j .within; falls = omega (arith, j .past, j .within) },
     λ e u h. part-of text q e u (next-part text q e u (parts-go-on text u e p q j h)),
@@ -322,7 +322,7 @@ module _ (text : List ℕ) (p : ℕ) where
 
         module _ (m : p + 2 < length text) where
           pub opening-empty : (getD text (p + 2) 0 ≡ getD text p 0 → ⊥) → (r : Spelt)
-              → SpeltSays text (8 * (length text - (p + 2))) (λ e u. NamesNext text (gotParts e) (p + 2) u) r → StepSays text (Spelling.Opening p) r
+              → StepFromSays text (8 * (length text - (p + 2))) (λ e u. NamesNext text (gotParts e) (p + 2) u) r → StepSays text (Spelling.Opening p) r
           opening-empty i r w =
               spelt-from text (8 * (length text - (p + 2))) (8 * (length text - p)) (λ e u. NamesNext text (gotParts e) (p + 2) u) (Part text begin p) r
               (omega arith)
@@ -392,7 +392,7 @@ module _ (text : List ℕ) (p quote : ℕ) (small : quote < 256) where
           (BadEscape b) (p + 1) refl))
 
       pub quoted-closes : getD text p 0 ≡ quote → (r : Spelt)
-          → SpeltSays text (8 * (length text - (p + 1))) (λ e u. NamesNext text (gotParts e) (p + 1) u) r → StepSays text (Spelling.Quoted p quote) r
+          → StepFromSays text (8 * (length text - (p + 1))) (λ e u. NamesNext text (gotParts e) (p + 1) u) r → StepSays text (Spelling.Quoted p quote) r
       quoted-closes d r w =
           spelt-from text (8 * (length text - (p + 1))) (8 * (length text - p)) (λ e u. NamesNext text (gotParts e) (p + 1) u) (Quoting text p quote) r
           (omega arith)
@@ -505,7 +505,7 @@ module _ (text : List ℕ) (p quote : ℕ) (small : quote < 256) where
       ∙ ended-by Strings.scan text (done (mk quote fine whole acc)) acc j refl
 
   pub lines-close : ThreeSays text p quote true → (r : Spelt)
-      → SpeltSays text (8 * (length text - (p + 3))) (λ e u. NamesNext text (gotParts e) (p + 3) u) r → StepSays text (Spelling.Lines p quote) r
+      → StepFromSays text (8 * (length text - (p + 3))) (λ e u. NamesNext text (gotParts e) (p + 3) u) r → StepSays text (Spelling.Lines p quote) r
   lines-close h r w =
       let l = h .0 in
       spelt-from text (8 * (length text - (p + 3))) (8 * (length text - p)) (λ e u. NamesNext text (gotParts e) (p + 3) u) (Inside text (lines quote 0) p) r

@@ -15,7 +15,7 @@ use Rattle.once.specs.Hash.{seed, mix, finish, mixes}
 use Rattle.once.proofs.HashLaws.{mixes-none, mixes-more, hash-done}
 use Rattle.reader.specs.Between.Joined.{Alone}
 use Rattle.reader.specs.Between.Spelling.{Spells}
-use Rattle.reader.specs.Between.Repeat.{KeyIs, TagSays, ColonSays}
+use Rattle.reader.specs.Between.Repeat.{KeyIs, TagSays, ColonAtSays}
 use Rattle.reader.specs.declared.spelling.Spelling.{Spelling}
 use Rattle.reader.specs.declared.spelling.Spelt.{Spelt}
 use Rattle.reader.proofs.SpellingHeardLaws.{parts-are}
@@ -48,10 +48,10 @@ module _ (text : List ℕ) (q salt : ℕ) where
 
 -- ---- a key in quotes
 
-pub no-colon : (text : List ℕ) (p : ℕ) → ColonSays text p false
+pub no-colon : (text : List ℕ) (p : ℕ) → ColonAtSays text p false
 no-colon text p e = absurd (let z : _≡_ {A = ℕ} 0 1 = cc in omega arith)
 
-pub colon-says : (text : List ℕ) (p : ℕ) → p < length text → ColonSays text p (eqb (getD text p 0) (ch ":"))
+pub colon-says : (text : List ℕ) (p : ℕ) → p < length text → ColonAtSays text p (eqb (getD text p 0) (ch ":"))
 colon-says text p l e = (l, eqb-true _ _ e)
 
 -- no part follows before a colon
@@ -87,7 +87,7 @@ module _ (text : List ℕ) (q salt quote : ℕ) where
     quoted-tag-more d g x =
         tag-more text q salt (Spelling.Quoted i quote) h v (getD text i 0) (Spelling.Quoted (i + 1) quote) g (quoted-byte text i quote small l n d .1) x
 
-    pub quoted-tag-done : getD text i 0 ≡ quote → (c : Bool) → ColonSays text (i + 1) c → c ≡ true → (r : ℕ) → r ≡ finish h → TagSays text q salt r
+    pub quoted-tag-done : getD text i 0 ≡ quote → (c : Bool) → ColonAtSays text (i + 1) c → c ≡ true → (r : ℕ) → r ≡ finish h → TagSays text q salt r
     quoted-tag-done d c w z r x =
         let y = w z in
         tag-done text q salt (Spelling.Quoted i quote) h v r

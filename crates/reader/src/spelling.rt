@@ -7,7 +7,7 @@ ghost use Rattle.meaning.specs.Letters.{ch};
 ghost use Rattle.rules.specs.Rfc3629.{encode};
 ghost use Rattle.reader.specs.declared.spelling.Spelling.the-variants as Spellings;
 ghost use Rattle.reader.specs.Between.Repeat.{KeyIs};
-ghost use Rattle.reader.specs.Between.Spelling.{OctetSays, InText, Spells, SpeltSays, StepSays, LetterSays};
+ghost use Rattle.reader.specs.Between.Spelling.{OctetSays, InText, Spells, StepFromSays, StepSays, LetterSays};
 ghost use Rattle.reader.specs.Between.Spelling.{NamesNext, gotParts, ThreeSays};
 use crate::joined;
 use crate::joined::Join;
@@ -115,7 +115,7 @@ fn due(character: u32, left: usize, at: usize, quote: u8) -> Spelt
 // After a part.
 fn after(text: &[u8], end: usize) -> Spelt
     requires { ⌜ end ≤ length (now text) ⌝ }
-    ensures { λ r. ⌜ SpeltSays (now (text .entry)) (8 * (length (now (text .entry)) - end))
+    ensures { λ r. ⌜ StepFromSays (now (text .entry)) (8 * (length (now (text .entry)) - end))
         (λ e u. NamesNext (now (text .entry)) (gotParts e) end u) r ⌝ }
 {
     match joined::after_part(text, end) {

@@ -4,7 +4,7 @@ ghost use mathlib.Core.Logic.{_⊎_};
 ghost use Prim.Native.Nat.{_<_};
 ghost use lib.ListN.{length, getD};
 ghost use Rattle.meaning.specs.Letters.{ch};
-ghost use Rattle.reader.specs.Between.Repeat.{TagSays, ColonSays};
+ghost use Rattle.reader.specs.Between.Repeat.{TagSays, ColonAtSays};
 use crate::spelling;
 use crate::spelling::Letter;
 use items::identifier;
@@ -30,7 +30,7 @@ fn spelled_tag(text: &[u8], at: usize, salt: u32) -> u32
 
 // Whether a colon stands at a place.
 fn colon_at(text: &[u8], at: usize) -> bool
-    ensures { λ r. ⌜ ColonSays (now (text .entry)) at r ⌝ }
+    ensures { λ r. ⌜ ColonAtSays (now (text .entry)) at r ⌝ }
 {
     if at >= text.len() {
         return false;

@@ -55,8 +55,8 @@ abbrev pub TagSays : List ℕ → ℕ → ℕ → ℕ → Type 0
 TagSays text q salt r = (u : List ℕ) → KeyIs text q u → r ≡ hashOf salt u
 
 -- a colon stands at q
-abbrev pub ColonSays : List ℕ → ℕ → Bool → Type 0
-ColonSays text q r = r ≡ true → (q < length text) × (getD text q 0 ≡ ch ":")
+abbrev pub ColonAtSays : List ℕ → ℕ → Bool → Type 0
+ColonAtSays text q r = r ≡ true → (q < length text) × (getD text q 0 ≡ ch ":")
 
 -- ---- one key among others
 

@@ -98,15 +98,15 @@ pub record Further (text : List ℕ) (most : ℕ) (s : Spelling) : Type 0 where
   pub within : InText text s
   pub falls : toCome text s < most
 
--- from where the bytes e lead to the key u as From says
-abbrev pub SpeltSays : List ℕ → ℕ → (List ℕ → List ℕ → Type 0) → Spelt → Type 0
-SpeltSays text most From (Spelt.Byte b s) =
+-- a step from where the bytes e lead to the key u as From says
+abbrev pub StepFromSays : List ℕ → ℕ → (List ℕ → List ℕ → Type 0) → Spelt → Type 0
+StepFromSays text most From (Spelt.Byte b s) =
     Further text most s × ((e u : List ℕ) → From e u → Spells text s (e ++ (b ∷ [])) u)
-SpeltSays text most From (Spelt.On s) = Further text most s × ((e u : List ℕ) → From e u → Spells text s e u)
-SpeltSays text most From Spelt.Over = (e u : List ℕ) → From e u → e ≡ u
+StepFromSays text most From (Spelt.On s) = Further text most s × ((e u : List ℕ) → From e u → Spells text s e u)
+StepFromSays text most From Spelt.Over = (e u : List ℕ) → From e u → e ≡ u
 
 abbrev pub StepSays : List ℕ → Spelling → Spelt → Type 0
-StepSays text s = SpeltSays text (toCome text s) (Spells text s)
+StepSays text s = StepFromSays text (toCome text s) (Spells text s)
 
 abbrev pub LetterSays : List ℕ → Spelling → Letter → Type 0
 LetterSays text s (Letter.Byte b t) =
