@@ -1,4 +1,4 @@
--- Each call takes a table that stands where a pass does to where the pass goes with the event. Assumes nothing.
+-- Each call takes a table that stands where a pass does to where the pass goes with the event; what it then tells of a window. Assumes nothing.
 use mathlib.Core.Path.{_≡_, refl, ap, subst}
 use mathlib.Core.Bool.{Bool, true, false}
 use mathlib.Core.Logic.{_⊎_, inl, inr}
@@ -8,16 +8,16 @@ use native.Mathlib.Omega.{arith}
 use lib.Dec.{leb}
 use lib.ListN.{length, getD, replicate, length-replicate}
 use borrow.Author.Tests.{leb-true, leb-false}
-use Rattle.meaning.specs.Between.Events.{Event, begins, ends, named}
+use Rattle.meaning.specs.Between.Events.{Event, begins, ends, named, Spans}
 use Rattle.once.specs.Table.{Slot, room}
 use Rattle.once.specs.Groups.{flat, Holds, Sane, Opens, Does, Begun, start, deeper, shallower, need, taken, marked, naming, Names}
 use Rattle.once.specs.Groups.{FromIs, TwiceIs, StopIs}
 use Rattle.once.specs.Objects.{grouped, stateOf}
-use Rattle.once.specs.Windows.{Key, hits, all, Kept, nothing, noted, present, Some, Every, Passes}
+use Rattle.once.specs.Windows.{Key, hits, all, Kept, nothing, noted, present, Some, Every, Passes, least, onward, SearchedTo, NoneOrLater}
 use Rattle.once.specs.Keeping.{slotsOf, allSlots, heldOf, Before, Keeps, Goes}
 use Rattle.once.proofs.GroupsTakingLaws.{zeroes-hold}
 use Rattle.once.proofs.ObjectsLaws.{begin-is, open-is, close-is, take-is, stop-is, after-is, notice-is, Bare, first-fits}
-use Rattle.once.proofs.WindowsLaws.{passes-join, every-map}
+use Rattle.once.proofs.WindowsLaws.{passes-join, every-map, search-begins, search-goes-on, search-onward, onward-later}
 
 all-length : (tag : List ℕ → ℕ) (ts : List (List Key)) → length (allSlots tag ts) ≡ length ts
 all-length tag [] = refl
@@ -215,3 +215,19 @@ module _ {Is : ℕ → List ℕ → Type 0} {tag : List ℕ → ℕ} {seen : Lis
       two : (n ≡ room seen) ⊎ (n ≡ 2) → 2 ≤ n
       two (inl y) = omega (arith, h .roomy)
       two (inr y) = omega arith
+
+-- ---- what the table tells after a window
+
+-- after the first
+pub searched-first : {Is : ℕ → List ℕ → Type 0} {tag : List ℕ → ℕ} {seen : List ℕ} {at b : ℕ} {es : List Event} → Goes Is tag seen at 0 nothing es
+    → Spans 1 b es → (t p : ℕ) → TwiceIs seen t → StopIs seen p → SearchedTo b es t (onward t p)
+searched-first g w t p i j = rw (keeps-twice (g .keeps) t i, keeps-stop (g .keeps) p j) (search-onward (search-begins (g .next) (g .passes) w))
+
+-- after each next one
+pub searched-next : {Is : ℕ → List ℕ → Type 0} {tag : List ℕ → ℕ} {seen : List ℕ} {at b f best : ℕ} {es : List Event} → Goes Is tag seen at f nothing es
+    → SearchedTo b es best f → (f ≡ 0 → ⊥) → (t p : ℕ) → TwiceIs seen t → StopIs seen p
+    → SearchedTo b es (least best t) (onward (least best t) p) × NoneOrLater f (onward (least best t) p)
+searched-next {f = f} {best = best} g h n t p i j =
+    rw (keeps-twice (g .keeps) t i, keeps-stop (g .keeps) p j)
+    (let x = search-goes-on h n (g .next) (g .passes) in
+    (search-onward (x .0), onward-later f (least best (g .next .twice)) (g .next .stop) (x .1)))

@@ -1,17 +1,19 @@
 -- A pass finds the first key that repeats one of its window; windows one after the other find the first repeated key of all, and each begins after the one
 -- before. Assumes nothing.
-use Prim.Native.Nat.{ℕ, suc, _≤_, _<_}
+use Prim.Native.Nat.{ℕ, suc, _-_, _≤_, _<_}
 use mathlib.Core.Path.{_≡_, refl, sym, ap, ap₂, _∙_}
 use mathlib.Core.Bool.{Bool, true, false, cond, _&&_, _||_}
 use mathlib.Core.Logic.{_⊎_, inl, inr}
 use mathlib.Core.Option.{Option, some}
 use mathlib.Core.List.{List, [], _∷_, _++_}
 use native.Mathlib.Omega.{arith}
+use native.Mathlib.Decide.{decLt}
 use lib.Dec.{eqb, leb, ltb}
 use borrow.Author.Tests.{eqb-true, eqb-false, leb-true, leb-false, le-leb, ltb-true, ltb-false, ne-eqb, lt-leb, lt-ltb, le-ltb}
 use Rattle.meaning.specs.Once.{same}
 use Rattle.meaning.specs.Between.Events.{Event, begins, ends, named, among, firstRepeat, Spans}
 use Rattle.once.specs.Windows.{Key, hits, all, repeatIn, window, least, onward, num, Kept, nothing, noted, Some, Passes, Each, Every}
+use Rattle.once.specs.Windows.{SearchedTo, NoneOrLater}
 
 -- ---- one pass after the other
 
@@ -105,7 +107,7 @@ moves {f = f} a b (Passes.stops {k = k} {ts = ts} {q = q} {es = es} l m x) w h g
     moves (suc q) b x (w .1) (among-on f a (suc q) (omega (arith, w .0)) (k ∷ ts) h) (λ n. (omega (arith, w .0, y .1 .0, y .1 .1), omega arith))
 
 -- a window that is not the last ends after its beginning, before the events do
-pub moves-on : (f a b : ℕ) (es : List Event) (s : Kept) → Passes f nothing es s → Spans a b es → (s .stop ≡ 0 → ⊥) → (f < s .stop) × (s .stop < b)
+moves-on : (f a b : ℕ) (es : List Event) (s : Kept) → Passes f nothing es s → Spans a b es → (s .stop ≡ 0 → ⊥) → (f < s .stop) × (s .stop < b)
 moves-on f a b es s x w n = moves a b x w tt (λ m. absurd (m refl)) n
 
 -- ---- what a pass keeps
@@ -262,6 +264,20 @@ repeat-past W (named q u ∷ es) (o ∷ os) a b s = go (hits W u o) (repeat-past
     go true h = inr (s .0)
     go false h = from-less (suc q) a (omega (arith, s .0)) h
 
+-- nor is the first of all
+pub first-past : (es : List Event) (os : List (List (List ℕ))) (a b q : ℕ) → Spans a b es → firstRepeat os es ≡ some q → a ≤ q
+unfolding firstRepeat
+first-past [] os a b q h e = absurd (let z : _≡_ {A = ℕ} 0 1 = cc in omega arith)
+first-past (begins ∷ es) os a b q h e = first-past es ([] ∷ os) a b q h e
+first-past (ends ∷ es) [] a b q h e = first-past es [] a b q h e
+first-past (ends ∷ es) (o ∷ os) a b q h e = first-past es os a b q h e
+first-past (named p u ∷ es) [] a b q h e = let z = first-past es [] (suc p) b q (h .1) e in omega (arith, h .0)
+first-past (named p u ∷ es) (o ∷ os) a b q h e = go (among u o) (λ f. first-past es ((u ∷ o) ∷ os) (suc p) b q (h .1) f) e
+  where
+    go : (t : Bool) → (firstRepeat ((u ∷ o) ∷ os) es ≡ some q → suc p ≤ q) → cond t (some p) (firstRepeat ((u ∷ o) ∷ os) es) ≡ some q → a ≤ q
+    go true f g = let z : p ≡ q = cc in omega (arith, h .0)
+    go false f g = let z = f g in omega (arith, h .0)
+
 abbrev either : (ℕ → Bool) → (ℕ → Bool) → ℕ → Bool
 either W X e = W e || X e
 
@@ -332,10 +348,6 @@ joined f p n w e = rw (ne-eqb f 0 n, le-leb 0 e (omega arith)) (go (ltb e f) ref
     go false a true b z c v d = refl
     go false a false b z c v d = absurd (omega (arith, ltb-false e f a, leb-false f e b))
 
--- the first window
-pub window-first : (b : ℕ) (es : List Event) (s : Kept) → Passes 0 nothing es s → Spans 1 b es → s .twice ≡ repeatIn (window 0 (s .stop)) [] es
-window-first b es s x w = pass-finds 0 b es s x w
-
 stop-from : (f b : ℕ) (es : List Event) (s : Kept) → Passes f nothing es s → Spans 1 b es → From f (s .stop)
 stop-from f b es s x w = go (eqb (s .stop) 0) refl
   where
@@ -343,8 +355,8 @@ stop-from f b es s x w = go (eqb (s .stop) 0) refl
     go true e = inl (eqb-true (s .stop) 0 e)
     go false e = let h = moves-on f 1 b es s x w (λ z. eqb-false (s .stop) 0 e z) in inr (omega arith)
 
--- each next one
-pub window-next : (best f b : ℕ) (es : List Event) (s : Kept) → (f ≡ 0 → ⊥) → best ≡ repeatIn (window 0 f) [] es → Passes f nothing es s → Spans 1 b es
+-- a window after others
+window-next : (best f b : ℕ) (es : List Event) (s : Kept) → (f ≡ 0 → ⊥) → best ≡ repeatIn (window 0 f) [] es → Passes f nothing es s → Spans 1 b es
     → least best (s .twice) ≡ repeatIn (window 0 (s .stop)) [] es
 window-next best f b es s n e x w =
     ap₂ least e (pass-finds f b es s x w)
@@ -379,7 +391,7 @@ repeat-first (named q u ∷ es) (o ∷ os) =
     go m false e h = rw (sym e) h
 
 -- with no end left, it is the first repeated key of all
-pub window-last : (es : List Event) → repeatIn (window 0 0) [] es ≡ num (firstRepeat [] es)
+window-last : (es : List Event) → repeatIn (window 0 0) [] es ≡ num (firstRepeat [] es)
 unfolding allKeys
 window-last es = repeat-cong (window 0 0) all (λ e. rw (le-leb 0 e (omega arith))) es [] ∙ repeat-first es []
 
@@ -412,7 +424,7 @@ enough best p b es s e n l =
     ∙ repeat-cong (either (window 0 p) (window p 0)) (window 0 0) (joined p 0 (λ z. n (let y : best ≡ 0 = omega arith in y)) (inl refl)) es []
 
 -- the next window may begin there
-pub window-onward : (best p b : ℕ) (es : List Event) → Spans 1 b es → best ≡ repeatIn (window 0 p) [] es → best
+window-onward : (best p b : ℕ) (es : List Event) → Spans 1 b es → best ≡ repeatIn (window 0 p) [] es → best
     ≡ repeatIn (window 0 (onward best p)) [] es
 window-onward best p b es s e = go (eqb best 0) refl (leb best p) refl
   where
@@ -422,10 +434,65 @@ window-onward best p b es s e = go (eqb best 0) refl (leb best p) refl
     go false i false j = e
 
 -- it begins where the last one stopped, or nowhere
-pub onward-is : (best p : ℕ) → (onward best p ≡ 0) ⊎ (onward best p ≡ p)
+onward-is : (best p : ℕ) → (onward best p ≡ 0) ⊎ (onward best p ≡ p)
 onward-is best p = go (eqb best 0) (leb best p)
   where
     go : (x y : Bool) → (cond x p (cond y 0 p) ≡ 0) ⊎ (cond x p (cond y 0 p) ≡ p)
     go true y = inr refl
     go false true = inl refl
     go false false = inr refl
+
+-- ---- the search, window after window
+
+-- where a window stops is below the events' end
+stop-below : (f b : ℕ) (es : List Event) (s : Kept) → Passes f nothing es s → Spans 1 b es → s .stop < b
+stop-below f b es s x w = by (decLt 0 (s .stop))
+  where
+    by : Dec (0 < s .stop) → s .stop < b
+    by (Dec.yes l) = moves-on f 1 b es s x w (λ z. omega arith) .1
+    by (Dec.no l) = omega (arith, spans-order 1 b es w)
+
+module _ {b : ℕ} {es : List Event} where
+  -- after the first pass
+  pub search-begins : (s : Kept) → Passes 0 nothing es s → Spans 1 b es → SearchedTo b es (s .twice) (s .stop)
+  search-begins s x w = record { spans = w; found = pass-finds 0 b es s x w; inside = stop-below 0 b es s x w }
+
+  -- after each next one, which stops later than it begins
+  pub search-goes-on : {best f : ℕ} → SearchedTo b es best f → (f ≡ 0 → ⊥) → (s : Kept) → Passes f nothing es s
+      → SearchedTo b es (least best (s .twice)) (s .stop) × NoneOrLater f (s .stop)
+  search-goes-on {best} {f} h n s x = (
+    record { spans = h .spans; found = window-next best f b es s n (h .found) x (h .spans); inside = stop-below f b es s x (h .spans) },
+    λ o. moves-on f 1 b es s x (h .spans) o .0,
+  )
+
+  -- and where the next may begin
+  pub search-onward : {best p : ℕ} → SearchedTo b es best p → SearchedTo b es best (onward best p)
+  search-onward {best} {p} h =
+      record { spans = h .spans; found = window-onward best p b es (h .spans) (h .found); inside = by (onward-is best p) }
+    where
+      by : (onward best p ≡ 0) ⊎ (onward best p ≡ p) → onward best p < b
+      by (inl e) = omega (arith, h .inside)
+      by (inr e) = omega (arith, h .inside)
+
+  -- where none is left, the first repeated key of all is found
+  pub search-ends : {best from : ℕ} → SearchedTo b es best from → from ≡ 0 → best ≡ num (firstRepeat [] es)
+  search-ends h e = h .found ∙ ap (λ (p : ℕ). repeatIn (window 0 p) [] es) e ∙ window-last es
+
+pub onward-later : (f best p : ℕ) → NoneOrLater f p → NoneOrLater f (onward best p)
+onward-later f best p h n = by (onward-is best p)
+  where
+    by : (onward best p ≡ 0) ⊎ (onward best p ≡ p) → f < onward best p
+    by (inl e) = absurd (n e)
+    by (inr e) = let y = h (λ z. n (e ∙ z)) in omega arith
+
+-- how many windows are left, at most
+abbrev pub windowsLeft : ℕ → ℕ → ℕ
+windowsLeft b from = cond (eqb from 0) 0 (b - from)
+
+pub fewer-left : {b best from next : ℕ} {es : List Event} → SearchedTo b es best from → (from ≡ 0 → ⊥) → NoneOrLater from next
+    → windowsLeft b next < windowsLeft b from
+fewer-left {b} {from = from} {next = next} h n w = rw (ne-eqb from 0 n) (by (eqb next 0) refl)
+  where
+    by : (x : Bool) → eqb next 0 ≡ x → cond x 0 (b - next) < b - from
+    by true e = omega (arith, h .inside)
+    by false e = let g = w (eqb-false next 0 e) in omega (arith, h .inside)

@@ -8,7 +8,7 @@ use mathlib.Core.List.{List, [], _∷_}
 use Prim.Native.Nat.{ℕ, zero, suc, _≤_, _<_}
 use lib.Dec.{eqb, leb, ltb}
 use Rattle.meaning.specs.Once.{same}
-use Rattle.meaning.specs.Between.Events.{Event, begins, ends, named}
+use Rattle.meaning.specs.Between.Events.{Event, begins, ends, named, Spans}
 
 -- a key with its place
 abbrev pub Key : Type 0
@@ -110,6 +110,21 @@ pub data Passes (f : ℕ) : Kept → List Event → Kept → Type 0 where
       → f ≤ q → Some (k ∷ ts)
       → Passes f (record { keys = k ∷ ts; twice = noted t q (hits all u k); stop = q }) es s
       → Passes f (record { keys = k ∷ ts; twice = t; stop = 0 }) (named q u ∷ es) s
+
+-- ---- windows one after the other
+
+-- of the events, whose places are below b, the keys before `from` have been taken in, all where it is 0: `best` is the
+-- first key that repeats one of them, 0 for none
+pub record SearchedTo (b : ℕ) (es : List Event) (best from : ℕ) : Type 0 where
+  pub spans : Spans 1 b es
+  pub found : best ≡ repeatIn (window 0 from) [] es
+  pub inside : from < b
+
+-- a window from `next` on comes after one from `from` on, or is none
+abbrev pub NoneOrLater : ℕ → ℕ → Type 0
+NoneOrLater from next = (next ≡ 0 → ⊥) → from < next
+
+-- ---- how deep
 
 -- how many objects are open after events, of n before
 unfoldable pub level : ℕ → List Event → ℕ

@@ -30,13 +30,14 @@ use Rattle.machine.proofs.Refusals.Whole.{refusals}
 use Rattle.machine.proofs.Accepted.{none-accepted, first-refused}
 use Rattle.once.specs.Groups.{TwiceIs, StopIs}
 use Rattle.once.specs.Windows.{nothing, num, onward}
+use Rattle.once.proofs.WindowsLaws.{search-ends, first-past}
 use Rattle.reader.specs.Answers.{answerSaid, Measures, Reads, filled, tape-short, store-short}
 use Rattle.reader.specs.Between.Repeat.{Keeping}
 use Rattle.reader.specs.Between.Walk.{WalkSays, Searching, AnsweredSays}
 use Rattle.reader.specs.declared.Answer.{Answer}
 use Rattle.reader.specs.declared.Answer.the-variants.{Counts, Refused}
 use Rattle.reader.proofs.Claims.{Sized, measure-accepts, bounded}
-use Rattle.reader.proofs.WalkWindowLaws.{keys-span, first-window, searching-onward, search-ends, first-past}
+use Rattle.reader.proofs.WalkWindowLaws.{keys-span, first-window}
 
 no-meaning : {m : Meaning} {why : Refusal} → Ok m ≡ No why → ⊥
 no-meaning e = let z : _≡_ {A = ℕ} 0 1 = cc in omega arith
@@ -76,7 +77,7 @@ module _ (text : List ℕ) where
             counted = er;
             held = es;
             searching = λ twice stop i z.
-                searching-onward (first-window w twice stop i z k (keys-span x (w .keys) (ap (λ (t : Told). t .heard) (w .told))) h);
+                first-window w twice stop i z k (keys-span x (w .keys) (ap (λ (t : Told). t .heard) (w .told))) h;
           }
 
 module _ {text seen : List ℕ} {r s : ℕ} (t : Counted text seen r s) where
@@ -91,11 +92,11 @@ module _ {text seen : List ℕ} {r s : ℕ} (t : Counted text seen r s) where
       go : (x : Option ℕ) → firstRepeat [] (q .keys) ≡ x → Measures text a
       go none e =
           Measures.sizes (none-accepted (t .means) (q .keys) (q .told) e)
-          (ap answerSaid (g .none (search-ends q ∙ ap num e)) ∙ ap₂ (λ (x y : ℕ). done (x, y)) (t .counted) (t .held))
+          (ap answerSaid (g .none (search-ends (q .windows) refl ∙ ap num e)) ∙ ap₂ (λ (x y : ℕ). done (x, y)) (t .counted) (t .held))
       go (some p) e =
-          let i : best ≡ p = search-ends q ∙ ap num e in
+          let i : best ≡ p = search-ends (q .windows) refl ∙ ap num e in
           Measures.no-text (first-refused (t .means) (q .keys) (q .told) p e)
-          (ap answerSaid (g .some (λ z. omega (arith, first-past (q .keys) [] 1 (length text) p (q .spans) e)))
+          (ap answerSaid (g .some (λ z. omega (arith, first-past (q .keys) [] 1 (length text) p (q .windows .spans) e)))
           ∙ ap (λ (x : ℕ). refusalSaid (RepeatedKey x)) i)
 
 -- ---- read

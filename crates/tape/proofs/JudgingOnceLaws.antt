@@ -15,13 +15,14 @@ use Rattle.meaning.proofs.Whole.{injective}
 use Rattle.meaning.proofs.Look.{well-formed-record}
 use Rattle.meaning.proofs.Events.{none-once, some-twice}
 use Rattle.once.specs.Windows.{num}
+use Rattle.once.proofs.WindowsLaws.{first-past}
 use Rattle.tape.specs.declared.Judged.{Judged}
 use Rattle.tape.specs.Between.Judging.{Judges, well, ill, Formed, Forms, formed, unformed}
 use Rattle.tape.specs.Between.Key.{eventsIn, eventsBelow, firstOf, Shallow, Standing}
 use Rattle.tape.specs.Between.Standing.{recordsFrom}
 use Rattle.tape.proofs.JudgingMachineLaws.{nay}
 use Rattle.tape.proofs.JudgingWholeLaws.{read-is, verdict, formed-length, formed-records, nay-unformed}
-use Rattle.tape.proofs.KeyEventsLaws.{first-past, events-are, records-shallow}
+use Rattle.tape.proofs.KeyEventsLaws.{events-are, records-shallow}
 use Rattle.tape.proofs.KeyWindowLaws.{spans-bound}
 
 module _ {tape store : List ℕ} where

@@ -2,7 +2,6 @@
 use mathlib.Core.Path.{_≡_, refl, sym, ap, ap₂, _∙_}
 use mathlib.Core.Bool.{Bool, true, false, cond}
 use mathlib.Core.List.{List, [], _∷_, _++_, append-assoc, append-nil}
-use mathlib.Core.Option.{some}
 use Prim.Native.Nat.{ℕ, suc, _+_, _≤_, _<_}
 use native.Mathlib.Omega.{arith}
 use lib.Dec.{leb}
@@ -14,7 +13,7 @@ use Rattle.meaning.specs.Meaning.{Meaning, Meanings, Members, null, bool, numbe
 use Rattle.meaning.specs.Good.{depth, elementsDepth, membersDepth}
 use Rattle.meaning.specs.Tape.{records, elementsRecords, membersRecords, elementsCount, membersCount, storeOf, elementsStore, membersStore, recordsOf}
 use Rattle.meaning.specs.Tape.{elementsOf, membersOf}
-use Rattle.meaning.specs.Between.Events.{Event, begins, ends, named, among, firstRepeat, erase, Spans, events, elementEvents, memberEvents}
+use Rattle.meaning.specs.Between.Events.{Event, begins, named, erase, Spans, events, elementEvents, memberEvents}
 use Rattle.meaning.proofs.Bytes.{part-is}
 use Rattle.meaning.proofs.Sizes.{most-left, most-right, some-record}
 use Rattle.meaning.proofs.Events.{erase-join, spans-join, spans-to}
@@ -138,20 +137,6 @@ module _ (store : List ℕ) where
   spans-below (r ∷ rs) =
       spans-join (gives store [] 0 r) (eventsIn store rs (0 + 1) (openAfter r [])) 1 1 (suc (length rs) + 1) (none-first r)
       (spans-to (eventsIn store rs (0 + 1) (openAfter r [])) 1 (1 + length rs) (suc (length rs) + 1) (spans-in rs (0 + 1) (openAfter r [])) (omega arith))
-
--- so does that of a repeated key
-pub first-past : (es : List Event) (os : List (List (List ℕ))) (a b q : ℕ) → Spans a b es → firstRepeat os es ≡ some q → a ≤ q
-unfolding firstRepeat
-first-past [] os a b q h e = absurd (let z : _≡_ {A = ℕ} 0 1 = cc in omega arith)
-first-past (begins ∷ es) os a b q h e = first-past es ([] ∷ os) a b q h e
-first-past (ends ∷ es) [] a b q h e = first-past es [] a b q h e
-first-past (ends ∷ es) (o ∷ os) a b q h e = first-past es os a b q h e
-first-past (named p u ∷ es) [] a b q h e = let z = first-past es [] (suc p) b q (h .1) e in omega (arith, h .0)
-first-past (named p u ∷ es) (o ∷ os) a b q h e = go (among u o) (λ f. first-past es ((u ∷ o) ∷ os) (suc p) b q (h .1) f) e
-  where
-    go : (t : Bool) → (firstRepeat ((u ∷ o) ∷ os) es ≡ some q → suc p ≤ q) → cond t (some p) (firstRepeat ((u ∷ o) ∷ os) es) ≡ some q → a ≤ q
-    go true f g = let z : p ≡ q = cc in omega (arith, h .0)
-    go false f g = let z = f g in omega (arith, h .0)
 
 -- ---- the records of a meaning
 

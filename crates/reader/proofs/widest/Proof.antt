@@ -4,7 +4,7 @@ use native.Mathlib.Omega.{arith}
 use lib.ListN.{length, length-replicate}
 use borrow.Author.Needs.{needs}
 use Rattle.reader.specs.Between.Walk.{Searching}
-use Rattle.reader.proofs.WalkWindowLaws.{left, left-less}
+use Rattle.once.proofs.WindowsLaws.{windowsLeft, fewer-left}
 use Rattle.reader.proofs.widest.Statement.{statement}
 use Rattle.reader.proofs.widest.Tie as tie
 use Rattle.reader.proofs.widest.Reads as reads
@@ -15,7 +15,7 @@ abbrev Inv-loop : tie.InvT-loop
 Inv-loop text first begin seen₀ best₀ from₀ seen best from = Searching text best from × (length seen ≡ 262152)
 
 abbrev μ-loop : tie.MeasureT-loop
-μ-loop text first begin seen₀ best₀ from₀ seen best from = left text from
+μ-loop text first begin seen₀ best₀ from₀ seen best from = windowsLeft (length text) from
 
 loop-holds : tie.Need-loop-holds Inv-loop μ-loop
 loop-holds c = (c .before .pre, length-replicate {A = ℕ} 262152 0)
@@ -42,10 +42,8 @@ enum-known-b c = search needs
 
 loop-less : tie.Need-loop-less Inv-loop μ-loop
 loop-less c = let w = rw (c .before .b .given .1) at (c .before .before .before .before .window .ensures) in
-    left-less (c .before .before .before .before .before .before .before .before .before .args .text .now)
-    (c .before .before .before .before .before .before .before .loop .from) (c .before .b .given .0 .1 .0)
-    (c .before .before .before .before .before .before .loop-test .taken) (c .before .before .before .before .before .before .before .loop .inv .0 .inside)
-    (w .1)
+    fewer-left (c .before .before .before .before .before .before .before .loop .inv .0 .windows)
+    (c .before .before .before .before .before .before .loop-test .taken) (w .1)
 
 loop-again : tie.Need-loop-again Inv-loop μ-loop
 loop-again c = let w = rw (c .before .b .given .1) at (c .before .before .before .before .window .ensures) in

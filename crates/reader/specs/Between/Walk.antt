@@ -9,10 +9,10 @@ use Rattle.meaning.specs.declared.Refusal.the-variants.{RepeatedKey}
 use Rattle.meaning.specs.Limits.{textLimit}
 use Rattle.meaning.specs.Meaning.{Meaning}
 use Rattle.meaning.specs.Tape.{records, bytes, tapeOf, storeOf}
-use Rattle.meaning.specs.Between.Events.{Event, Spans}
+use Rattle.meaning.specs.Between.Events.{Event}
 use Rattle.machine.specs.Machine.{got, value, base, at, Ok, No, reading}
 use Rattle.machine.specs.Heard.{tell, telling, heardOf}
-use Rattle.once.specs.Windows.{Kept, repeatIn, window}
+use Rattle.once.specs.Windows.{Kept, SearchedTo, NoneOrLater}
 use Rattle.reader.specs.declared.Answer.{Answer}
 use Rattle.reader.specs.declared.Answer.the-variants.{Counts, Refused}
 use Rattle.reader.specs.declared.Windowed.{Windowed}
@@ -49,14 +49,11 @@ WalkSays text tape tape' store store' seen seen' (Refused why) = reading text �
 
 -- ---- windows
 
--- The keys before `from` have been taken in, all where it is 0: `best` is the first key that repeats one of them, 0 for
--- none.
+-- the search among the text's keys, as far as `from`
 pub record Searching (text : List ℕ) (best from : ℕ) : Type 0 where
   pub keys : List Event
   pub told : telling text .heard ≡ heardOf keys
-  pub spans : Spans 1 (length text) keys
-  pub found : best ≡ repeatIn (window 0 from) [] keys
-  pub inside : from ≤ length text
+  pub windows : SearchedTo (length text) keys best from
   pub short : length text ≤ textLimit
 
 -- a further window, by this table
@@ -67,7 +64,7 @@ pub record AtWindow (text seen : List ℕ) (best from : ℕ) : Type 0 where
   pub small : length seen < 2 ^ 32
 
 abbrev pub WindowSays : List ℕ → ℕ → Windowed → Type 0
-WindowSays text from (Windowed.Next best next) = Searching text best next × ((next ≡ 0 → ⊥) → from < next)
+WindowSays text from (Windowed.Next best next) = Searching text best next × NoneOrLater from next
 WindowSays text from (Windowed.Refused why) = reading text ≡ No why
 
 abbrev pub SearchSays : List ℕ → Search → Type 0

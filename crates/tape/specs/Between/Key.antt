@@ -13,7 +13,7 @@ use Rattle.meaning.specs.Look.{RecordAt}
 use Rattle.meaning.specs.Between.Events.{Event, begins, ends, named, firstRepeat}
 use Rattle.once.specs.Groups.{Stands, Placed, Tagged}
 use Rattle.once.specs.Hash.{hashOf}
-use Rattle.once.specs.Windows.{hits, all, repeatIn, window, num, Kept, nothing, present, level}
+use Rattle.once.specs.Windows.{hits, all, num, Kept, nothing, present, level, SearchedTo, NoneOrLater}
 use Rattle.once.specs.Keeping.{Keeps, Goes}
 use Rattle.tape.specs.declared.key.Window.{Window}
 use Rattle.tape.specs.Between.Standing.{readAt, recordsFrom}
@@ -228,11 +228,10 @@ abbrev pub Empty : List ℕ → List ℕ → ℕ → List ℕ → Type 0
 Empty tape store from seen = Keeps (KeyIs tape store) (hashOf from) seen 0 from nothing
 
 -- all windows so far
-pub record Windowed (tape store : List ℕ) (bound : ℕ) (w : Window) : Type 0 where
-  pub best : w .best ≡ repeatIn (window 0 (w .from)) [] (eventsBelow tape store bound)
-  pub near : w .from ≤ bound
+abbrev pub Windowed : List ℕ → List ℕ → ℕ → Window → Type 0
+Windowed tape store bound w = SearchedTo (bound + 1) (eventsBelow tape store bound) (w .best) (w .from)
 
 -- a window later than another
 pub record Later (tape store : List ℕ) (bound : ℕ) (w v : Window) : Type 0 where
   pub windowed : Windowed tape store bound v
-  pub later : (v .from ≡ 0 → ⊥) → w .from < v .from
+  pub later : NoneOrLater (w .from) (v .from)

@@ -1,7 +1,7 @@
 -- `key::searched`: window after window, in so many rounds. Assumes nothing.
 use mathlib.Core.Path.{refl}
 use native.Mathlib.Omega.{arith}
-use Rattle.tape.proofs.KeyWindowLaws.{last-window}
+use Rattle.once.proofs.WindowsLaws.{search-ends}
 use Prim.Native.Nat.{ℕ, _<_}
 use borrow.Fn.Kinds.{In}
 use borrow.Fn.PlainCycle.{Measures, is, falls, and}
@@ -23,54 +23,22 @@ abbrev searched-below : ℕ → In 2 searched-kinds.ps
 searched-below t =
     and 2 searched-kinds.ps (falls 2 searched-kinds.ps _<_ μ-searched t) searched.Pre
 
-searched-returns : (t : ℕ) → searched-lts.Need-returns (
-  widest-reads.Asked,
-  widest-reads.Learnt,
-  next-window-reads.Asked,
-  next-window-reads.Learnt,
-  searched-below t,
-  searched.Post,
-) (searched-at t) searched.Post
-searched-returns t c = last-window ((c .before .before .before .before .pre) .1 .1) (c .if1 .taken)
+abbrev searched-calls : ℕ → searched-lts.Claims
+searched-calls t = (widest-reads.Asked, widest-reads.Learnt, next-window-reads.Asked, next-window-reads.Learnt, searched-below t, searched.Post)
 
-searched-widest-requires : (t : ℕ) → searched-lts.Need-widest-requires (
-  widest-reads.Asked,
-  widest-reads.Learnt,
-  next-window-reads.Asked,
-  next-window-reads.Learnt,
-  searched-below t,
-  searched.Post,
-) (searched-at t) searched.Post
+searched-returns : (t : ℕ) → searched-lts.Need-returns (searched-calls t) (searched-at t) searched.Post
+searched-returns t c = search-ends ((c .before .before .before .before .pre) .1 .1) (c .if1 .taken)
+
+searched-widest-requires : (t : ℕ) → searched-lts.Need-widest-requires (searched-calls t) (searched-at t) searched.Post
 searched-widest-requires t c κs = (c .before .before .before .before .before .pre) .1
 
-searched-returns-2 : (t : ℕ) → searched-lts.Need-returns-2 (
-  widest-reads.Asked,
-  widest-reads.Learnt,
-  next-window-reads.Asked,
-  next-window-reads.Learnt,
-  searched-below t,
-  searched.Post,
-) (searched-at t) searched.Post
+searched-returns-2 : (t : ℕ) → searched-lts.Need-returns-2 (searched-calls t) (searched-at t) searched.Post
 searched-returns-2 t c = c .widest .ensures
 
-searched-slice-aggregate-next-window : (t : ℕ) → searched-lts.Need-slice-aggregate-next-window (
-  widest-reads.Asked,
-  widest-reads.Learnt,
-  next-window-reads.Asked,
-  next-window-reads.Learnt,
-  searched-below t,
-  searched.Post,
-) (searched-at t) searched.Post
+searched-slice-aggregate-next-window : (t : ℕ) → searched-lts.Need-slice-aggregate-next-window (searched-calls t) (searched-at t) searched.Post
 searched-slice-aggregate-next-window t c = refl
 
-searched-next-window-requires : (t : ℕ) → searched-lts.Need-next-window-requires (
-  widest-reads.Asked,
-  widest-reads.Learnt,
-  next-window-reads.Asked,
-  next-window-reads.Learnt,
-  searched-below t,
-  searched.Post,
-) (searched-at t) searched.Post
+searched-next-window-requires : (t : ℕ) → searched-lts.Need-next-window-requires (searched-calls t) (searched-at t) searched.Post
 searched-next-window-requires t c κs = (
   (c .before .before .before .before .before .before .pre) .1 .0,
   (c .before .before .before .before .before .before .pre) .1 .1,
@@ -79,24 +47,10 @@ searched-next-window-requires t c κs = (
   omega arith,
 )
 
-searched-sub-searched : (t : ℕ) → searched-lts.Need-sub-searched (
-  widest-reads.Asked,
-  widest-reads.Learnt,
-  next-window-reads.Asked,
-  next-window-reads.Learnt,
-  searched-below t,
-  searched.Post,
-) (searched-at t) searched.Post
+searched-sub-searched : (t : ℕ) → searched-lts.Need-sub-searched (searched-calls t) (searched-at t) searched.Post
 searched-sub-searched t c = omega (arith, c .before .before .before .if2 .left)
 
-searched-searched-requires : (t : ℕ) → searched-lts.Need-searched-requires (
-  widest-reads.Asked,
-  widest-reads.Learnt,
-  next-window-reads.Asked,
-  next-window-reads.Learnt,
-  searched-below t,
-  searched.Post,
-) (searched-at t) searched.Post
+searched-searched-requires : (t : ℕ) → searched-lts.Need-searched-requires (searched-calls t) (searched-at t) searched.Post
 searched-searched-requires t c κs = (
   omega (
     arith,
@@ -109,25 +63,11 @@ searched-searched-requires t c κs = (
   ),
 )
 
-searched-returns-3 : (t : ℕ) → searched-lts.Need-returns-3 (
-  widest-reads.Asked,
-  widest-reads.Learnt,
-  next-window-reads.Asked,
-  next-window-reads.Learnt,
-  searched-below t,
-  searched.Post,
-) (searched-at t) searched.Post
+searched-returns-3 : (t : ℕ) → searched-lts.Need-returns-3 (searched-calls t) (searched-at t) searched.Post
 searched-returns-3 t c = c .searched .ensures
 
 pub +searched-spec : {M : Type 1} → statement M
-+searched-spec = close μ-searched λ t. searched-lts.spec (
-  widest-reads.Asked,
-  widest-reads.Learnt,
-  next-window-reads.Asked,
-  next-window-reads.Learnt,
-  searched-below t,
-  searched.Post,
-)
++searched-spec = close μ-searched λ t. searched-lts.spec (searched-calls t)
     (searched-at t)
     searched.Post
     (searched-returns t)

@@ -1,6 +1,7 @@
 -- `key::first_repeat`: the first window, and the others where one is left. Assumes nothing.
 use native.Mathlib.Omega.{arith}
-use Rattle.tape.proofs.KeyWindowLaws.{zeroes-empty, first-window, last-window}
+use Rattle.once.proofs.WindowsLaws.{search-ends}
+use Rattle.tape.proofs.KeyWindowLaws.{zeroes-empty, first-window}
 use borrow.Author.Needs.{needs}
 use Rattle.tape.proofs.key.first_repeat.Statement.{statement}
 use Rattle.tape.proofs.key.first_repeat.Tie as tie
@@ -27,7 +28,7 @@ further-requires : tie.Need-further-requires
 further-requires c κs = search needs
 
 returns : tie.Need-returns
-returns c = last-window (first-window (c .before .before .before .before .before .before .before .pass .ensures)
+returns c = search-ends (first-window (c .before .before .before .before .before .before .before .pass .ensures)
     (c .before .before .before .before .first-twice .ensures) (c .before .before .stopped .ensures) (c .before .further .ensures)) (c .if1 .taken)
 
 searched-requires : tie.Need-searched-requires

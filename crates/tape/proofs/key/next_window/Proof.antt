@@ -33,7 +33,7 @@ same-length : tie.Need-same-length
 same-length c = search needs
 
 returns : tie.Need-returns
-returns c = later-window ((c .before .before .before .before .before .before .before .before .before .before .before .before .before .before .before .before
+returns c = later-window _ ((c .before .before .before .before .before .before .before .before .before .before .before .before .before .before .before .before
     .before .before .pre) .1) ((c .before .before .before .before .before .before .before .before .before .before .before .before .before .before .before
     .before .before .before .pre) .2) (c .before .before .before .before .before .before .before .before .pass .ensures)
     (c .before .before .before .before .first-twice .ensures) (c .before .stopped .ensures) (c .before .before .before .least .ensures) (c .further .ensures)
