@@ -18,7 +18,7 @@ use Rattle.grammar.specs.Comments.{C-begin-line, c-char, C-line, c-no-star, c-n
 use Rattle.machine.specs.Machine
 use Rattle.machine.specs.Machine.{Base, want, wantKey, wantString, wantBinary, got, Mode, base, slash, line, block, star, Frame, Conf, at, fail, step}
 use Rattle.machine.specs.Machine.{read, finish, Verdict, classOf, blankC, noteOf, Note, lineEnd, starN, slashN, plainN, controlN}
-use Rattle.machine.specs.Heard.{hears, tell}
+use Rattle.machine.specs.Heard.{Heard, hears, tell}
 use Rattle.machine.proofs.Tables.{_&_, cut-is}
 use Rattle.machine.proofs.Runs.{adv}
 use Rattle.machine.proofs.Heard.{read-alike, told-step}
@@ -60,6 +60,56 @@ note-is b =
     ((λ l u. omega arith) & (λ l u. omega arith) & (λ l u. omega arith) & (λ l u. omega arith) & (λ l u. omega arith) &
     (λ l u. omega arith) & (λ l u. omega arith) & (λ l u. omega arith) & (λ l u. omega arith) & (λ l u. omega arith) &
     (λ l. omega arith))
+
+-- what is expected, out of layout or in it
+pub data Lay : Type 0 where
+  plainL slashL lineL blockL starL : Lay
+
+abbrev pub modeOf : Lay → Base → Mode
+modeOf plainL s = base s
+modeOf slashL s = slash s
+modeOf lineL s = line s
+modeOf blockL s = block s
+modeOf starL s = star s
+
+-- layout keeps what is expected: a byte of a comment says nothing, and leads to where the same is expected, or is refused
+module _ (Q : List Heard → Conf → Type 0) (p d : ℕ) (k : List Frame) (s : Base) (lost : Q [] (Machine.odd p))
+    (more : (l : Lay) → Q [] (at (modeOf l s) d k)) where
+  slash-keeps : (n : Note) → Q [] (Machine.onSlash p d k s n)
+  slash-keeps slashN = more lineL
+  slash-keeps starN = more blockL
+  slash-keeps lineEnd = lost
+  slash-keeps plainN = lost
+  slash-keeps controlN = lost
+
+  line-keeps : (n : Note) → Q [] (Machine.onLine p d k s n)
+  line-keeps lineEnd = more plainL
+  line-keeps controlN = lost
+  line-keeps slashN = more lineL
+  line-keeps starN = more lineL
+  line-keeps plainN = more lineL
+
+  block-keeps : (n : Note) → Q [] (Machine.onBlock p d k s n)
+  block-keeps starN = more starL
+  block-keeps controlN = lost
+  block-keeps slashN = more blockL
+  block-keeps lineEnd = more blockL
+  block-keeps plainN = more blockL
+
+  star-keeps : (n : Note) → Q [] (Machine.onStar p d k s n)
+  star-keeps slashN = more plainL
+  star-keeps starN = more starL
+  star-keeps controlN = lost
+  star-keeps lineEnd = more blockL
+  star-keeps plainN = more blockL
+
+  pub layout-keeps : (b : ℕ) → Q (hears p (at (base s) d k) b) (step p (at (base s) d k) b) → (l : Lay)
+      → Q (hears p (at (modeOf l s) d k) b) (step p (at (modeOf l s) d k) b)
+  layout-keeps b h plainL = h
+  layout-keeps b h slashL = slash-keeps (noteOf b)
+  layout-keeps b h lineL = line-keeps (noteOf b)
+  layout-keeps b h blockL = block-keeps (noteOf b)
+  layout-keeps b h starL = star-keeps (noteOf b)
 
 -- a byte that a comment of each kind takes
 pub data InLine : Note → Type 0 where

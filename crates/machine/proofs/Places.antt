@@ -30,9 +30,10 @@ use Rattle.machine.specs.Names as N
 use Rattle.machine.specs.Numeric as D
 use Rattle.machine.specs.Machine
 use Rattle.machine.specs.Machine.{Got, Base, want, wantKey, wantString, wantBinary, got, base, line, item, Frame, inside, pair, Conf, at, fail, step}
-use Rattle.machine.specs.Machine.{read, finish, reading, Verdict, Ok, No, classOf, Class, noteOf, Note, lift, scan}
+use Rattle.machine.specs.Machine.{read, finish, reading, Verdict, Ok, No, classOf, Class, lift, scan}
 use Rattle.machine.specs.Verdict.{decoded, verdict}
 use Rattle.machine.proofs.Runs.{adv}
+use Rattle.machine.proofs.Layouts.{Lay, plainL, slashL, lineL, blockL, starL, modeOf, layout-keeps}
 use Rattle.machine.proofs.Numeric.{Blame, firstOf, first-begin, numeric-first, numeric-place}
 
 -- What an outcome at the place p keeps: the places in a state that goes on, or the refusal's, are no later.
@@ -423,33 +424,16 @@ base-kept p d k b (wantString z u) = part-wanted-kept p d k b (wantString z u) _
 base-kept p d k b (wantBinary u) = part-wanted-kept p d k b (wantBinary u) _ _ (odd-kept p) (start-kept p d k b (Machine.binary-part u B.begin) tt) (classOf b)
 base-kept p d k b (got g) = got-kept p d k g (classOf b)
 
-slash-kept : (p d : ℕ) (k : List Frame) (s : Base) (n : Note) → Stepped p (Machine.onSlash p d k s n)
-slash-kept p d k s Machine.slashN = tt
-slash-kept p d k s Machine.starN = tt
-slash-kept p d k s Machine.lineEnd = odd-kept p
-slash-kept p d k s Machine.plainN = odd-kept p
-slash-kept p d k s Machine.controlN = odd-kept p
-
-line-kept : (p d : ℕ) (k : List Frame) (s : Base) (n : Note) → Stepped p (Machine.onLine p d k s n)
-line-kept p d k s Machine.slashN = tt
-line-kept p d k s Machine.starN = tt
-line-kept p d k s Machine.lineEnd = tt
-line-kept p d k s Machine.plainN = tt
-line-kept p d k s Machine.controlN = odd-kept p
-
-block-kept : (p d : ℕ) (k : List Frame) (s : Base) (n : Note) → Stepped p (Machine.onBlock p d k s n)
-block-kept p d k s Machine.slashN = tt
-block-kept p d k s Machine.starN = tt
-block-kept p d k s Machine.lineEnd = tt
-block-kept p d k s Machine.plainN = tt
-block-kept p d k s Machine.controlN = odd-kept p
-
-star-kept : (p d : ℕ) (k : List Frame) (s : Base) (n : Note) → Stepped p (Machine.onStar p d k s n)
-star-kept p d k s Machine.slashN = tt
-star-kept p d k s Machine.starN = tt
-star-kept p d k s Machine.lineEnd = tt
-star-kept p d k s Machine.plainN = tt
-star-kept p d k s Machine.controlN = odd-kept p
+-- in layout as out of it
+layout-kept : (p d : ℕ) (k : List Frame) (b : ℕ) (s : Base) (l : Lay) → Stepped p (step p (at (modeOf l s) d k) b)
+layout-kept p d k b s l = layout-keeps (λ hs c. Stepped p c) p d k s (odd-kept p) on b (base-kept p d k b s) l
+  where
+    on : (l : Lay) → Stepped p (at (modeOf l s) d k)
+    on plainL = tt
+    on slashL = tt
+    on lineL = tt
+    on blockL = tt
+    on starL = tt
 
 -- no refusal yet
 abbrev pub Live : Conf → Type 0
@@ -458,11 +442,11 @@ Live (at m d k) = Unit {0}
 
 pub steps-on : (p : ℕ) (c : Conf) (b : ℕ) → Live c → ConfKept p c → Stepped p (step p c b)
 steps-on p (fail r) b l h = absurd l
-steps-on p (at (base s) d k) b l h = base-kept p d k b s
-steps-on p (at (Machine.slash s) d k) b l h = slash-kept p d k s (noteOf b)
-steps-on p (at (line s) d k) b l h = line-kept p d k s (noteOf b)
-steps-on p (at (Machine.block s) d k) b l h = block-kept p d k s (noteOf b)
-steps-on p (at (Machine.star s) d k) b l h = star-kept p d k s (noteOf b)
+steps-on p (at (base s) d k) b l h = layout-kept p d k b s plainL
+steps-on p (at (Machine.slash s) d k) b l h = layout-kept p d k b s slashL
+steps-on p (at (line s) d k) b l h = layout-kept p d k b s lineL
+steps-on p (at (Machine.block s) d k) b l h = layout-kept p d k b s blockL
+steps-on p (at (Machine.star s) d k) b l h = layout-kept p d k b s starL
 steps-on p (at (item i) d k) b l h = out-kept p d k b (scan p i b) (item-near p i b h)
 
 pub stepped-kept : (p : ℕ) (c : Conf) → Stepped p c → ConfKept (suc p) c

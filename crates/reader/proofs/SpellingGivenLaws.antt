@@ -17,12 +17,12 @@ use Rattle.machine.specs.Strings as Strings
 use Rattle.machine.specs.Strings.{Ctx, Half, whole, half}
 use Rattle.machine.specs.Names as Names
 use Rattle.machine.specs.Machine as Machine
-use Rattle.machine.specs.Machine.{string, as-key, string-part, Base, wantString, got, base, slash, line, block, star, item, Conf, at, fail, onGot, onOut}
-use Rattle.machine.specs.Machine.{onSlash, onLine, onBlock, onStar, onPart, lift, square, curly}
+use Rattle.machine.specs.Machine.{string, as-key, string-part, Base, wantString, got, base, item, Conf, at, fail, onGot, onOut}
+use Rattle.machine.specs.Machine.{onPart, lift, square, curly}
 use Rattle.machine.specs.Machine.{Class, classOf, blankC, hashC, slashC, commaC, colonC, plusC, quoteC, dollarC, letterN, letterT, letterF, letterC, otherC}
 use Rattle.machine.specs.Machine.{openC, closeC}
-use Rattle.machine.specs.Machine.{Note, noteOf, lineEnd, starN, slashN, plainN, controlN}
 use Rattle.machine.specs.Heard.{Heard, shuts, names, tell, keyHeard, hears, atGot, atOut}
+use Rattle.machine.proofs.Layouts.{Lay, plainL, slashL, lineL, modeOf, layout-keeps}
 use Rattle.reader.specs.Between.Spelling.{gotParts, Part, Inside, between, Quoting, dueOf, Spells}
 use Rattle.reader.specs.declared.spelling.Spelling.{Spelling}
 use Rattle.reader.proofs.SpellingHeardLaws.{name-is}
@@ -238,11 +238,7 @@ data Of (d : List ℕ) : Base → Type 0 where
 -- a state in which the key so far begins with d, or none
 data KeyFront (d : List ℕ) : Conf → Type 0 where
   failed : {r : Refusal} → KeyFront d (fail r)
-  based : {s : Base} → Of d s → KeyFront d (at (base s) 0 [])
-  slashed : {s : Base} → Of d s → KeyFront d (at (slash s) 0 [])
-  lined : {s : Base} → Of d s → KeyFront d (at (line s) 0 [])
-  blocked : {s : Base} → Of d s → KeyFront d (at (block s) 0 [])
-  starred : {s : Base} → Of d s → KeyFront d (at (star s) 0 [])
+  expects : {s : Base} (l : Lay) → Of d s → KeyFront d (at (modeOf l s) 0 [])
   reads : {e : List ℕ} {s : Strings.St} → Front d (e ++ partOf s) → KeyFront d (at (item (string-part as-key e s)) 0 [])
 
 -- what a byte says, and the state after it: still so
@@ -252,40 +248,12 @@ data FrontAfter (d : List ℕ) : List Heard → Conf → Type 0 where
   told : {u : List ℕ} {c : Conf} → Front d u → FrontAfter d (names u ∷ []) c
 
 module _ {d : List ℕ} (p : ℕ) where
-  on-slash : {s : Base} → Of d s → (n : Note) → KeyFront d (onSlash p 0 [] s n)
-  on-slash o slashN = lined o
-  on-slash o starN = blocked o
-  on-slash o lineEnd = failed
-  on-slash o plainN = failed
-  on-slash o controlN = failed
-
-  on-line : {s : Base} → Of d s → (n : Note) → KeyFront d (onLine p 0 [] s n)
-  on-line o lineEnd = based o
-  on-line o controlN = failed
-  on-line o slashN = lined o
-  on-line o starN = lined o
-  on-line o plainN = lined o
-
-  on-block : {s : Base} → Of d s → (n : Note) → KeyFront d (onBlock p 0 [] s n)
-  on-block o starN = starred o
-  on-block o controlN = failed
-  on-block o slashN = blocked o
-  on-block o lineEnd = blocked o
-  on-block o plainN = blocked o
-
-  on-star : {s : Base} → Of d s → (n : Note) → KeyFront d (onStar p 0 [] s n)
-  on-star o slashN = based o
-  on-star o starN = starred o
-  on-star o controlN = failed
-  on-star o lineEnd = blocked o
-  on-star o plainN = blocked o
-
   on-got : {e : List ℕ} → Front d e → (c : Class) → FrontAfter d (atGot (string as-key e) c) (onGot p 0 [] (string as-key e) c)
-  on-got f blankC = quiet (based (parts f))
-  on-got f hashC = quiet (lined (parts f))
-  on-got f slashC = quiet (slashed (parts f))
+  on-got f blankC = quiet (expects plainL (parts f))
+  on-got f hashC = quiet (expects lineL (parts f))
+  on-got f slashC = quiet (expects slashL (parts f))
   on-got f colonC = told f
-  on-got f plusC = quiet (based (joins f))
+  on-got f plusC = quiet (expects plainL (joins f))
   on-got f (closeC square) = quiet failed
   on-got f (closeC curly) = shut
   on-got f commaC = quiet failed
@@ -322,9 +290,9 @@ module _ {d : List ℕ} (p : ℕ) where
 
   on-part : {e : List ℕ} (b : ℕ) → Front d e → (c : Class)
       → KeyFront d (onPart p 0 [] b (wantString as-key e) (Machine.start p 0 [] b (string-part as-key e Strings.begin)) (Machine.odd p) c)
-  on-part b f blankC = based (joins f)
-  on-part b f hashC = lined (joins f)
-  on-part b f slashC = slashed (joins f)
+  on-part b f blankC = expects plainL (joins f)
+  on-part b f hashC = expects lineL (joins f)
+  on-part b f slashC = expects slashL (joins f)
   on-part b f quoteC = on-first b f
   on-part b f dollarC = failed
   on-part b f (openC c) = failed
@@ -338,14 +306,13 @@ module _ {d : List ℕ} (p : ℕ) where
   on-part b f colonC = failed
   on-part b f otherC = failed
 
+  on-base : {s : Base} (b : ℕ) → Of d s → FrontAfter d (hears p (at (base s) 0 []) b) (Machine.step p (at (base s) 0 []) b)
+  on-base b (parts f) = on-got f (classOf b)
+  on-base b (joins f) = quiet (on-part b f (classOf b))
+
   on-byte : (c : Conf) (b : ℕ) → KeyFront d c → FrontAfter d (hears p c b) (Machine.step p c b)
   on-byte c b failed = quiet failed
-  on-byte c b (based (parts f)) = on-got f (classOf b)
-  on-byte c b (based (joins f)) = quiet (on-part b f (classOf b))
-  on-byte c b (slashed o) = quiet (on-slash o (noteOf b))
-  on-byte c b (lined o) = quiet (on-line o (noteOf b))
-  on-byte c b (blocked o) = quiet (on-block o (noteOf b))
-  on-byte c b (starred o) = quiet (on-star o (noteOf b))
+  on-byte c b (expects {s = s} l o) = layout-keeps (FrontAfter d) p 0 [] s (quiet failed) (λ l. quiet (expects l o)) b (on-base b o) l
   on-byte c b (reads {e = e} {s = s} f) = on-scan e b s f (Strings.scan p s b) (part-keeps p s b)
 
 -- what is named begins with d
@@ -367,7 +334,8 @@ module _ (text : List ℕ) where
   part-front s p before u h =
       front-join (before ++ partOf s) (before ++ h .value) u
       (front-in before (partOf s) (h .value) (ran-front Strings.scan partOf part-keeps (drop p text) p s (h .value) (h .close) (h .runs)))
-      (named-front {d = before ++ h .value} (drop (h .close) text) (h .close) (gotParts (before ++ h .value)) (based (parts (front-all (before ++ h .value))))
+      (named-front {d = before ++ h .value} (drop (h .close) text) (h .close) (gotParts (before ++ h .value))
+      (expects plainL (parts (front-all (before ++ h .value))))
       (h .names))
 
   inside-front : (state : List ℕ → Strings.St) → ((a : List ℕ) → partOf (state a) ≡ a) → (p : ℕ) (e u : List ℕ) → Inside text state p e u → Front e u

@@ -1,29 +1,28 @@
 -- What the next colon names: behind a key it is that key, and where an item is read, the item ends. Assumes nothing.
-use mathlib.Core.Path.{_≡_, refl, sym, ap, _∙_, subst}
+use mathlib.Core.Path.{_≡_, refl, sym, ap, _∙_}
 use mathlib.Core.Option.{Option, none, some}
 use mathlib.Core.List.{List, [], _∷_, _++_}
-use Prim.Native.Nat.{ℕ, suc, _+_, _≤_, _<_}
+use Prim.Native.Nat.{ℕ, suc, _≤_, _<_}
 use native.Mathlib.Omega.{arith}
 use lib.ListN.{length, drop, getD}
 use lib.Seq.{drop-cons}
 use Rattle.meaning.specs.declared.Refusal.{Refusal}
-use Rattle.machine.specs.Scan.{Out, takes, stops, breaks, over, Ran, ended, broke, unended, goesOn, ran}
-use Rattle.machine.specs.Machine.{Item, Got, key, string, as-key, string-part, identifier, Base, wantKey, wantString, got, Mode, base, slash, line, block, star}
+use Rattle.machine.specs.Scan.{Out, takes, stops, breaks, Ran, ended, broke, unended, goesOn, ran}
+use Rattle.machine.specs.Machine.{Item, Got, key, string, as-key, string-part, identifier, wantKey, got, base}
 use Rattle.machine.specs.Machine.{item}
-use Rattle.machine.specs.Machine.{Frame, Conf, at, fail, lift, onGot, onSlash, onLine, onBlock, onStar, onOut, Bracket, square, curly}
+use Rattle.machine.specs.Machine.{Frame, Conf, at, fail, lift, onGot, onOut, square, curly}
 use Rattle.machine.specs.Machine.{Class, classOf, blankC, hashC, slashC, commaC, colonC, plusC, quoteC, dollarC, letterN, letterT, letterF, letterC, otherC}
 use Rattle.machine.specs.Machine.{openC, closeC}
-use Rattle.machine.specs.Machine.{Note, noteOf, lineEnd, starN, slashN, plainN, controlN}
 use Rattle.machine.specs.Machine as Machine
-use Rattle.machine.specs.Heard.{Heard, shuts, names, starts, Told, after, tell, keyHeard, keyAt, atGot, atKey, atOut}
+use Rattle.machine.specs.Heard.{Heard, names, Told, tell, keyHeard, keyAt, atGot, atKey, atOut}
 use Rattle.machine.specs.Strings
 use Rattle.machine.specs.Names
 use Rattle.machine.proofs.Heard.{fail-told}
+use Rattle.machine.proofs.Layouts.{Lay, plainL, slashL, lineL, modeOf, layout-keeps}
 use Rattle.machine.proofs.Lift.{item-breaks, string-quiet, name-quiet}
 use Rattle.reader.specs.Between.Scanning.{Goes, Bare}
 use Rattle.reader.specs.Between.Joined.{Alone, Joining, Stray}
 use Rattle.reader.specs.Between.Spelling.{NamesNext, gotParts, gotName}
-use Rattle.reader.specs.declared.joined.Join.{Join}
 use Rattle.reader.proofs.ScanningLaws.{onto, at-end}
 use Rattle.reader.proofs.ScanningItemLaws.{lift-done}
 use Rattle.reader.proofs.JoinedLaws.{whole-is, strings}
@@ -41,30 +40,19 @@ refused-named p r t u h = none-named (ap (λ (x : Told). x .heard) (fail-told t 
 
 -- ---- behind a key
 
--- in layout or out of it
-data Lay : Type 0 where
-  plainL slashL lineL blockL starL : Lay
-
-abbrev modeOf : Lay → Base → Mode
-modeOf plainL s = base s
-modeOf slashL s = slash s
-modeOf lineL s = line s
-modeOf blockL s = block s
-modeOf starL s = star s
-
 module _ (e : List ℕ) (d : ℕ) (k : List Frame) (u : List ℕ) where
   -- behind e, in layout or not, only e is named
   abbrev Only : ℕ → List ℕ → Type 0
   Only p t = (l : Lay) → Naming p (at (modeOf l (got (key e))) d k) t u → e ≡ u
 
   module _ (p : ℕ) (t : List ℕ) (more : Only (suc p) t) where
-    abbrev Then : Conf → Type 0
-    Then c = Naming (suc p) c t u → e ≡ u
+    abbrev Then : List Heard → Conf → Type 0
+    Then hs c = keyHeard (hs ++ tell (suc p) c t .heard) ≡ some u → e ≡ u
 
-    odd-named : Then (Machine.odd p)
+    odd-named : Then [] (Machine.odd p)
     odd-named h = absurd (refused-named (suc p) _ t u h)
 
-    got-class : (c : Class) → keyHeard (atGot (key e) c ++ tell (suc p) (onGot p d k (key e) c) t .heard) ≡ some u → e ≡ u
+    got-class : (c : Class) → Then (atGot (key e) c) (onGot p d k (key e) c)
     got-class blankC h = more plainL h
     got-class hashC h = more lineL h
     got-class slashC h = more slashL h
@@ -82,41 +70,9 @@ module _ (e : List ℕ) (d : ℕ) (k : List Frame) (u : List ℕ) where
     got-class letterC h = odd-named h
     got-class otherC h = odd-named h
 
-    slash-note : (n : Note) → Then (onSlash p d k (got (key e)) n)
-    slash-note slashN h = more lineL h
-    slash-note starN h = more blockL h
-    slash-note lineEnd h = odd-named h
-    slash-note plainN h = odd-named h
-    slash-note controlN h = odd-named h
-
-    line-note : (n : Note) → Then (onLine p d k (got (key e)) n)
-    line-note lineEnd h = more plainL h
-    line-note controlN h = odd-named h
-    line-note slashN h = more lineL h
-    line-note starN h = more lineL h
-    line-note plainN h = more lineL h
-
-    block-note : (n : Note) → Then (onBlock p d k (got (key e)) n)
-    block-note starN h = more starL h
-    block-note controlN h = odd-named h
-    block-note slashN h = more blockL h
-    block-note lineEnd h = more blockL h
-    block-note plainN h = more blockL h
-
-    star-note : (n : Note) → Then (onStar p d k (got (key e)) n)
-    star-note slashN h = more plainL h
-    star-note starN h = more starL h
-    star-note controlN h = odd-named h
-    star-note lineEnd h = more blockL h
-    star-note plainN h = more blockL h
-
     on-byte : (b : ℕ) → Only p (b ∷ t)
     unfolding tell
-    on-byte b plainL h = got-class (classOf b) h
-    on-byte b slashL h = slash-note (noteOf b) h
-    on-byte b lineL h = line-note (noteOf b) h
-    on-byte b blockL h = block-note (noteOf b) h
-    on-byte b starL h = star-note (noteOf b) h
+    on-byte b = layout-keeps Then p d k (got (key e)) odd-named more b (got-class (classOf b))
 
   only-key : (t : List ℕ) (p : ℕ) → Only p t
   unfolding tell
