@@ -125,7 +125,7 @@ mutual
       (member-derived ms (Key.string (string-derived (g .1))) (value-derived m (g .2) d (most-right (membersDepth ms) (depth m) d h))) Closes.brace)
 
 -- `canonical` of every good meaning, within the text's limit, is a text with that meaning.
-pub text-derived : (m : Meaning) → Good m → length (canonical m) ≤ textLimit → Text true (canonical m) m
+pub text-derived : (m : Meaning) → Good m → length (canonical m) ≤ textLimit → Text (canonical m) m
 text-derived m g h = record {
   loose = rw (← append-nil (canonical m)) (Loose.text Ws.none (value-derived m (g .parts) depthLimit (g .shallow)) (Last.ended Ws.none)
       (rw append-nil h));

@@ -218,11 +218,11 @@ identifier b s h l = Key.identifier (Identifier.identifier (Ascii.byte (of i-beg
 -- ---- whole texts
 
 -- with no key
-once-each : {a : List ℕ} → Loose true a Meaning.null → Text true a Meaning.null
+once-each : {a : List ℕ} → Loose true a Meaning.null → Text a Meaning.null
 unfolding once
 once-each x = record { loose = x; single = refl }
 
-plain : {a : List ℕ} {m : Meaning} → Value true depthLimit a m → T (leb (length a) textLimit) → once m ≡ true → Text true a m
+plain : {a : List ℕ} {m : Meaning} → Value true depthLimit a m → T (leb (length a) textLimit) → once m ≡ true → Text a m
 plain {a} {m} v h e = record {
   loose = subst (λ (t : List ℕ). Loose true t m) (append-nil a) (Loose.text Ws.none v (Last.ended Ws.none)
       (rw append-nil (leb→le (length a) textLimit h)));

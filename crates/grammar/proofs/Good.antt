@@ -288,5 +288,5 @@ value-within v =
 loose-within : {t : List ℕ} {m : Meaning} → Loose true t m → Within depthLimit m
 loose-within (Loose.text w v l h) = value-within v
 
-pub text-good : {t : List ℕ} {m : Meaning} → Text true t m → Good m
+pub text-good : {t : List ℕ} {m : Meaning} → Text t m → Good m
 text-good x = let r = loose-within (x .loose) in record { parts = r .parts; shallow = r .shallow; single = x .single }

@@ -80,6 +80,6 @@ pub data Loose (k : Bool) : List ℕ → Meaning → Type 0 where
       → Checked k (length (w ++ (a ++ v)) ≤ textLimit) → Loose k (w ++ (a ++ v)) m
 
 -- A text is all of this, and no object in it holds two equal keys.
-pub record Text (k : Bool) (t : List ℕ) (m : Meaning) : Type 0 where
-  pub loose : Loose k t m
-  pub single : Checked k (once m ≡ true)
+pub record Text (t : List ℕ) (m : Meaning) : Type 0 where
+  pub loose : Loose true t m
+  pub single : once m ≡ true

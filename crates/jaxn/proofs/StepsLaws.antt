@@ -36,11 +36,11 @@ use Rattle.jaxn.specs.Between.Steps.{Rewrites, refusing, printing}
 -- ---- what cannot be
 
 -- a text of at most 65,536 bytes needs no longer store
-store-enough : {t : List ℕ} {m : Meaning} → Text true t m → length t ≤ room → bytes m ≤ room
+store-enough : {t : List ℕ} {m : Meaning} → Text t m → length t ≤ room → bytes m ≤ room
 store-enough x h = omega (arith, text-fits (x .loose) .small)
 
 -- the text of what fits the tape and the store is no longer than a text may be
-never-too-long : {t : List ℕ} {m : Meaning} → Text true t m → length t ≤ room → tapeBytes m ≤ room → length (canonical m) ≤ textLimit
+never-too-long : {t : List ℕ} {m : Meaning} → Text t m → length t ≤ room → tapeBytes m ≤ room → length (canonical m) ≤ textLimit
 never-too-long {m = m} x h f = omega (arith, canonical-short m (text-good x .parts), store-enough x h)
 
 -- ---- refused
@@ -65,7 +65,7 @@ not-read {t} {tape} {store} {tape'} {store'} q e h r s = refusing (refused-line 
 
 -- ---- written
 
-module _ {t : List ℕ} {m : Meaning} {out : List ℕ} (h : length t ≤ room) (r : length out ≡ room) (x : Text true t m) (f : tapeBytes m ≤ room) where
+module _ {t : List ℕ} {m : Meaning} {out : List ℕ} (h : length t ≤ room) (r : length out ≡ room) (x : Text t m) (f : tapeBytes m ≤ room) where
   short-line : (w : Written) → room < length (canonical m) → writeSaid w ≡ refused 12 (length (canonical m)) → Rewrites t out w out
   short-line (Wrote n) k s = absurd (done-apart s)
   short-line (Refused why) k s = refusing (told why s (output-short h x f k))

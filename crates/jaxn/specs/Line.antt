@@ -32,14 +32,14 @@ pub data Line (input : List ℕ) : List ℕ → Type 0 where
   no-text : {why : Refusal} → length input ≤ room → Text-refused input why
       → Line input (refusedLine (numberOf why) (placeOf why))
   -- 8, with the tape bytes needed
-  tape-short : {m : Meaning} → length input ≤ room → Text true input m → room < tapeBytes m
+  tape-short : {m : Meaning} → length input ≤ room → Text input m → room < tapeBytes m
       → Line input (refusedLine 8 (tapeBytes m))
   -- 12, with the bytes needed
-  output-short : {m : Meaning} → length input ≤ room → Text true input m → tapeBytes m ≤ room
+  output-short : {m : Meaning} → length input ≤ room → Text input m → tapeBytes m ≤ room
       → room < length (canonical m)
       → Line input (refusedLine 12 (length (canonical m)))
   -- the canonical text of the input's meaning and a line feed
-  printed : {m : Meaning} → length input ≤ room → Text true input m → tapeBytes m ≤ room
+  printed : {m : Meaning} → length input ≤ room → Text input m → tapeBytes m ≤ room
       → length (canonical m) ≤ room
       → Line input (canonical m ++ letters "\n")
 

@@ -41,7 +41,7 @@ use Rattle.lanternrung.specs.Told.{CheckStartTold, CheckFeedTold, CheckF
 
 -- unambiguous: the grammar gives no text two meanings; one-refusal: nor two refusals
 pub record OneReading : Type 0 where
-  pub meaning : {text : List ℕ} {m n : Meaning} → Text true text m → Text true text n → m ≡ n
+  pub meaning : {text : List ℕ} {m n : Meaning} → Text text m → Text text n → m ≡ n
   pub refusal : {text : List ℕ} {v w : Refusal} → Text-refused text v → Text-refused text w → v ≡ w
 
 -- the answer is done, and not a refusal
@@ -50,7 +50,7 @@ Counted a = (r : ℕ) × (s : ℕ) × (a ≡ Answer.Counts r s)
 
 -- the grammar gives the text the meaning m, within the limits, and there is room for its tape and its store
 pub record Takes (text tape store : List ℕ) (m : Meaning) : Type 0 where
-  pub means : Text true text m
+  pub means : Text text m
   pub tape-room : tapeBytes m ≤ length tape
   pub store-room : bytes m ≤ length store
 
@@ -74,8 +74,8 @@ pub record SizesOf (m : Meaning) (a : Answer) : Type 0 where
 
 -- of what `measure` answers
 pub record Measured (text : List ℕ) (a : Answer) : Type 0 where
-  pub exactly : Counted a ↔ ((m : Meaning) × Text true text m)
-  pub then : (m : Meaning) → Text true text m → SizesOf m a
+  pub exactly : Counted a ↔ ((m : Meaning) × Text text m)
+  pub then : (m : Meaning) → Text text m → SizesOf m a
 
 -- accepted, measured: this is so of all that the two calls may answer and leave
 pub record IsRead : Type 0 where
@@ -109,14 +109,14 @@ pub record RepeatedKeys : Type 0 where
   pub read : {text tape store : List ℕ} {a : Answer} {tape' store' : List ℕ} {p : ℕ}
       → Reads text tape store a tape' store' → (a ≡ Answer.Refused (Refusal.RepeatedKey p)) ↔ RepeatsFirst text p
   pub none-repeats : {text : List ℕ} {m : Meaning} → Loose true text m
-      → ((p : ℕ) → Repeats text p → ⊥) ↔ Text true text m
+      → ((p : ℕ) → Repeats text p → ⊥) ↔ Text text m
 
 -- bounded: for every accepted text, records and store bytes are each at most its length
 abbrev pub Within : List ℕ → ℕ → ℕ → Type 0
 Within text r s = (r ≤ length text) × (s ≤ length text)
 
 pub record Bounded : Type 0 where
-  pub grammar : {text : List ℕ} {m : Meaning} → Text true text m → Within text (records m) (bytes m)
+  pub grammar : {text : List ℕ} {m : Meaning} → Text text m → Within text (records m) (bytes m)
   pub measure : (text : List ℕ) {r s : ℕ} → Measures text (Answer.Counts r s) → Within text r s
   pub read : {text tape store : List ℕ} {r s : ℕ} {tape' store' : List ℕ}
       → Reads text tape store (Answer.Counts r s) tape' store' → Within text r s
@@ -158,12 +158,12 @@ pub record IsWritten : Type 0 where
       → WrittenJson tape store out a out'
   pub filled : {text tape store : List ℕ} {r s : ℕ} {tape' store' : List ℕ}
       → Reads text tape store (Answer.Counts r s) tape' store'
-      → (w : WellFormed (take (r * 16) tape') (take s store')) × Text true text (w .meaning)
+      → (w : WellFormed (take (r * 16) tape') (take s store')) × Text text (w .meaning)
 
 -- same-text: the canonical texts of two accepted texts, and of two meanings within the limits, are the same bytes
 -- exactly when the meanings are the same
 pub record SameText : Type 0 where
-  pub texts : {s t : List ℕ} {m n : Meaning} → Text true s m → Text true t n → (canonical m ≡ canonical n) ↔ (m ≡ n)
+  pub texts : {s t : List ℕ} {m n : Meaning} → Text s m → Text t n → (canonical m ≡ canonical n) ↔ (m ≡ n)
   pub meanings : {m n : Meaning} → Good m → Good n → (canonical m ≡ canonical n) ↔ (m ≡ n)
 
 -- the counts of this tape and store are answered, and they are what the two buffers hold
@@ -178,7 +178,7 @@ pub record ReadBack : Type 0 where
       → length (canonical m) ≤ textLimit → tapeBytes m ≤ length tape → bytes m ≤ length store
       → Reads (canonical m) tape store a tape' store' → Holds m tape store a tape' store'
   -- of an accepted text: whatever buffers are lent, to read its canonical text is to read it
-  pub text : {text : List ℕ} {m : Meaning} {tape store : List ℕ} {a b : Answer} {t u s v : List ℕ} → Text true text m
+  pub text : {text : List ℕ} {m : Meaning} {tape store : List ℕ} {a b : Answer} {t u s v : List ℕ} → Text text m
       → length (canonical m) ≤ textLimit → Reads text tape store a t s → Reads (canonical m) tape store b u v
       → (a ≡ b) × (t ≡ u) × (s ≡ v)
   -- of what the writers wrote, read into buffers as long as the tape and the store that they wrote it from

@@ -19,7 +19,7 @@ use Rattle.machine.proofs.Refusals.Whole.{one-loose-refusal, loose-not-
 use Rattle.machine.proofs.Repeated.{Keyed-text, text-keys, heard-one}
 
 -- no text has two meanings
-pub unambiguous : {t : List ℕ} {m n : Meaning} → Text true t m → Text true t n → m ≡ n
+pub unambiguous : {t : List ℕ} {m n : Meaning} → Text t m → Text t n → m ≡ n
 unambiguous x y = loosely-unambiguous (x .loose) (y .loose)
 
 -- nor two refusals
@@ -33,7 +33,7 @@ one-text-refusal (repeated {p = p} x z f) (repeated {p = q} y w g) =
     ap RepeatedKey (omega arith)
 
 -- nor both
-pub not-refused : {t : List ℕ} {m : Meaning} {r : Refusal} → Text true t m → Text-refused t r → ⊥
+pub not-refused : {t : List ℕ} {m : Meaning} {r : Refusal} → Text t m → Text-refused t r → ⊥
 not-refused x (loose y) = loose-not-refused (x .loose) y
 not-refused {m = m} x (repeated {p = p} y z f) =
     let k = text-keys (x .loose) in
@@ -45,7 +45,7 @@ module _ {t : List ℕ} {m : Meaning} (x : Loose true t m) (keys : List Event) (
   heard-keys : text-keys x .keys ≡ keys
   heard-keys = heard-one (text-keys x .keys) keys (sym (ap (λ (y : Told). y .heard) (text-keys x .heard)) ∙ h)
 
-  pub none-accepted : firstRepeat [] keys ≡ none → Text true t m
+  pub none-accepted : firstRepeat [] keys ≡ none → Text t m
   none-accepted e = let k = text-keys x in record {
     loose = x;
     single = none-once (k .keys) m (k .same) (ap (firstRepeat []) heard-keys ∙ e);

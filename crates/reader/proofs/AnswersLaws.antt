@@ -150,4 +150,4 @@ module _ (text tape store : List ℕ) where
         let b : s ≡ bytes m = its .held ∙ ap bytes z in
         let t : tape' ≡ laid (tapeOf m) tape = w .taped (omega arith) ∙ sets-front tape (tapeOf m) (omega (arith, tape-length m)) in
         let u : store' ≡ laid (storeOf m) store = w .filled ∙ sets-front store (storeOf m) (omega arith) in
-        rw (t, u) (filled (subst (Text true text) z (its .text-means)) (omega arith) (omega arith) (ap₂ (λ (i j : ℕ). done (i, j)) ex ey))
+        rw (t, u) (filled (subst (Text text) z (its .text-means)) (omega arith) (omega arith) (ap₂ (λ (i j : ℕ). done (i, j)) ex ey))

@@ -50,7 +50,7 @@ same-answer (Refused v) (Refused w) e = ap Refused (same-refusal v w e)
 -- ---- one outcome
 
 -- two meanings of one text
-same-sizes : {text : List ℕ} {m n : Meaning} → Text true text m → Text true text n
+same-sizes : {text : List ℕ} {m n : Meaning} → Text text m → Text text n
     → _≡_ {A = Said (ℕ × ℕ)} (done (records m, bytes m)) (done (records n, bytes n))
 same-sizes x y = ap (λ (m : Meaning). done (records m, bytes m)) (unambiguous x y)
 
@@ -125,11 +125,11 @@ module _ {text tape store : List ℕ} where
   one-outcome-read {a} {b} (Reads.no-text x e) (Reads.no-text y f) = (same-answer a b (e ∙ same-told x y ∙ sym f), refl, refl)
 
 -- two texts of one meaning are read alike
-pub reads-as : {s t tape store : List ℕ} {m : Meaning} {a : Answer} {tape' store' : List ℕ} → Text true s m → Text true t m
+pub reads-as : {s t tape store : List ℕ} {m : Meaning} {a : Answer} {tape' store' : List ℕ} → Text s m → Text t m
     → Reads s tape store a tape' store' → Reads t tape store a tape' store'
-reads-as {t = t} x y (filled z h k e) = filled (subst (Text true t) (unambiguous x z) y) h k e
-reads-as {t = t} x y (tape-short z h e) = tape-short (subst (Text true t) (unambiguous x z) y) h e
-reads-as {t = t} x y (store-short z h k e) = store-short (subst (Text true t) (unambiguous x z) y) h k e
+reads-as {t = t} x y (filled z h k e) = filled (subst (Text t) (unambiguous x z) y) h k e
+reads-as {t = t} x y (tape-short z h e) = tape-short (subst (Text t) (unambiguous x z) y) h e
+reads-as {t = t} x y (store-short z h k e) = store-short (subst (Text t) (unambiguous x z) y) h k e
 reads-as x y (Reads.no-text z e) = absurd (not-refused x z)
 
 -- ---- measured: the counts are the sizes of the meaning's tape and store
@@ -137,7 +137,7 @@ reads-as x y (Reads.no-text z e) = absurd (not-refused x z)
 -- a text with its meaning and the sizes of that
 pub record Sized (text : List ℕ) (r s : ℕ) : Type 0 where
   pub meaning : Meaning
-  pub text-means : Text true text meaning
+  pub text-means : Text text meaning
   pub counted : r ≡ records meaning
   pub held : s ≡ bytes meaning
 
@@ -145,14 +145,14 @@ pub measure-accepts : (text : List ℕ) (r s : ℕ) → Measures text (Counts r 
 measure-accepts text r s (Measures.sizes {m = m} x e) = record { meaning = m; text-means = x; counted = counts-records e; held = counts-bytes e }
 measure-accepts text r s (Measures.no-text x e) = absurd (done-apart e)
 
-pub accepts-measure : {text : List ℕ} {m : Meaning} → Text true text m → Measures text (Counts (records m) (bytes m))
+pub accepts-measure : {text : List ℕ} {m : Meaning} → Text text m → Measures text (Counts (records m) (bytes m))
 accepts-measure x = Measures.sizes x refl
 
 -- ---- accepted: done just where the grammar gives the text a meaning and there is room; then the tape and the store hold it
 
 pub record Held (text tape store : List ℕ) (r s : ℕ) (tape' store' : List ℕ) : Type 0 where
   pub meaning : Meaning
-  pub text-means : Text true text meaning
+  pub text-means : Text text meaning
   pub tape-room : tapeBytes meaning ≤ length tape
   pub store-room : bytes meaning ≤ length store
   pub counted : r ≡ records meaning
@@ -168,7 +168,7 @@ module _ (text tape store : List ℕ) where
   read-accepts r s tape' store' (store-short x h k e) = absurd (done-apart e)
   read-accepts r s tape' store' (Reads.no-text x e) = absurd (done-apart e)
 
-  pub accepts-read : (tape' store' : List ℕ) (a : Answer) (m : Meaning) → Text true text m → tapeBytes m ≤ length tape
+  pub accepts-read : (tape' store' : List ℕ) (a : Answer) (m : Meaning) → Text text m → tapeBytes m ≤ length tape
       → bytes m ≤ length store → Reads text tape store a tape' store' → a ≡ Counts (records m) (bytes m)
   accepts-read tape' store' a m x h k p = one-outcome-read p (filled x h k refl) .0
 

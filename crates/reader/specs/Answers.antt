@@ -22,7 +22,7 @@ answerSaid (Answer.Refused why) = refusalSaid why
 -- what `measure` may answer for this text
 pub data Measures (text : List ℕ) (a : Answer) : Type 0 where
   -- the sizes of its meaning
-  sizes : {m : Meaning} → Text true text m → answerSaid a ≡ done (records m, bytes m) → Measures text a
+  sizes : {m : Meaning} → Text text m → answerSaid a ≡ done (records m, bytes m) → Measures text a
   -- 1 to 7, 15
   no-text : {why : Refusal} → Text-refused text why → answerSaid a ≡ refusalSaid why → Measures text a
 
@@ -38,13 +38,13 @@ tapeBytes m = records m * 16
 -- what `read` may answer, and leave in the tape and the store that it was lent
 pub data Reads (text tape store : List ℕ) (a : Answer) : List ℕ → List ℕ → Type 0 where
   -- the tape and the store of the text's meaning from their start; what lies past them is unchanged
-  filled : {m : Meaning} → Text true text m → tapeBytes m ≤ length tape → bytes m ≤ length store
+  filled : {m : Meaning} → Text text m → tapeBytes m ≤ length tape → bytes m ≤ length store
       → answerSaid a ≡ done (records m, bytes m)
       → Reads text tape store a (laid (tapeOf m) tape) (laid (storeOf m) store)
   -- 8, with the tape bytes needed; then 9, with the store bytes needed
-  tape-short : {m : Meaning} → Text true text m → length tape < tapeBytes m
+  tape-short : {m : Meaning} → Text text m → length tape < tapeBytes m
       → answerSaid a ≡ refused 8 (tapeBytes m) → Reads text tape store a tape store
-  store-short : {m : Meaning} → Text true text m → tapeBytes m ≤ length tape → length store < bytes m
+  store-short : {m : Meaning} → Text text m → tapeBytes m ≤ length tape → length store < bytes m
       → answerSaid a ≡ refused 9 (bytes m) → Reads text tape store a tape store
   -- 1 to 7, 15
   no-text : {why : Refusal} → Text-refused text why → answerSaid a ≡ refusalSaid why

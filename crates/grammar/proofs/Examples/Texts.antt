@@ -74,4 +74,4 @@ examples =
 -- each of these texts has that meaning
 abbrev pub Derived : List (List ℕ × Meaning) → Type 0
 Derived [] = Unit
-Derived (e ∷ l) = Text true (e .0) (e .1) × Derived l
+Derived (e ∷ l) = Text (e .0) (e .1) × Derived l

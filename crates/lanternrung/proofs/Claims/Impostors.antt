@@ -83,7 +83,7 @@ record Small (m : Meaning) : Type 0 where
   short : length (canonical m) ≤ textLimit
 
 module _ {m : Meaning} (s : Small m) where
-  derived : Text true (canonical m) m
+  derived : Text (canonical m) m
   derived = text-derived m (s .good) (s .short)
 
   loosely : Loose true (canonical m) m
@@ -298,7 +298,7 @@ hundred-thousand : IsTaken (letters "100000") (number (Finite false 1 (pos 5))) 
 hundred-thousand = first (later (later (later (later slips-hold))))
 
 copies : (f : List ℕ → Writer)
-    → ((text : List ℕ) (m : Meaning) (out : List ℕ) → Text true text m → length text ≤ length out
+    → ((text : List ℕ) (m : Meaning) (out : List ℕ) → Text text m → length text ≤ length out
     → Prints text out (f text (tapeOf m) (storeOf m) out .0) (f text (tapeOf m) (storeOf m) out .1))
     → ((text : List ℕ) → KeepsJaxn (f text)) → ⊥
 copies f r k =
@@ -313,7 +313,7 @@ copies f r k =
 
 -- ---- measure
 
-invents : (f : Measurer) {text : List ℕ} {m : Meaning} → Text true text m → (f text ≡ Answer.Counts (records m) (bytes m) → ⊥) → KeepsMeasure f → ⊥
+invents : (f : Measurer) {text : List ℕ} {m : Meaning} → Text text m → (f text ≡ Answer.Counts (records m) (bytes m) → ⊥) → KeepsMeasure f → ⊥
 invents f {text} {m} x n k = n (measured (k text (text-lent (x .loose))) .then m x .answer)
 
 counted : {m : Meaning} → Small m → (f : Measurer) → KeepsMeasure f → f (canonical m) ≡ Answer.Counts (records m) (bytes m)

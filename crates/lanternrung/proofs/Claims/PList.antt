@@ -42,7 +42,7 @@ use Rattle.lanternrung.proofs.Claims.Reading.{accepted, measured}
 
 takes : (text : List ℕ) (m : Meaning) (printed : List ℕ) → verdict text ≡ Ok m → once m ≡ true → canonical m ≡ printed → IsTaken text m printed
 takes text m printed e o p =
-    let x : Text true text m = record { loose = sound text m e; single = o } in
+    let x : Text text m = record { loose = sound text m e; single = o } in
     record {
       means = x;
       only = λ n y. unambiguous y x;

@@ -32,7 +32,7 @@ use Rattle.lanternrung.specs.Claims.{Within, Bounded}
 
 -- ---- unambiguous: the grammar gives no text two meanings
 
-pub unambiguous : {text : List ℕ} {m n : Meaning} → Text true text m → Text true text n → m ≡ n
+pub unambiguous : {text : List ℕ} {m n : Meaning} → Text text m → Text text n → m ≡ n
 unambiguous = machine.unambiguous
 
 -- ---- accepted
@@ -62,10 +62,10 @@ accepted {text} {tape} {store} {a} {tape'} {store'} p = record {
 pub measured : {text : List ℕ} {a : Answer} → Measures text a → Measured text a
 measured {text} {a} p = record { exactly = (only, λ w. (records (w .0), bytes (w .0), sized (w .0) (w .1) .answer)); then = sized }
   where
-    only : Counted a → (m : Meaning) × Text true text m
+    only : Counted a → (m : Meaning) × Text text m
     only d = let h = reader.measure-accepts text (d .0) (d .1) (subst (Measures text) (d .2) p) in (h .meaning, h .text-means)
 
-    sized : (m : Meaning) → Text true text m → SizesOf m a
+    sized : (m : Meaning) → Text text m → SizesOf m a
     sized m x = record {
       answer = reader.one-outcome-measure text a (Answer.Counts (records m) (bytes m)) p (reader.accepts-measure x);
       tape-size =
@@ -130,13 +130,13 @@ repeats-first (Text-refused.repeated {m = m} x y z) = record { meaning = m; mean
 first-refused : {text : List ℕ} {p : ℕ} → RepeatsFirst text p → Text-refused text (RepeatedKey p)
 first-refused w = Text-refused.repeated (w .means) (w .repeats) (w .first)
 
-none-repeats : {text : List ℕ} {m : Meaning} → Loose true text m → ((p : ℕ) → Repeats text p → ⊥) ↔ Text true text m
+none-repeats : {text : List ℕ} {m : Meaning} → Loose true text m → ((p : ℕ) → Repeats text p → ⊥) ↔ Text text m
 none-repeats {text} {m} x = (λ n. only n (once m) refl, λ y p z. keys .none-repeats (once-none (keys .keys) m (keys .same) (y .single)) p z)
   where
     keys : Keyed-text text m
     keys = text-keys x
 
-    only : ((p : ℕ) → Repeats text p → ⊥) → (b : Bool) → once m ≡ b → Text true text m
+    only : ((p : ℕ) → Repeats text p → ⊥) → (b : Bool) → once m ≡ b → Text text m
     only n true e = record { loose = x; single = e }
     only n false e = let w = twice-some (keys .keys) m (keys .same) e in absurd (n (w .0) (keys .first (w .0) (w .1) .0))
 
@@ -153,7 +153,7 @@ repeated-key =
 pub bounded : Bounded
 bounded = record { grammar = by-grammar; measure = by-measure; read = by-read }
   where
-    by-grammar : {text : List ℕ} {m : Meaning} → Text true text m → Within text (records m) (bytes m)
+    by-grammar : {text : List ℕ} {m : Meaning} → Text text m → Within text (records m) (bytes m)
     by-grammar x = let f = text-fits (x .loose) in (f .few, f .small)
 
     by-measure : (text : List ℕ) {r s : ℕ} → Measures text (Answer.Counts r s) → Within text r s

@@ -76,7 +76,7 @@ pub text-length : {t : List ℕ} {m : Meaning} → Loose true t m → length t �
 text-length (Loose.text w v l h) = h
 
 filled : {text tape store : List ℕ} {r s : ℕ} {tape' store' : List ℕ} → Reads text tape store (Answer.Counts r s) tape' store'
-    → (w : WellFormed (take (r * 16) tape') (take s store')) × Text true text (w .meaning)
+    → (w : WellFormed (take (r * 16) tape') (take s store')) × Text text (w .meaning)
 filled {text} {tape} {store} {r} {s} {tape'} {store'} p =
     let h = read-accepts text tape store r s tape' store' p in
     let m = h .meaning in
@@ -112,7 +112,7 @@ back-meaning : {m : Meaning} {tape store : List ℕ} {a : Answer} {tape' store' 
     → Reads (canonical m) tape store a tape' store' → Holds m tape store a tape' store'
 back-meaning {m} g l h k p = accepted p .then m (record { means = text-derived m g l; tape-room = h; store-room = k })
 
-back-text : {text : List ℕ} {m : Meaning} {tape store : List ℕ} {a b : Answer} {t u s v : List ℕ} → Text true text m → length (canonical m) ≤ textLimit
+back-text : {text : List ℕ} {m : Meaning} {tape store : List ℕ} {a b : Answer} {t u s v : List ℕ} → Text text m → length (canonical m) ≤ textLimit
     → Reads text tape store a t s → Reads (canonical m) tape store b u v → (a ≡ b) × (t ≡ u) × (s ≡ v)
 back-text x l p q = one-outcome-read p (reads-as (text-derived _ (text-good x) l) x q)
 

@@ -143,11 +143,11 @@ pub record Impostors : Type 0 where
   pub one-text-json : (f : Writer) (t : List ℕ) → WritesOnly t f → KeepsJson f → ⊥
   -- one that remembers the text that its tape was read from, and prints that
   pub copies : (f : List ℕ → Writer)
-      → ((text : List ℕ) (m : Meaning) (out : List ℕ) → Text true text m → length text ≤ length out
+      → ((text : List ℕ) (m : Meaning) (out : List ℕ) → Text text m → length text ≤ length out
       → Prints text out (f text (tapeOf m) (storeOf m) out .0) (f text (tapeOf m) (storeOf m) out .1))
       → ((text : List ℕ) → KeepsJaxn (f text)) → ⊥
   -- a measure that invents its counts: for one text; the same for all; some for all
-  pub invents : (f : Measurer) {text : List ℕ} {m : Meaning} → Text true text m
+  pub invents : (f : Measurer) {text : List ℕ} {m : Meaning} → Text text m
       → (f text ≡ Answer.Counts (records m) (bytes m) → ⊥) → KeepsMeasure f → ⊥
   pub one-count : (f : Measurer) (r s : ℕ) → ((text : List ℕ) → Counted (f text) → f text ≡ Answer.Counts r s)
       → KeepsMeasure f → ⊥

@@ -90,8 +90,8 @@ slips =
 -- The grammar gives the text this meaning and no other, and this is the meaning's canonical text. `measure` answers the
 -- meaning's sizes, and so does `read` where there is room.
 pub record IsTaken (text : List ℕ) (m : Meaning) (printed : List ℕ) : Type 0 where
-  pub means : Text true text m
-  pub only : (n : Meaning) → Text true text n → n ≡ m
+  pub means : Text text m
+  pub only : (n : Meaning) → Text text n → n ≡ m
   pub prints : canonical m ≡ printed
   pub measured : (a : Answer) → Measures text a → a ≡ Answer.Counts (records m) (bytes m)
   pub read : (tape store : List ℕ) (a : Answer) (tape' store' : List ℕ) → tapeBytes m ≤ length tape
@@ -104,7 +104,7 @@ Says n p (Answer.Refused why) = (numberOf why ≡ n) × (placeOf why ≡ p)
 
 -- The grammar gives the text no meaning. Whatever `measure` and `read` may answer is the refusal n at p.
 pub record IsRefused (text : List ℕ) (n p : ℕ) : Type 0 where
-  pub meaningless : (m : Meaning) → Text true text m → ⊥
+  pub meaningless : (m : Meaning) → Text text m → ⊥
   pub measured : (a : Answer) → Measures text a → Says n p a
   pub read : (tape store : List ℕ) (a : Answer) (tape' store' : List ℕ) → Reads text tape store a tape' store'
       → Says n p a
