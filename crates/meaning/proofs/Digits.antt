@@ -2,9 +2,9 @@
 use mathlib.Core.Path.{_≡_, refl, sym, ap, _∙_}
 use mathlib.Core.Bool.{Bool, true, false, cond}
 use mathlib.Core.List.{List, [], _∷_, _++_}
-use Prim.Native.Nat.{ℕ, zero, suc, _+_, _-_, _/_, _%_, _^_, _≤_, _<_}
+use Prim.Native.Nat.{ℕ, zero, suc, _+_, _-_, _*_, _/_, _%_, _^_, _≤_, _<_}
 use native.Mathlib.Decide.{decLe}
-use native.Mathlib.Nat.{lt-of-not-le, div-lt-iff-lt-mul, pow-suc}
+use native.Mathlib.Nat.{lt-of-not-le, div-lt-iff-lt-mul, div-div-eq-div-mul, mul-comm, pow-suc}
 use native.Mathlib.Omega.{arith}
 use lib.Dec.{eqb, ltb}
 use lib.ListN.{length, length-append}
@@ -88,6 +88,10 @@ unfolding decimal
 decimal-ascii n = in-ascii n n (omega arith)
 
 -- ---- so many digits
+
+-- without the last digit, and then without w more
+pub cut-more : (w n : ℕ) → n / 10 ^ suc w ≡ n / 10 / 10 ^ w
+cut-more w n = ap (λ (x : ℕ). n / x) (pow-suc 10 w ∙ mul-comm (10 ^ w) 10) ∙ sym (div-div-eq-div-mul n 10 (10 ^ w))
 
 pub fixed-more : (w n : ℕ) → fixed (suc w) n ≡ fixed w (n / 10) ++ (digit (n % 10) ∷ [])
 unfolding fixed

@@ -1,12 +1,14 @@
 -- The canonical text: it is UTF-8, and how long it can be. Assumes nothing.
-use mathlib.Core.Path.{_≡_}
+use mathlib.Core.Path.{_≡_, refl}
 use mathlib.Core.Bool.{Bool, true, false, cond}
 use mathlib.Core.List.{List, [], _∷_, _++_}
 use Prim.Native.Nat.{ℕ, zero, suc, _+_, _*_, _/_, _%_, _^_, _≤_, _<_}
+use native.Mathlib.Nat.{div-le-self}
 use native.Mathlib.Omega.{arith}
-use lib.Dec.{eqb}
+use lib.Dec.{eqb, leb}
 use lib.IntN.{ℤ, pos, negsuc, natAbs}
 use lib.ListN.{length, length-append}
+use borrow.Author.Tests.{leb-true}
 use Rattle.rules.specs.Rfc3629.{Octets}
 use Rattle.meaning.specs.declared.Number.{Number}
 use Rattle.meaning.specs.declared.Number.the-variants.{Finite, NotANumber, Infinite}
@@ -14,15 +16,23 @@ use Rattle.meaning.specs.declared.Date.{Date}
 use Rattle.meaning.specs.declared.Time.{Time}
 use Rattle.meaning.specs.declared.Time.the-variants.{LocalDate, LocalTime, LocalDateTime, OffsetDateTime}
 use Rattle.meaning.specs.Letters.{letters, ch}
-use Rattle.meaning.specs.Limits.{powerLimit, second, fractionDigits, recordLimit, storeLimit}
+use Rattle.meaning.specs.Limits.{powerLimit, plainDigits, second, fractionDigits, recordLimit, storeLimit}
 use Rattle.meaning.specs.Meaning.{Meaning, Meanings, Members, null, bool, number, string, binary, time, array, object, none, more, bare, member}
 use Rattle.meaning.specs.Good.{GoodNumber, GoodParts, GoodElements, GoodMembers}
 use Rattle.meaning.specs.Tape.{records, elementsRecords, membersRecords, storeOf, elementsStore, membersStore, bytes}
-use Rattle.meaning.specs.Canonical.{decimal, fixed, trimmed, quoted, binaryText, minusText, powerText, numberText, dateText, fractionText, clockText}
-use Rattle.meaning.specs.Canonical.{minutesText, offsetText, timeText, elementsComma, membersComma, canonical, elementsText, membersText}
+use Rattle.meaning.specs.Canonical.{decimal, fixed, trimmed, quoted, binaryText, minusText, powerText, zeros, pointed, finiteText, numberText}
+use Rattle.meaning.specs.Canonical.{dateText, fractionText, clockText, minutesText, offsetText, timeText, elementsComma, membersComma}
+use Rattle.meaning.specs.Canonical.{textWith, canonical, elementsText, membersText}
 use Rattle.meaning.proofs.Digits.{Ascii, ascii-append, decimal-ascii, decimal-length, fixed-ascii, fixed-length, trimmed-ascii, trimmed-length}
 use Rattle.meaning.proofs.Fitting.{finite-below, finite-power}
 use Rattle.meaning.proofs.Quotes.{octets-append, ascii-octets, quoted-octets, quoted-length, escapes-length, pairs-length, binary-ascii}
+
+-- two texts with one character between
+between : (a b : List ℕ) (c : ℕ) → Ascii a → c < 128 → Ascii b → Ascii (a ++ (c ∷ []) ++ b)
+between a b c f h g = ascii-append (a ++ (c ∷ [])) b (ascii-append a (c ∷ []) f (h, tt)) g
+
+between-length : (a b : List ℕ) (c : ℕ) → length (a ++ (c ∷ []) ++ b) ≡ length a + 1 + length b
+between-length a b c = simp length-append
 
 -- ---- numbers
 
@@ -46,35 +56,74 @@ power-length (pos zero) h = omega arith
 power-length (pos (suc n)) h = omega (arith, decimal-length 3 (suc n) (omega arith))
 power-length (negsuc n) h = omega (arith, decimal-length 3 (suc n) (omega arith))
 
+zeros-ascii : (n : ℕ) → Ascii (zeros n)
+unfolding zeros
+zeros-ascii zero = tt
+zeros-ascii (suc n) = (omega arith, zeros-ascii n)
+
+pub zeros-length : (n : ℕ) → length (zeros n) ≡ n
+unfolding zeros
+zeros-length zero = refl
+zeros-length (suc n) = omega (arith, zeros-length n)
+
+pointed-ascii : (n c : ℕ) → Ascii (pointed n c)
+unfolding pointed
+pointed-ascii n c = between (decimal (c / 10 ^ n)) (fixed n c) (ch ".") (decimal-ascii (c / 10 ^ n)) (omega arith) (fixed-ascii n c)
+
+pub pointed-length : (n c : ℕ) → length (pointed n c) ≡ length (decimal (c / 10 ^ n)) + 1 + n
+unfolding pointed
+pointed-length n c = omega (arith, between-length (decimal (c / 10 ^ n)) (fixed n c) (ch "."), fixed-length n c)
+
+pointed-short : (n c : ℕ) → c < 10 ^ 20 → length (pointed n c) ≤ 21 + n
+pointed-short n c h =
+    let q = div-le-self c (10 ^ n) in
+    omega (arith, pointed-length n c, decimal-length 19 (c / 10 ^ n) (omega arith))
+
+finite-ascii : (c : ℕ) (p : ℤ) → Ascii (finiteText c p)
+unfolding finiteText
+finite-ascii c (pos p) = ascii-append (decimal c) _ (decimal-ascii c) (go (leb (length (decimal c) + p) plainDigits))
+  where
+    go : (b : Bool) → Ascii (cond b (zeros p) (powerText (pos p)))
+    go true = zeros-ascii p
+    go false = power-ascii (pos p)
+finite-ascii c (negsuc n) = go (leb (suc n) plainDigits)
+  where
+    go : (b : Bool) → Ascii (cond b (pointed (suc n) c) (decimal c ++ powerText (negsuc n)))
+    go true = pointed-ascii (suc n) c
+    go false = ascii-append (decimal c) (powerText (negsuc n)) (decimal-ascii c) (power-ascii (negsuc n))
+
+finite-length : (c : ℕ) (p : ℤ) → c < 10 ^ 20 → natAbs p ≤ powerLimit → length (finiteText c p) ≤ 41
+unfolding finiteText
+finite-length c (pos p) h k = go (leb (length (decimal c) + p) plainDigits) refl
+  where
+    go : (b : Bool) → leb (length (decimal c) + p) plainDigits ≡ b → length (decimal c ++ cond b (zeros p) (powerText (pos p))) ≤ 41
+    go true e = omega (arith, leb-true (length (decimal c) + p) plainDigits e, length-append (decimal c) (zeros p), zeros-length p)
+    go false e = omega (arith, length-append (decimal c) (powerText (pos p)), decimal-length 19 c h, power-length (pos p) k)
+finite-length c (negsuc n) h k = go (leb (suc n) plainDigits) refl
+  where
+    go : (b : Bool) → leb (suc n) plainDigits ≡ b → length (cond b (pointed (suc n) c) (decimal c ++ powerText (negsuc n))) ≤ 41
+    go true e = omega (arith, leb-true (suc n) plainDigits e, pointed-short (suc n) c h)
+    go false e = omega (arith, length-append (decimal c) (powerText (negsuc n)), decimal-length 19 c h, power-length (negsuc n) k)
+
 pub number-ascii : (n : Number) → Ascii (numberText n)
 unfolding numberText
-number-ascii (Finite minus c p) =
-    ascii-append (minusText minus ++ decimal c) (powerText p) (ascii-append (minusText minus) (decimal c) (minus-ascii minus) (decimal-ascii c)) (power-ascii p)
+number-ascii (Finite minus c p) = ascii-append (minusText minus) (finiteText c p) (minus-ascii minus) (finite-ascii c p)
 number-ascii NotANumber = omega arith
 number-ascii (Infinite minus) = ascii-append (minusText minus) (letters "Infinity") (minus-ascii minus) (omega arith)
 
-pub number-length : (n : Number) → GoodNumber n → length (numberText n) ≤ 27
+pub number-length : (n : Number) → GoodNumber n → length (numberText n) ≤ 42
 unfolding numberText
 number-length (Finite minus c p) g =
     omega (
       arith,
-      length-append (minusText minus ++ decimal c) (powerText p),
-      length-append (minusText minus) (decimal c),
+      length-append (minusText minus) (finiteText c p),
       minus-length minus,
-      decimal-length 19 c (omega (arith, finite-below g)),
-      power-length p (finite-power g),
+      finite-length c p (omega (arith, finite-below g)) (finite-power g),
     )
 number-length NotANumber g = omega arith
 number-length (Infinite minus) g = omega (arith, length-append (minusText minus) (letters "Infinity"), minus-length minus)
 
 -- ---- times
-
--- two texts with one character between
-between : (a b : List ℕ) (c : ℕ) → Ascii a → c < 128 → Ascii b → Ascii (a ++ (c ∷ []) ++ b)
-between a b c f h g = ascii-append (a ++ (c ∷ [])) b (ascii-append a (c ∷ []) f (h, tt)) g
-
-between-length : (a b : List ℕ) (c : ℕ) → length (a ++ (c ∷ []) ++ b) ≡ length a + 1 + length b
-between-length a b c = simp length-append
 
 pub date-ascii : (d : Date) → Ascii (dateText d)
 unfolding dateText
@@ -178,7 +227,7 @@ members-comma bare = tt
 members-comma (member ms k m) = omega arith
 
 mutual
-  unfolding canonical
+  unfolding textWith
 
   pub canonical-octets : (m : Meaning) → GoodParts m → Octets (canonical m)
   canonical-octets null p = plain (letters "null") (omega arith)
@@ -210,7 +259,7 @@ mutual
       (plain (letters ":") (omega arith)))
       (canonical-octets m (p .2))
 
--- ---- how long it can be: at most 40 for a record and 6 for a store byte, a comma included
+-- ---- how long it can be: at most 46 for a record and 6 for a store byte, a comma included
 
 elements-comma-length : (ms : Meanings) → length (elementsComma ms) ≤ 1
 elements-comma-length none = omega arith
@@ -221,9 +270,9 @@ members-comma-length bare = omega arith
 members-comma-length (member ms k m) = omega arith
 
 mutual
-  unfolding canonical records storeOf binaryText
+  unfolding textWith records storeOf binaryText
 
-  pub canonical-short : (m : Meaning) → GoodParts m → length (canonical m) + 1 ≤ 40 * records m + 6 * length (storeOf m)
+  pub canonical-short : (m : Meaning) → GoodParts m → length (canonical m) + 1 ≤ 46 * records m + 6 * length (storeOf m)
   canonical-short null p = omega arith
   canonical-short (bool true) p = omega arith
   canonical-short (bool false) p = omega arith
@@ -238,7 +287,7 @@ mutual
       let h = members-short ms p in
       simp length-append (omega arith)
 
-  elements-short : (ms : Meanings) → GoodElements ms → length (elementsText ms) ≤ 40 * elementsRecords ms + 6 * length (elementsStore ms)
+  elements-short : (ms : Meanings) → GoodElements ms → length (elementsText ms) ≤ 46 * elementsRecords ms + 6 * length (elementsStore ms)
   elements-short none p = omega arith
   elements-short (more ms m) p =
       let h = elements-short ms (p .0) in
@@ -246,7 +295,7 @@ mutual
       let c = elements-comma-length ms in
       simp length-append (omega arith)
 
-  members-short : (ms : Members) → GoodMembers ms → length (membersText ms) ≤ 40 * membersRecords ms + 6 * length (membersStore ms)
+  members-short : (ms : Members) → GoodMembers ms → length (membersText ms) ≤ 46 * membersRecords ms + 6 * length (membersStore ms)
   members-short bare p = omega arith
   members-short (member ms s m) p =
       let h = members-short ms (p .0) in

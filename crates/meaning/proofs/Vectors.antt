@@ -22,8 +22,9 @@ use Rattle.meaning.specs.Once.{once, onceElements, onceMembers, held, sa
 use Rattle.meaning.specs.Meaning.{Meaning, null, bool, number, string, binary, time, array, object, none, more, bare, member}
 use Rattle.meaning.specs.Good.{GoodFinite, nonzero, GoodDate, most, depth, Good}
 use Rattle.meaning.specs.Tape.{records, elementsCount, membersCount, storeOf, bytes, recordsOf, recordBytes}
-use Rattle.meaning.specs.Canonical.{decimalIn, decimal, fixed, trimmed, escaped, escapes, quoted, hexPairs, binaryText, powerText, numberText, dateText}
-use Rattle.meaning.specs.Canonical.{fractionText, clockText, offsetText, timeText, canonical}
+use Rattle.meaning.specs.Canonical.{decimalIn, decimal, fixed, trimmed, escaped, escapes, quoted, hexPairs, binaryText, powerText, zeros, pointed}
+use Rattle.meaning.specs.Canonical.{finiteText, numberText, dateText, fractionText, clockText, offsetText, timeText, textWith, canonical}
+use Rattle.meaning.specs.Filed.{filedNumber, filed}
 use Rattle.meaning.specs.Json.{firstWithout, noJson}
 
 abbrev pub march : Date
@@ -70,7 +71,7 @@ shows m count size store text without =
 
 unfoldable pub meanings : List (Vector Shown)
 meanings =
-    shows sample 11 9 "runetaatt" "{\"run\":31,\"eta\":NaN,\"at\":2021-03-04T05:06:07.5Z,\"t\":[5e-1,12505e-1]}" (first 4)
+    shows sample 11 9 "runetaatt" "{\"run\":31,\"eta\":NaN,\"at\":2021-03-04T05:06:07.5Z,\"t\":[0.5,1250.5]}" (first 4)
     ∷ shows null 1 0 "" "null" nowhere
     ∷ shows (array (more (more none (bool true)) (bool false))) 3 0 "" "[true,false]" nowhere
     ∷ shows (array none) 1 0 "" "[]" nowhere
@@ -78,6 +79,17 @@ meanings =
     ∷ shows (number (Finite true 0 (pos 0))) 1 0 "" "-0" nowhere
     ∷ shows (number (Finite false 18446744073709551615 (pos 1))) 1 0 "" "18446744073709551615e1" nowhere
     ∷ shows (number (Finite true 12 (negsuc 9998))) 1 0 "" "-12e-9999" nowhere
+    ∷ shows (number (Finite false 1 (pos 19))) 1 0 "" "10000000000000000000" nowhere
+    ∷ shows (number (Finite false 1 (pos 20))) 1 0 "" "1e20" nowhere
+    ∷ shows (number (Finite true 99 (pos 18))) 1 0 "" "-99000000000000000000" nowhere
+    ∷ shows (number (Finite false 99 (pos 19))) 1 0 "" "99e19" nowhere
+    ∷ shows (number (Finite false 25 (negsuc 3))) 1 0 "" "0.0025" nowhere
+    ∷ shows (number (Finite false 25 (negsuc 1))) 1 0 "" "0.25" nowhere
+    ∷ shows (number (Finite true 1250001 (negsuc 2))) 1 0 "" "-1250.001" nowhere
+    ∷ shows (number (Finite false 18446744073709551615 (negsuc 0))) 1 0 "" "1844674407370955161.5" nowhere
+    ∷ shows (number (Finite false 18446744073709551615 (negsuc 19))) 1 0 "" "0.18446744073709551615" nowhere
+    ∷ shows (number (Finite false 1 (negsuc 19))) 1 0 "" "0.00000000000000000001" nowhere
+    ∷ shows (number (Finite false 12 (negsuc 20))) 1 0 "" "12e-21" nowhere
     ∷ shows (number (Infinite false)) 1 0 "" "Infinity" (first 0)
     ∷ shows (number (Infinite true)) 1 0 "" "-Infinity" (first 0)
     ∷ shows (string (letters "a\"\\\u{8}\u{c}\n\r\t\u{1}\u{1f}/\u{7f}")) 1 12 "a\"\\\u{8}\u{c}\n\r\t\u{1}\u{1f}/\u{7f}"
@@ -93,9 +105,14 @@ meanings =
     ∷ []
 
 pub meanings-hold : gots meanings ≡ wants meanings
-unfolding gots wants meanings shows records storeOf recordsOf decimalIn decimal fixed trimmed escaped escapes quoted hexPairs binaryText powerText numberText
-    dateText fractionText clockText offsetText timeText canonical firstWithout noJson
+unfolding gots wants meanings shows records storeOf recordsOf decimalIn decimal fixed trimmed escaped escapes quoted hexPairs binaryText powerText zeros pointed
+    finiteText numberText dateText fractionText clockText offsetText timeText textWith firstWithout noJson
 meanings-hold = refl
+
+-- the sample as it was filed before ticket 6
+pub filed-sample : filed sample ≡ letters "{\"run\":31,\"eta\":NaN,\"at\":2021-03-04T05:06:07.5Z,\"t\":[5e-1,12505e-1]}"
+unfolding decimalIn decimal fixed trimmed escaped escapes quoted powerText filedNumber dateText fractionText clockText offsetText timeText textWith
+filed-sample = refl
 
 -- ---- records: the 16 bytes
 

@@ -1,16 +1,17 @@
 -- The canonical text of a meaning (docs/FORMAT.md, 12). Assumes nothing.
 use mathlib.Core.Bool.{Bool, true, false, cond}
 use mathlib.Core.List.{List, [], _∷_, _++_}
-use Prim.Native.Nat.{ℕ, zero, suc, _+_, _-_, _*_, _/_, _%_}
-use lib.Dec.{eqb, ltb}
+use Prim.Native.Nat.{ℕ, zero, suc, _+_, _-_, _*_, _/_, _%_, _^_}
+use lib.Dec.{eqb, ltb, leb}
 use lib.IntN.{ℤ, pos, negsuc}
+use lib.ListN.{length}
 use Rattle.meaning.specs.declared.Number.{Number}
 use Rattle.meaning.specs.declared.Number.the-variants.{Finite, NotANumber, Infinite}
 use Rattle.meaning.specs.declared.Date.{Date}
 use Rattle.meaning.specs.declared.Time.{Time}
 use Rattle.meaning.specs.declared.Time.the-variants.{LocalDate, LocalTime, LocalDateTime, OffsetDateTime}
 use Rattle.meaning.specs.Letters.{letters, ch}
-use Rattle.meaning.specs.Limits.{fractionDigits, second}
+use Rattle.meaning.specs.Limits.{plainDigits, fractionDigits, second}
 use Rattle.meaning.specs.Meaning.{Meaning, Meanings, Members, null, bool, number, string, binary, time, array}
 use Rattle.meaning.specs.Meaning.{object, none, more, bare, member}
 
@@ -93,9 +94,24 @@ powerText (pos zero) = []
 powerText (pos (suc n)) = letters "e" ++ decimal (suc n)
 powerText (negsuc n) = letters "e-" ++ decimal (suc n)
 
--- minus if set, coefficient, then `e` and the power where it isn't 0; words `NaN`, `Infinity`, `-Infinity`
+-- so many zeros
+unfoldable pub zeros : ℕ → List ℕ
+zeros zero = []
+zeros (suc n) = digit 0 ∷ zeros n
+
+-- the digits of c with the last n of them after a decimal point, with `0.` and zeros in front where needed
+unfoldable pub pointed : ℕ → ℕ → List ℕ
+pointed n c = decimal (c / 10 ^ n) ++ letters "." ++ fixed n c
+
+-- Of a coefficient of d digits and the power p: where p is 0 or more and d + p is at most 20, the digits and p zeros;
+-- where p is from -20 to -1, the digits with the last -p of them after a decimal point; otherwise the `e` form.
+unfoldable pub finiteText : ℕ → ℤ → List ℕ
+finiteText c (pos p) = decimal c ++ cond (leb (length (decimal c) + p) plainDigits) (zeros p) (powerText (pos p))
+finiteText c (negsuc n) = cond (leb (suc n) plainDigits) (pointed (suc n) c) (decimal c ++ powerText (negsuc n))
+
+-- minus if set, then the coefficient and the power; words `NaN`, `Infinity`, `-Infinity`
 unfoldable pub numberText : Number → List ℕ
-numberText (Finite minus coefficient power) = minusText minus ++ decimal coefficient ++ powerText power
+numberText (Finite minus coefficient power) = minusText minus ++ finiteText coefficient power
 numberText NotANumber = letters "NaN"
 numberText (Infinite minus) = minusText minus ++ letters "Infinity"
 
@@ -142,21 +158,32 @@ abbrev pub membersComma : Members → List ℕ
 membersComma bare = []
 membersComma (member ms k m) = letters ","
 
+-- with f for the text of a number
 unfoldable mutual
-  pub canonical : Meaning → List ℕ
-  canonical null = letters "null"
-  canonical (bool b) = cond b (letters "true") (letters "false")
-  canonical (number n) = numberText n
-  canonical (string s) = quoted s
-  canonical (binary s) = binaryText s
-  canonical (time t) = timeText t
-  canonical (array ms) = letters "[" ++ elementsText ms ++ letters "]"
-  canonical (object ms) = letters "{" ++ membersText ms ++ letters "}"
+  pub textWith : (Number → List ℕ) → Meaning → List ℕ
+  textWith f null = letters "null"
+  textWith f (bool b) = cond b (letters "true") (letters "false")
+  textWith f (number n) = f n
+  textWith f (string s) = quoted s
+  textWith f (binary s) = binaryText s
+  textWith f (time t) = timeText t
+  textWith f (array ms) = letters "[" ++ elementsWith f ms ++ letters "]"
+  textWith f (object ms) = letters "{" ++ membersWith f ms ++ letters "}"
 
-  pub elementsText : Meanings → List ℕ
-  elementsText none = []
-  elementsText (more ms m) = elementsText ms ++ elementsComma ms ++ canonical m
+  pub elementsWith : (Number → List ℕ) → Meanings → List ℕ
+  elementsWith f none = []
+  elementsWith f (more ms m) = elementsWith f ms ++ elementsComma ms ++ textWith f m
 
-  pub membersText : Members → List ℕ
-  membersText bare = []
-  membersText (member ms k m) = membersText ms ++ membersComma ms ++ quoted k ++ letters ":" ++ canonical m
+  pub membersWith : (Number → List ℕ) → Members → List ℕ
+  membersWith f bare = []
+  membersWith f (member ms k m) =
+      membersWith f ms ++ membersComma ms ++ quoted k ++ letters ":" ++ textWith f m
+
+abbrev pub canonical : Meaning → List ℕ
+canonical m = textWith numberText m
+
+abbrev pub elementsText : Meanings → List ℕ
+elementsText ms = elementsWith numberText ms
+
+abbrev pub membersText : Members → List ℕ
+membersText ms = membersWith numberText ms

@@ -7,6 +7,7 @@ pub mod Good
 pub mod Bytes
 pub mod Tape
 pub mod Canonical
+pub mod Filed
 pub mod Json
 pub mod Paper
 pub mod Look

@@ -17,6 +17,10 @@ coefficientLimit = 2 ^ 64
 abbrev pub powerLimit : ℕ
 powerLimit = 9999
 
+-- a number is written without a power up to so many digits, or so many behind the point
+abbrev pub plainDigits : ℕ
+plainDigits = 20
+
 -- an offset in minutes lies from -1,439 to 1,439
 abbrev pub offsetLimit : ℕ
 offsetLimit = 1439

@@ -12,6 +12,9 @@ pub const COEFFICIENT_MOST: u64 = 18446744073709551615;
 // The power lies from -9,999 to 9,999.
 pub const POWER_LIMIT: usize = 9999;
 
+// A number is written without a power up to so many digits, or so many behind the point.
+pub const PLAIN_DIGITS: usize = 20;
+
 // An offset in minutes lies from -1,439 to 1,439.
 pub const OFFSET_LIMIT: i16 = 1439;
 

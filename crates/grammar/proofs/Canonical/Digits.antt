@@ -3,13 +3,14 @@ use Prim.Native.Nat.{ℕ, zero, suc, _+_, _*_, _-_, _/_, _%_, _≤_, _<_, _^_}
 use mathlib.Core.Path.{_≡_, refl, sym, ap, _∙_, subst}
 use mathlib.Core.Bool.{Bool, true, false, cond}
 use mathlib.Core.List.{List, [], _∷_, _++_}
-use native.Mathlib.Nat.{pow-suc, div-add-mod', div-lt-self}
+use native.Mathlib.Nat.{div-add-mod', div-eq-of-lt, div-lt-self, div-one}
 use native.Mathlib.Omega.{arith}
 use lib.Dec.{ltb, lit≤}
 use borrow.Author.Tests.{ltb-true, ltb-false}
 use Rattle.rules.specs.Rfc3629.{In}
 use Rattle.meaning.specs.Letters.{ch}
 use Rattle.meaning.specs.Canonical.{digit, decimalIn, decimal, fixed, hexDigit, hexPair}
+use Rattle.meaning.proofs.Digits.{cut-more}
 use Rattle.grammar.specs.Characters.{Digit, Hexdig, Digits, Decimal, Hexadecimal}
 use Rattle.grammar.specs.Numbers.{Int}
 
@@ -37,13 +38,18 @@ hex-pair-is b h = subst (λ (w : ℕ). Hexadecimal 2 (hexPair b) w) (omega arith
 ten-times : (n : ℕ) → 10 * (n / 10) + n % 10 ≡ n
 ten-times n = omega (arith, div-add-mod' n 10)
 
+-- the last w digits, behind what stands before them
+pub fixed-behind : (w n : ℕ) → Decimal w (n / 10 ^ w) (fixed w n) n
+unfolding fixed
+fixed-behind zero n = subst (λ (v : ℕ). Decimal zero v [] n) (sym (div-one n)) Digits.over
+fixed-behind (suc w) n =
+    let a = fixed w (n / 10) ++ (digit (n % 10) ∷ []) in
+    subst (λ (v : ℕ). Decimal (suc w) v a n) (sym (cut-more w n))
+    (subst (Decimal (suc w) (n / 10 / 10 ^ w) a) (ten-times n) (behind (fixed-behind w (n / 10)) (digit-is (n % 10) (omega arith))))
+
 -- w digits
 pub fixed-is : (w n : ℕ) → n < 10 ^ w → Decimal w 0 (fixed w n) n
-unfolding fixed
-fixed-is zero n h = subst (Decimal zero 0 []) (omega arith) Digits.over
-fixed-is (suc w) n h =
-    let l : n / 10 < 10 ^ w = omega (arith, pow-suc 10 w) in
-    subst (Decimal (suc w) 0 (fixed w (n / 10) ++ (digit (n % 10) ∷ []))) (ten-times n) (behind (fixed-is w (n / 10) l) (digit-is (n % 10) (omega arith)))
+fixed-is w n h = subst (λ (v : ℕ). Decimal w v (fixed w n) n) (div-eq-of-lt h) (fixed-behind w n)
 
 -- digits with no zero in front
 pub data Lead : List ℕ → ℕ → Type 0 where
