@@ -111,7 +111,8 @@ module _ (f : NumberMeant → List ℕ) (numbers : (n : NumberMeant) → GoodNum
         (elements-before ms (g .0) d (most-left (elementsDepth ms) (depth m) d h))
         (Item.element (value-with m (g .1) d (most-right (elementsDepth ms) (depth m) d h))) Closes.bracket
 
-    members-before : (ms : Members) → GoodMembers ms → (d : ℕ) → membersDepth ms ≤ d → Before d (members bare) (membersWith f ms ++ membersComma ms) (members ms)
+    members-before : (ms : Members) → GoodMembers ms → (d : ℕ) → membersDepth ms ≤ d
+        → Before d (members bare) (membersWith f ms ++ membersComma ms) (members ms)
     members-before bare g d h = start
     members-before (member ms k m) g d h =
         subst (λ (s : List ℕ). Before d (members bare) (s ++ letters ",") (members (member ms k m)))

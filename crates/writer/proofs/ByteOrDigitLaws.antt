@@ -4,7 +4,7 @@ use mathlib.Core.Bool.{true}
 use mathlib.Core.List.{List, [], _∷_, _++_, append-assoc, append-nil}
 use Prim.Native.Nat.{ℕ, zero, suc, _+_, _-_, _*_, _/_, _%_, _^_, _≤_, _<_}
 use native.Mathlib.Decide.{decLe}
-use native.Mathlib.Nat.{lt-of-not-le, pow-suc, pow-le-pow-right}
+use native.Mathlib.Nat.{lt-of-not-le, pow-suc, pow-le-pow-right, div-one, zero-div}
 use native.Mathlib.Numerals.{add-one}
 use native.Mathlib.Omega.{arith}
 use lib.Count.{leadingZeros, leading-length}
@@ -12,7 +12,7 @@ use lib.Dec.{leb}
 use lib.ListN.{length, set, length-append}
 use borrow.Author.Tests.{leb-true}
 use Rattle.meaning.specs.Canonical.{digit, decimal, fixed}
-use Rattle.meaning.proofs.Digits.{decimal-small, decimal-more, fixed-more, fixed-length}
+use Rattle.meaning.proofs.Digits.{decimal-small, decimal-more, cut-more, fixed-more, fixed-length}
 use Rattle.writer.specs.Between.Laid.{laidAt, Put, PutAt}
 use Rattle.rules.proofs.Computed.{below, agree, agreed}
 use Rattle.writer.specs.Between.Pieces.{Power, Reaches}
@@ -140,6 +140,33 @@ count-more n h = ap length (decimal-more n h) ∙ length-append (decimal (n / 10
 pub count-small : (n : ℕ) → n < 10 → length (decimal n) ≡ 1
 count-small n h = ap length (decimal-small n h)
 
+-- without the last w of its digits
+pub cut-count : (w n : ℕ) → w < length (decimal n) → length (decimal (n / 10 ^ w)) + w ≡ length (decimal n)
+cut-count zero n h = omega (arith, ap (λ (x : ℕ). length (decimal x)) (div-one n))
+cut-count (suc w) n h =
+    elim (decLe 10 n) [
+      | yes g ↦
+          let e = ap (λ (x : ℕ). length (decimal x)) (cut-more w n) in
+          omega (arith, count-more n g, e, cut-count w (n / 10) (omega (arith, count-more n g)))
+      | no g ↦ absurd (omega (arith, count-small n (lt-of-not-le g)))
+    ]
+
+-- where it has no more than w, nothing is left
+pub cut-none : (w n : ℕ) → length (decimal n) ≤ w → n / 10 ^ w ≡ 0
+cut-none zero n h =
+    elim (decLe 10 n) [
+      | yes g ↦ absurd (omega (arith, count-more n g))
+      | no g ↦ absurd (omega (arith, count-small n (lt-of-not-le g)))
+    ]
+cut-none (suc w) n h =
+    elim (decLe 10 n) [
+      | yes g ↦ cut-more w n ∙ cut-none w (n / 10) (omega (arith, count-more n g))
+      | no g ↦
+          let l = lt-of-not-le g in
+          let z : n / 10 ≡ 0 = omega arith in
+          cut-more w n ∙ ap (λ (x : ℕ). x / 10 ^ w) z ∙ zero-div (10 ^ w)
+    ]
+
 -- by the powers of ten that it lies between
 pub decimal-size : (w n : ℕ) → 10 ^ w ≤ n → n < 10 ^ suc w → length (decimal n) ≡ suc w
 decimal-size zero n a b = ap length (decimal-small n b)
@@ -157,6 +184,9 @@ power-none t e = record { none = λ q. refl; some = λ h. absurd (omega arith) }
 
 pub power-at : (t k : ℕ) → 0 < k → t ≡ k → Power t (10 ^ k)
 power-at t k h e = record { none = λ q. absurd (omega arith); some = λ q. ap (λ (x : ℕ). 10 ^ x) (sym e) }
+
+pub power-some : {t r : ℕ} → Power t r → 0 < t → 0 < r
+power-some {t} x h = omega (arith, x .some h, pow-le-pow-right {n = 10} (omega arith) {i = 0} {j = t} (omega arith))
 
 pub less : {t : ℕ} (k : ℕ) → t < suc k → (t ≡ k → ⊥) → t < k
 less k h n = omega arith

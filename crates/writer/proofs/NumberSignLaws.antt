@@ -1,7 +1,7 @@
 -- The sign and the size of a signed number, as the machine makes them. Assumes nothing.
 use mathlib.Core.Path.{_≡_, refl, sym, ap, _∙_, subst}
 use mathlib.Core.Bool.{true, false}
-use Prim.Native.Nat.{ℕ, zero, suc, _+_, _<_, _^_}
+use Prim.Native.Nat.{ℕ, zero, suc, _+_, _≤_, _<_, _^_}
 use native.Mathlib.Omega.{arith}
 use lib.Dec.{T}
 use lib.IntN.{ℤ, pos, negsuc, negℤ, predℤ, natAbs, _-ℤ_, +ℤ-comm, -ℤ-one}
@@ -10,7 +10,7 @@ use mir.Syntax.{w16, w32, w64}
 use mir.Val.{SFits, Fits, ofZ, toZ}
 use mir.ValLaws.{toZ-ofZ}
 use borrow.Author.Tests.{ltb-true}
-use Rattle.meaning.specs.Canonical.{powerText, offsetText}
+use Rattle.meaning.specs.Canonical.{powerText, finiteText, offsetText}
 use Rattle.writer.specs.declared.Signed.{Signed}
 use Rattle.writer.specs.Between.Pieces.{negative, SignAndSize}
 
@@ -89,8 +89,15 @@ module _ (x : ℤ) (f : SFits w32 x) where
 pub held-sign : (x : ℤ) (r : Signed) → SFits w32 x → SignAndSize (toZ w32 (ofZ w32 x)) r → SignAndSize x r
 held-sign x r f s = subst (λ (z : ℤ). SignAndSize z r) (toZ-ofZ w32 x f) s
 
+pub size-small : (x : ℤ) (r : Signed) → SFits w32 x → SignAndSize x r → r .size ≤ 2 ^ 31
+size-small (pos n) r f s = omega (arith, f .sfits, s .size)
+size-small (negsuc n) r f s = omega (arith, f .sfits, s .size)
+
 pub power-held : (x : ℤ) → SFits w32 x → powerText (toZ w32 (ofZ w32 x)) ≡ powerText x
 power-held x f = ap powerText (toZ-ofZ w32 x f)
+
+pub finite-held : (c : ℕ) (x : ℤ) → SFits w32 x → finiteText c (toZ w32 (ofZ w32 x)) ≡ finiteText c x
+finite-held c x f = ap (finiteText c) (toZ-ofZ w32 x f)
 
 -- ---- an offset, of sixteen bits
 

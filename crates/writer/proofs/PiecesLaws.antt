@@ -13,7 +13,7 @@ use Rattle.meaning.specs.declared.Number.the-variants.{Finite, NotANumber, Infi
 use Rattle.meaning.specs.declared.Date.{Date}
 use Rattle.meaning.specs.declared.Time.the-variants.{LocalDate, LocalTime, LocalDateTime, OffsetDateTime}
 use Rattle.meaning.specs.Canonical.{decimal, fixed, trimmed, hexPair, escaped, escapes, quoted, hexPairs, binaryText, minusText, minutesText, powerText}
-use Rattle.meaning.specs.Canonical.{numberText, offsetText, fractionText, dateText, clockText, timeText}
+use Rattle.meaning.specs.Canonical.{finiteText, numberText, offsetText, fractionText, dateText, clockText, timeText}
 use Rattle.meaning.proofs.Digits.{fixed-length, trimmed-less}
 use Rattle.meaning.proofs.Text.{date-length}
 use Rattle.meaning.proofs.Quotes.{escaped-plain, escaped-low, escapes-more, escapes-length, quoted-length}
@@ -25,7 +25,7 @@ length-three a b c = simp length-append
 
 -- ---- numbers
 
-pub finite-text : (minus : Bool) (c : ℕ) (p : ℤ) → numberText (Finite minus c p) ≡ minusText minus ++ decimal c ++ powerText p
+pub finite-text : (minus : Bool) (c : ℕ) (p : ℤ) → numberText (Finite minus c p) ≡ minusText minus ++ finiteText c p
 unfolding numberText
 finite-text minus c p = refl
 

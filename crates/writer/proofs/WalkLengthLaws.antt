@@ -11,7 +11,7 @@ use Rattle.meaning.specs.declared.Record.{Record}
 use Rattle.meaning.specs.Letters.{letters}
 use Rattle.meaning.specs.Meaning.{Meaning, Meanings, Members, null, bool, number, string, binary, time, array, object, none, more, bare, member}
 use Rattle.meaning.specs.Tape.{records, elementsRecords, membersRecords, storeOf, elementsStore, membersStore, recordsOf, elementsOf, membersOf, endOf}
-use Rattle.meaning.specs.Canonical.{canonical, elementsText, membersText, elementsComma, membersComma, quoted}
+use Rattle.meaning.specs.Canonical.{textWith, canonical, elementsText, membersText, elementsComma, membersComma, quoted}
 use Rattle.meaning.proofs.Bytes.{part-is}
 use Rattle.meaning.proofs.Sizes.{some-record, elements-length, members-length}
 use Rattle.writer.specs.Between.Walk.{printed, closes, follows, share}
@@ -60,7 +60,7 @@ module _ (store : List ℕ) where
   quoted-part pre s post e at a = part-is store pre s post e at a
 
   mutual
-    unfolding recordsOf records storeOf canonical shares printed follows
+    unfolding recordsOf records storeOf textWith shares printed follows
 
     pub value-shares : (m : Meaning) (i at : ℕ) (pre post : List ℕ) → store ≡ pre ++ (storeOf m ++ post) → at ≡ length pre
         → shares (recordsOf m i at) i store ≡ length (canonical m) + 1

@@ -14,7 +14,7 @@ use Rattle.meaning.specs.Meaning.{Meaning, Meanings, Members, null, bool, numbe
 use Rattle.meaning.specs.Good.{depth, elementsDepth, membersDepth}
 use Rattle.meaning.specs.Tape.{records, elementsRecords, membersRecords, elementsCount, membersCount, storeOf, elementsStore, membersStore, recordsOf}
 use Rattle.meaning.specs.Tape.{elementsOf, membersOf, endOf}
-use Rattle.meaning.specs.Canonical.{canonical, elementsText, membersText, elementsComma, membersComma, quoted, binaryText}
+use Rattle.meaning.specs.Canonical.{textWith, canonical, elementsText, membersText, elementsComma, membersComma, quoted, binaryText}
 use Rattle.meaning.proofs.Bytes.{part-is}
 use Rattle.meaning.proofs.Sizes.{most-left, most-right, some-record, elements-length, members-length}
 use Rattle.writer.specs.declared.Effect.{Effect}
@@ -188,7 +188,7 @@ module _ (rs : List Record) (store : List ℕ) where
   bracketed c o e x t = simp append-assoc
 
   mutual
-    unfolding recordsOf records storeOf canonical printed effectOf depth height
+    unfolding recordsOf records storeOf textWith printed effectOf depth height
 
     value-prints : (m : Meaning) (i at : ℕ) → Lies (recordsOf m i at) i (storeOf m) at → (comma : Bool) (end closer : ℕ) (around : Stack) (t : List ℕ)
         → i + records m ≤ end → height around + depth m ≤ depthLimit

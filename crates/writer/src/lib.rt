@@ -21,6 +21,13 @@ struct Signed {
     size: u64,
 }
 
+// How a finite number is written: its digits and so many zeros; so many of its digits after a point; or with its power.
+enum Form {
+    Zeros(usize),
+    Point(usize),
+    Power,
+}
+
 // The digits of a fraction without closing zeros: so many digits of this number.
 struct Trimmed {
     count: usize,

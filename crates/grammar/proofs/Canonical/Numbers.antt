@@ -44,7 +44,8 @@ none = Exp.absent
 filed-value : (g : Bool) {c : ℕ} {p : ℤ} → GoodFinite c p → Unsigned true g (decimal c ++ powerText p) (FiniteNumber g c p)
 filed-value g GoodFinite.nought = Unsigned.dec (dec 0 0 0 none) (Finite.nought refl)
 filed-value g (GoodFinite.nonzero {c = c} {p = pos zero} l e h) = Unsigned.dec (dec c 0 0 none) (Finite.whole (sym (mul-one (c * 1))) e l h)
-filed-value g (GoodFinite.nonzero {c = c} {p = pos (suc n)} l e h) = Unsigned.dec (dec c (suc n) 0 (raised n)) (Finite.whole (sym (mul-one (c * 10 ^ suc n))) e l h)
+filed-value g (GoodFinite.nonzero {c = c} {p = pos (suc n)} l e h) = Unsigned.dec (dec c (suc n) 0 (raised n))
+    (Finite.whole (sym (mul-one (c * 10 ^ suc n))) e l h)
 filed-value g (GoodFinite.nonzero {c = c} {p = negsuc n} l e h) = Unsigned.dec (dec c 0 (suc n) (lowered n))
     (Finite.part (ap (λ (x : ℕ). x * 10 ^ suc n) (mul-one c)) e l h)
 
@@ -59,6 +60,7 @@ zeros-behind (suc n) v =
   where
     tens : 10 * v + 0 ≡ v * 10
     tens = omega arith
+
     again : (10 * v + 0) * 10 ^ n ≡ v * 10 ^ suc n
     again = ap (λ (x : ℕ). x * 10 ^ n) tens ∙ mul-assoc v 10 (10 ^ n) ∙ ap (λ (x : ℕ). v * x) (mul-comm 10 (10 ^ n) ∙ sym (pow-suc 10 n))
 

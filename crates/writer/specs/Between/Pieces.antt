@@ -2,13 +2,15 @@
 use mathlib.Core.Path.{_≡_}
 use mathlib.Core.Bool.{Bool, true, false, cond}
 use mathlib.Core.List.{List, [], _∷_, _++_}
-use Prim.Native.Nat.{ℕ, _+_, _^_, _≤_, _<_}
+use Prim.Native.Nat.{ℕ, suc, _+_, _^_, _≤_, _<_}
 use lib.Dec.{ltb}
 use lib.IntN.{ℤ, pos, negsuc, natAbs}
 use lib.ListN.{length, getD}
 use Rattle.meaning.specs.Letters.{letters, ch}
-use Rattle.meaning.specs.Limits.{fractionDigits}
+use Rattle.meaning.specs.Limits.{plainDigits, fractionDigits}
 use Rattle.meaning.specs.Canonical.{hexPair, escaped, fixed, trimmed as trimmedText}
+use Rattle.writer.specs.declared.Form.{Form}
+use Rattle.writer.specs.declared.Form.the-variants.{Zeros, Point, Power as WithPower}
 use Rattle.writer.specs.declared.Signed.{Signed}
 use Rattle.writer.specs.declared.Trimmed.{Trimmed}
 
@@ -19,6 +21,19 @@ negative (negsuc n) = true
 pub record SignAndSize (x : ℤ) (r : Signed) : Type 0 where
   pub sign : r .minus ≡ negative x
   pub size : r .size ≡ natAbs x
+
+-- the form of a number of d digits with this power
+pub data FormOf (d : ℕ) : ℤ → Form → Type 0 where
+  zeros : {p : ℕ} → d + p ≤ plainDigits → FormOf d (pos p) (Zeros p)
+  point : {n : ℕ} → suc n ≤ plainDigits → FormOf d (negsuc n) (Point (suc n))
+  raised : {p : ℕ} → plainDigits < d + p → FormOf d (pos p) WithPower
+  lowered : {n : ℕ} → plainDigits < suc n → FormOf d (negsuc n) WithPower
+
+-- how long d digits are with the last n of them after a point
+pub record PointedLength (d n r : ℕ) : Type 0 where
+  pub few : d ≤ n → r ≡ n + 2
+  pub more : n < d → r ≡ d + 1
+  pub small : r ≤ plainDigits + 2
 
 -- a letter after the backslash, or 0: below U+0020 by its number, else plain
 pub record Lettered (b r : ℕ) : Type 0 where
