@@ -12,7 +12,7 @@
 #define SIZE(type, bytes) HOLDS(sizeof(type) == (bytes))
 #define FIELD(type, field, at, as) HOLDS(offsetof(type, field) == (at) && sizeof(((type *)0)->field) == sizeof(as))
 
-HOLDS(LR_VERSION == 4);
+HOLDS(LR_VERSION == 5);
 HOLDS(LR_CHECK_BYTES == 640);
 HOLDS(sizeof(size_t) == 8);
 

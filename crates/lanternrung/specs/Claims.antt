@@ -14,6 +14,7 @@ use Rattle.rules.specs.Rfc3339.{Dated}
 use Rattle.meaning.specs.declared.Refusal.{Refusal}
 use Rattle.meaning.specs.Bytes.{laid}
 use Rattle.meaning.specs.Canonical.{canonical}
+use Rattle.meaning.specs.Filed.{filed}
 use Rattle.meaning.specs.Good.{Good, Bytes}
 use Rattle.meaning.specs.Json.{noJson}
 use Rattle.meaning.specs.Limits.{textLimit}
@@ -188,6 +189,17 @@ pub record ReadBack : Type 0 where
   pub json : {tape store out : List ℕ} {n : ℕ} {out' t s : List ℕ} {a : Answer} {t' s' : List ℕ}
       → WritesJson tape store out (Written.Wrote n) out' → length t ≡ length tape → length s ≡ length store
       → Reads (take n out') t s a t' s' → Again tape store a t' s'
+
+-- filed-before: the text in the old form of a meaning within the limits is accepted, with that meaning
+pub record FiledBefore : Type 0 where
+  pub means : {m : Meaning} → Good m → length (filed m) ≤ textLimit → Text (filed m) m
+  pub held : {m : Meaning} {tape store : List ℕ} {a : Answer} {tape' store' : List ℕ} → Good m
+      → length (filed m) ≤ textLimit → tapeBytes m ≤ length tape → bytes m ≤ length store
+      → Reads (filed m) tape store a tape' store' → Holds m tape store a tape' store'
+  -- whatever buffers are lent, to read it is to read the canonical text
+  pub same : {m : Meaning} {tape store : List ℕ} {a b : Answer} {t u s v : List ℕ} → Good m
+      → length (filed m) ≤ textLimit → length (canonical m) ≤ textLimit → Reads (filed m) tape store a t s
+      → Reads (canonical m) tape store b u v → (a ≡ b) × (t ≡ u) × (s ≡ v)
 
 -- ---- a text in parts
 

@@ -13,7 +13,7 @@ static void same(const char *what, uint64_t got, uint64_t should) {
 }
 
 static const char text[] = "{ run: 0x1F, # melt\n  eta: NaN, at: 2021-03-04 05:06:07.50-01:30, t: [.5, -1250.5,], }";
-static const char canonical[] = "{\"run\":31,\"eta\":NaN,\"at\":2021-03-04T05:06:07.5-01:30,\"t\":[5e-1,-12505e-1]}";
+static const char canonical[] = "{\"run\":31,\"eta\":NaN,\"at\":2021-03-04T05:06:07.5-01:30,\"t\":[0.5,-1250.5]}";
 
 static uint8_t tape[11 * 16], store[9], out[sizeof canonical];
 

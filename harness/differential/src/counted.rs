@@ -37,6 +37,22 @@ pub fn numbers(mut each: impl FnMut(&[u8])) {
     }
 }
 
+/// Coefficients of each number of digits with each power around those that are written without it, in the form of before
+/// ticket 6 and in others that mean the same.
+pub fn powers(mut each: impl FnMut(&[u8])) {
+    for count in 1..=20u32 {
+        let least = 10u128.pow(count - 1);
+        let most = (10u128.pow(count) - 1).min(u128::from(u64::MAX));
+        for n in [least, least + 1, least * 15 / 10, most - most % 10 + 1, most - 1, most] {
+            for power in -24..=24 {
+                each(format!("{n}e{power}").as_bytes());
+                each(format!("[-{n}e{power},{n}0e{}]", power - 1).as_bytes());
+                each(format!("{{a:.{n}e{}}}", power + n.to_string().len() as i32).as_bytes());
+            }
+        }
+    }
+}
+
 /// Each two-digit value in each field of a time, and every month and day of some years.
 pub fn times(mut each: impl FnMut(&[u8])) {
     for n in 0..100 {

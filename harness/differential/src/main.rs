@@ -130,8 +130,8 @@ fn close(short: Check, long: Mismatch) -> ! {
 
 /// The stated cases, with every buffer length. The texts are answered, to be damaged later.
 fn stated(run: &mut Run) -> Vec<Vec<u8>> {
-    use second::cases::{further, keys, readings, rfc8259, rules, samples, specification};
-    let listed = [rules(), specification(), rfc8259(), readings(), further(), keys()].concat();
+    use second::cases::{further, keys, numbers, readings, rfc8259, rules, samples, specification};
+    let listed = [rules(), specification(), rfc8259(), readings(), further(), keys(), numbers()].concat();
     for case in &listed {
         run.text(&case.text, Effort::Every);
         let outcome = match second::parse(&case.text) {
@@ -184,6 +184,7 @@ fn systematic(run: &mut Run) {
 /// Values around their limits.
 fn counted(run: &mut Run) {
     counted::numbers(|t| run.text(t, Effort::One(t.len())));
+    counted::powers(|t| run.text(t, Effort::One(t.len())));
     counted::times(|t| run.text(t, Effort::One(t.len())));
     counted::characters(|t| run.text(t, Effort::One(t.len())));
     counted::runs(70, |t| run.text(t, Effort::One(run.texts as usize)));

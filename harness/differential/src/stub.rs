@@ -3,7 +3,7 @@
 
 use crate::archive::{LrRecord, LrSizes, LrStatus, LrWritten};
 use crate::tapes;
-use second::{Refusal, Sizes, Value, Written};
+use second::{Number, Refusal, Sizes, Value, Written};
 use std::collections::{HashSet, VecDeque};
 use std::slice::{from_raw_parts, from_raw_parts_mut};
 use std::sync::{Mutex, OnceLock};
@@ -203,9 +203,25 @@ fn write_jaxn(tape: &[u8], store: &[u8], out: &mut [u8]) -> Result<Written, Refu
         (51, Ok(_)) if second::decode(tape, store).is_some_and(|v| knows(&v, &mut Vec::new(), true)) => {
             return Err(Refusal::new(10, 0));
         }
+        (54 | 55, Ok(_)) => {
+            return otherwise_written(tape, store).map_or(answer, |text| second::place_text(text.as_bytes(), out))
+        }
         _ => {}
     }
     answer
+}
+
+/// A number at the border of its form, in the other one. 54: twenty digits, all of them behind the point, with a power;
+/// 55: digits and zeros that are twenty-one together, without one.
+fn otherwise_written(tape: &[u8], store: &[u8]) -> Option<String> {
+    let Value::Number(Number::Finite { minus, coefficient, power }) = second::decode(tape, store)? else { return None };
+    let sign = if minus { "-" } else { "" };
+    let digits = coefficient.to_string().len() as i32;
+    match fault() {
+        54 if digits == 20 && power == -20 => Some(format!("{sign}{coefficient}e{power}")),
+        55 if power > 0 && digits + power == 21 => Some(format!("{sign}{coefficient}{:0>1$}", "", power as usize)),
+        _ => None,
+    }
 }
 
 /// The answer of a writer that does not look for repeated keys in this value: the fault shows before a byte is written.

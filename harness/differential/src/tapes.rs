@@ -364,7 +364,8 @@ fn fields() -> Vec<(&'static [u8; 2], usize, Fields)> {
     let twos = |v: &[i16]| v.iter().map(|n| n.to_le_bytes().to_vec()).collect::<Fields>();
     let ones = || (0..=255u8).map(|b| vec![b]).collect::<Fields>();
     let times = [0, 1, 86_399_999_999_999, 86_400_000_000_000, 86_400_000_000_001, 1 << 32, 1 << 63, u64::MAX];
-    let powers = [0, 1, -1, 9_999, 10_000, -9_999, -10_000, i32::MAX, i32::MIN, 65_536, -65_536];
+    let powers =
+        [0, 1, -1, 18, 19, 20, -19, -20, -21, 9_999, 10_000, -9_999, -10_000, i32::MAX, i32::MIN, 65_536, -65_536];
     let coefficients = [0, 1, 9, 10, 11, 20, 100, u64::MAX, u64::MAX - 5, 1 << 63, 1 << 32];
     let starts = [0, 1, 2, 3, 4, 1 << 32, 1 << 63, u64::MAX, u64::MAX - 1];
     let years = [0, 1, 9_999, 10_000, 1_900, 2_000, -1, i16::MIN, i16::MAX];

@@ -16,7 +16,7 @@ fn no_fault() {
 
 #[test]
 fn each_fault_is_found() {
-    for fault in 1..=53 {
+    for fault in 1..=55 {
         let (passed, said) = run(fault, 50_000);
         assert!(!passed && said.contains("MISMATCH"), "fault {fault} is not found:\n{said}");
     }

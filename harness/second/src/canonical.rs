@@ -71,7 +71,7 @@ fn list<T>(brackets: &[u8; 2], elements: &[T], out: &mut Vec<u8>, one: impl Fn(&
     out.push(brackets[1]);
 }
 
-/// "Numbers: minus if set, coefficient, then `e` and the power where it isn't 0."
+/// "Numbers: minus if set, coefficient", and 02, ticket 6, on the power.
 fn number(n: &Number) -> String {
     match n {
         Number::NaN => "NaN".to_string(),
@@ -79,12 +79,27 @@ fn number(n: &Number) -> String {
         Number::Infinite { minus: true } => "-Infinity".to_string(),
         Number::Finite { minus, coefficient, power } => {
             let sign = if *minus { "-" } else { "" };
-            match power {
-                0 => format!("{sign}{coefficient}"),
-                _ => format!("{sign}{coefficient}e{power}"),
-            }
+            format!("{sign}{}", finite(coefficient.to_string(), i64::from(*power)))
         }
     }
+}
+
+/// 02, ticket 6: "Where p is 0 or more and d + p is at most 20, write the digits and p zeros. Where p is from -20 to -1, write
+/// the digits with the last -p of them after a decimal point, with `0.` and zeros in front where needed. Otherwise keep the
+/// `e` form."
+fn finite(mut digits: String, p: i64) -> String {
+    if p >= 0 && digits.len() as i64 + p <= 20 {
+        return digits + &"0".repeat(p as usize);
+    }
+    if (-20..=-1).contains(&p) {
+        let behind = -p as usize;
+        while digits.len() <= behind {
+            digits.insert(0, '0');
+        }
+        digits.insert(digits.len() - behind, '.');
+        return digits;
+    }
+    format!("{digits}e{p}")
 }
 
 fn quoted(s: &str, out: &mut Vec<u8>) {

@@ -33,6 +33,11 @@ pub fn keys() -> Vec<Case> {
     listed(include_str!("../cases/keys.txt"))
 }
 
+/// Numbers as they are written (02, ticket 6).
+pub fn numbers() -> Vec<Case> {
+    listed(include_str!("../cases/numbers.txt"))
+}
+
 /// Label, text and outcome with tabs between; other lines are prose.
 fn listed(file: &str) -> Vec<Case> {
     let fields = file.lines().map(|line| line.split('\t').collect::<Vec<_>>());

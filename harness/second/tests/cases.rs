@@ -89,6 +89,11 @@ fn keys() {
 }
 
 #[test]
+fn numbers() {
+    run(cases::numbers(), outcome, 39);
+}
+
+#[test]
 fn samples_of_the_program() {
     run(cases::samples(), program, 186);
 }

@@ -31,7 +31,8 @@ use Rattle.meaning.specs.Once.{same, held, once, onceElements, onceMembers}
 use Rattle.meaning.specs.Bytes.{le, unnamed}
 use Rattle.meaning.specs.Tape.{records, membersRecords, elementsCount, membersCount, storeOf, membersStore, bytes, recordsOf, recordBytes, recordsBytes, tapeOf}
 use Rattle.meaning.specs.Tape.{WellFormed}
-use Rattle.meaning.specs.Canonical.{escaped, escapes, quoted, canonical, membersText}
+use Rattle.meaning.specs.Canonical.{decimalIn, decimal, escaped, escapes, quoted, powerText, textWith, canonical}
+use Rattle.meaning.specs.Filed.{filedNumber, filed}
 use Rattle.meaning.specs.Json.{firstWithout, noJson}
 use Rattle.meaning.specs.Look.{wholeRecords}
 use Rattle.meaning.proofs.Bytes.{le-length, le-bytes}
@@ -64,10 +65,10 @@ use Rattle.lanternrung.proofs.Claims.PList.{P-list, slips-hold, keys-tw
 use Rattle.lanternrung.specs.Claims.{Counted, Takes, Holds, RepeatsFirst, Room, Wrote, Prints}
 use Rattle.lanternrung.specs.Trials.Impostors.{Lent, Measurer, KeepsMeasure, Reader, KeepsRead, Writer, KeepsJaxn, KeepsJson}
 use Rattle.lanternrung.specs.Trials.Impostors.{Looker, KeepsLook, KeepsUtf8, Calendar, KeepsDate, WritesOnly, olderTape}
-use Rattle.lanternrung.specs.Trials.Impostors.{twice, PrintsTwice, Impostors}
+use Rattle.lanternrung.specs.Trials.Impostors.{twice, PrintsTwice, Files, Impostors}
 use Rattle.lanternrung.specs.Trials.Impostors.{Checker, answers, KeepsCheck}
 use Rattle.lanternrung.proofs.Claims.Reading.{accepted, measured, repeats-first}
-use Rattle.lanternrung.proofs.Claims.Writing.{text-length, written}
+use Rattle.lanternrung.proofs.Claims.Writing.{text-length, written, filed-before}
 
 -- ---- what they are tried on
 
@@ -130,11 +131,11 @@ module _ {m : Meaning} (s : Small m) where
   prints-json f k e n h l = written .json (k (tapeOf m) (storeOf m) (unnamed n) tape-lent store-lent (zeros n l)) .then well-formed e (room n h)
 
 small-null : Small null
-unfolding canonical depth depthLimit once
+unfolding textWith depth depthLimit once
 small-null = record { good = record { parts = tt; shallow = lit≤ tt; single = refl }; short = lit≤ tt }
 
 small-true : Small (bool true)
-unfolding canonical depth depthLimit once
+unfolding textWith depth depthLimit once
 small-true = record { good = record { parts = tt; shallow = lit≤ tt; single = refl }; short = lit≤ tt }
 
 -- ---- how each fails
@@ -167,7 +168,7 @@ touches-nothing : (f : Reader) → ((text tape store : List ℕ) → (f text tap
 touches-nothing f r = leaves-tape f (λ text tape store. r text tape store .0)
 
 small-a : Small (string (letters "a"))
-unfolding canonical quoted escapes escaped depth depthLimit once
+unfolding textWith quoted escapes escaped depth depthLimit once
 small-a = record { good = record { parts = ascii-octets (letters "a") (omega arith); shallow = lit≤ tt; single = refl }; short = lit≤ tt }
 
 leaves-store : (f : Reader) → ((text tape store : List ℕ) → f text tape store .2 ≡ store) → KeepsRead f → ⊥
@@ -178,7 +179,7 @@ leaves-store f r k =
     omega arith
 
 small-array : Small (array (more none null))
-unfolding canonical depth most depthLimit once onceElements
+unfolding textWith depth most depthLimit once onceElements
 small-array = record { good = record { parts = (tt, tt); shallow = lit≤ tt; single = refl }; short = lit≤ tt }
 
 leaves-counts : (f : Reader) → ((text tape store : List ℕ) → getD (f text tape store .1) 4 0 ≡ 0) → KeepsRead f → ⊥
@@ -189,7 +190,7 @@ leaves-counts f r k =
     omega arith
 
 small-object : Small (object (member bare [] null))
-unfolding canonical quoted escapes depth most depthLimit once onceMembers held
+unfolding textWith quoted escapes depth most depthLimit once onceMembers held
 small-object = record { good = record { parts = (tt, ascii-octets [] tt, tt); shallow = lit≤ tt; single = refl }; short = lit≤ tt }
 
 counts-records : (f : Reader)
@@ -249,7 +250,7 @@ unfolding storeOf membersStore
 twice-store = record { each = omega arith; few = lit< tt }
 
 twice-room : length (canonical twice) ≤ length (unnamed 19)
-unfolding canonical membersText quoted escapes escaped
+unfolding textWith quoted escapes escaped
 twice-room = omega (arith, le-length 19 0)
 
 repeated-jaxn : (f : Writer) → PrintsTwice f → KeepsJaxn f → ⊥
@@ -266,20 +267,20 @@ repeated-json f r k =
 two-texts : (t x y : List ℕ) → x ≡ t ++ drop (length t) (unnamed 4) → y ≡ t ++ drop (length t) (unnamed 4) → x ≡ canonical null
     ++ drop (length (canonical null)) (unnamed 4)
     → y ≡ canonical (bool true) ++ drop (length (canonical (bool true))) (unnamed 4) → ⊥
-unfolding canonical
+unfolding textWith
 two-texts t x y a b c d =
     let z : _≡_ {A = ℕ} 110 116 = ap (λ (u : List ℕ). getD u 0 0) (sym c ∙ a ∙ sym b ∙ d) in
     omega arith
 
 one-text-jaxn : (f : Writer) (t : List ℕ) → WritesOnly t f → KeepsJaxn f → ⊥
-unfolding canonical
+unfolding textWith
 one-text-jaxn f t r k =
     let p = prints-jaxn small-null f k 4 (lit≤ tt) (lit< tt) in
     let q = prints-jaxn small-true f k 4 (lit≤ tt) (lit< tt) in
     two-texts t _ _ (r _ _ _ _ (p .answer)) (r _ _ _ _ (q .answer)) (p .holds) (q .holds)
 
 one-text-json : (f : Writer) (t : List ℕ) → WritesOnly t f → KeepsJson f → ⊥
-unfolding canonical noJson firstWithout recordsOf
+unfolding textWith noJson firstWithout recordsOf
 one-text-json f t r k =
     let p = prints-json small-null f k refl 4 (lit≤ tt) (lit< tt) in
     let q = prints-json small-true f k refl 4 (lit≤ tt) (lit< tt) in
@@ -293,22 +294,72 @@ first (h & r) = h
 later : {text : List ℕ} {outcome : Outcome} {rest : List (List ℕ × Outcome)} → All ((text, outcome) ∷ rest) → All rest
 later (h & r) = r
 
--- `100000` is written `1e5`
-hundred-thousand : IsTaken (letters "100000") (number (Finite false 1 (pos 5))) (letters "1e5")
-hundred-thousand = first (later (later (later (later slips-hold))))
+-- `1e5` is written `100000`
+hundred-thousand : IsTaken (letters "1e5") (number (Finite false 1 (pos 5))) (letters "100000")
+hundred-thousand = first (later (later (later slips-hold)))
+
+abbrev hundred : Meaning
+hundred = number (Finite false 1 (pos 5))
+
+small-hundred : Small hundred
+small-hundred = record { good = text-good (hundred-thousand .means); short = omega (arith, ap length (hundred-thousand .prints)) }
+
+hundred-length : length (canonical hundred) ≡ 6
+hundred-length = ap length (hundred-thousand .prints)
+
+filed-length : length (filed hundred) ≡ 3
+unfolding textWith filedNumber decimal decimalIn powerText
+filed-length = refl
+
+hundred-json : noJson hundred ≡ nowhere
+unfolding noJson firstWithout recordsOf
+hundred-json = refl
+
+-- `1e5` is no longer written
+files : (f : Writer) → Files f
+    → Prints (canonical hundred) (unnamed 6) (f (tapeOf hundred) (storeOf hundred) (unnamed 6) .0) (f (tapeOf hundred) (storeOf hundred) (unnamed 6) .1) → ⊥
+files f r p =
+    let a = p .answer in
+    let b = r hundred (unnamed 6) (omega (arith, filed-length, le-length 6 0)) .answer in
+    let z : length (canonical hundred) ≡ length (filed hundred) = cc in
+    omega (arith, hundred-length, filed-length)
+
+files-jaxn : (f : Writer) → Files f → KeepsJaxn f → ⊥
+files-jaxn f r k = files f r (prints-jaxn small-hundred f k 6 (omega (arith, hundred-length)) (lit< tt))
+
+files-json : (f : Writer) → Files f → KeepsJson f → ⊥
+files-json f r k = files f r (prints-json small-hundred f k hundred-json 6 (omega (arith, hundred-length)) (lit< tt))
+
+-- and is still read
+refuses-filed : (f : Reader)
+    → ((m : Meaning) (tape store : List ℕ) → (filed m ≡ canonical m → ⊥) → (why : Refusal) × (f (filed m) tape store .0 ≡ Answer.Refused why))
+    → KeepsRead f → ⊥
+refuses-filed f r k =
+    let m = hundred in
+    let x = filed-before .means {m = m} (small-hundred .good) (omega (arith, filed-length)) in
+    let y = text-fits (x .loose) in
+    let l = text-length (x .loose) in
+    let tape = unnamed (tapeBytes m) in
+    let store = unnamed (bytes m) in
+    let lent = k (filed m) tape store (text-lent (x .loose)) (zeros (tapeBytes m) (omega (arith, y .few))) (zeros (bytes m) (omega (arith, y .small))) in
+    let p =
+        filed-before .held {m = m} (small-hundred .good) (omega (arith, filed-length)) (omega (arith, le-length (tapeBytes m) 0))
+        (omega (arith, le-length (bytes m) 0)) lent .answer in
+    let q = r m tape store (λ e. omega (arith, filed-length, hundred-length, ap length e)) .1 in
+    let z : _≡_ {A = ℕ} 0 1 = cc in
+    omega arith
 
 copies : (f : List ℕ → Writer)
     → ((text : List ℕ) (m : Meaning) (out : List ℕ) → Text text m → length text ≤ length out
     → Prints text out (f text (tapeOf m) (storeOf m) out .0) (f text (tapeOf m) (storeOf m) out .1))
     → ((text : List ℕ) → KeepsJaxn (f text)) → ⊥
 copies f r k =
-    let t = letters "100000" in
+    let t = letters "1e5" in
     let x = hundred-thousand in
     let l = ap length (x .prints) in
-    let s : Small (number (Finite false 1 (pos 5))) = record { good = text-good (x .means); short = omega arith } in
-    let p = prints-jaxn s (f t) (k t) 6 (omega arith) (lit< tt) .answer in
+    let p = prints-jaxn small-hundred (f t) (k t) 6 (omega arith) (lit< tt) .answer in
     let q = r t _ (unnamed 6) (x .means) (omega (arith, le-length 6 0)) .answer in
-    let z : length (canonical (number (Finite false 1 (pos 5)))) ≡ 6 = cc in
+    let z : length (canonical hundred) ≡ 3 = cc in
     omega arith
 
 -- ---- measure
@@ -508,6 +559,9 @@ impostors =
       older-json = older-json;
       repeated-jaxn = repeated-jaxn;
       repeated-json = repeated-json;
+      files-jaxn = files-jaxn;
+      files-json = files-json;
+      refuses-filed = refuses-filed;
       one-text-jaxn = one-text-jaxn;
       one-text-json = one-text-json;
       copies = copies;

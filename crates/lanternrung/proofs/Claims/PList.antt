@@ -20,7 +20,7 @@ use Rattle.meaning.specs.Once.{same, once, onceElements}
 use Rattle.meaning.specs.Between.Events.{Event, begins, ends, named, among, firstRepeat}
 use Rattle.meaning.specs.Paper.{numberOf, placeOf}
 use Rattle.meaning.specs.Canonical.{decimalIn, decimal, fixed, trimmed, escaped, escapes, quoted, hexPairs, binaryText, powerText, numberText, dateText}
-use Rattle.meaning.specs.Canonical.{fractionText, clockText, timeText, canonical, elementsText}
+use Rattle.meaning.specs.Canonical.{zeros, pointed, finiteText, fractionText, clockText, timeText, textWith, canonical}
 use Rattle.grammar.specs.Values.{Text}
 use Rattle.grammar.specs.Refused.{Text-refused, loose}
 use Rattle.machine.specs.Numeric.{strip, settle}
@@ -83,7 +83,7 @@ keys-twice = (
 
 both : All samples × All slips
 unfolding verdict decoded judged faultFrom lengthAt isWide lowOf highOf leadingZeros encode isLeap isDate depthLimit decimalIn decimal fixed trimmed escaped
-    escapes quoted hexPairs binaryText powerText numberText dateText fractionText clockText timeText canonical elementsText strip settle read reading S.hexOf
+    escapes quoted hexPairs binaryText powerText zeros pointed finiteText numberText dateText fractionText clockText timeText textWith strip settle read reading S.hexOf
     S.shortOf S.alone S.unit S.inBraces S.hexed S.onHex S.onBrace S.onShort S.plainByte S.onBody S.lineByte S.onLines S.scan B.onDigit B.onShort B.onText B.scan
     N.classOf N.onStart N.onName N.scan N.wordScan once onceElements
 both = (
@@ -106,6 +106,9 @@ both = (
       & done,
   takes _ _ _ refl refl refl
       & refuses _ (BadEscape 1) refl
+      & takes _ _ _ refl refl refl
+      & takes _ _ _ refl refl refl
+      & takes _ _ _ refl refl refl
       & takes _ _ _ refl refl refl
       & takes _ _ _ refl refl refl
       & takes _ _ _ refl refl refl

@@ -1,4 +1,4 @@
--- written, same-text, read-back: what the writers print, and what reading that gives. Assumes nothing.
+-- written, same-text, read-back, filed-before: what the writers print, and what reading that gives. Assumes nothing.
 use mathlib.Core.Path.{_≡_, refl, sym, ap, ap₂, _∙_, subst}
 use mathlib.Core.Logic.{_↔_}
 use mathlib.Core.Bool.{true}
@@ -13,12 +13,13 @@ use Rattle.meaning.specs.Meaning.{Meaning}
 use Rattle.meaning.specs.Good.{Good}
 use Rattle.meaning.specs.Tape.{bytes, tapeOf, storeOf, WellFormed}
 use Rattle.meaning.specs.Canonical.{canonical}
+use Rattle.meaning.specs.Filed.{filed}
 use Rattle.meaning.specs.Json.{noJson, json}
 use Rattle.meaning.proofs.Whole.{one-meaning, tape-length, well-formed-length}
 use Rattle.grammar.specs.Values.{Loose, Text}
 use Rattle.grammar.proofs.Good.{text-good}
 use Rattle.grammar.proofs.Sizes.{text-fits}
-use Rattle.grammar.proofs.Canonical.{text-derived}
+use Rattle.grammar.proofs.Canonical.{text-derived, filed-derived}
 use Rattle.machine.proofs.Whole.{same-canonical}
 use Rattle.reader.specs.declared.Answer.{Answer}
 use Rattle.reader.specs.Answers.{tapeBytes, Reads}
@@ -26,7 +27,7 @@ use Rattle.reader.proofs.Claims.{one-outcome-read, reads-as, read-accepts}
 use Rattle.writer.specs.declared.Written.{Written}
 use Rattle.writer.specs.Written.{Writes, too-long, too-short, WritesJaxn, WritesJson}
 use Rattle.writer.proofs.Outcomes as writer
-use Rattle.lanternrung.specs.Claims.{Room, Prints, WrittenJaxn, WrittenJson, IsWritten, SameText, Again, ReadBack, Holds}
+use Rattle.lanternrung.specs.Claims.{Room, Prints, WrittenJaxn, WrittenJson, IsWritten, SameText, Again, ReadBack, FiledBefore, Holds}
 use Rattle.lanternrung.proofs.Claims.Reading.{accepted}
 
 -- from the text to the output
@@ -147,3 +148,12 @@ module _ {tape store out : List ℕ} {n : ℕ} {out' t s : List ℕ} {a : Answer
 
 pub read-back : ReadBack
 read-back = record { meaning = back-meaning; text = back-text; jaxn = back-jaxn; json = back-json }
+
+-- ---- filed-before: the text in the old form of a meaning within the limits is accepted, with that meaning
+
+pub filed-before : FiledBefore
+filed-before = record {
+  means = λ {m} g l. filed-derived m g l;
+  held = λ {m} g l h k p. accepted p .then m (record { means = filed-derived m g l; tape-room = h; store-room = k });
+  same = λ {m} g l h p q. back-text (filed-derived m g l) h p q;
+}

@@ -12,6 +12,7 @@ use Rattle.rules.specs.Rfc3339.{Dated}
 use Rattle.meaning.specs.declared.Record.{Record}
 use Rattle.meaning.specs.declared.Refusal.{Refusal}
 use Rattle.meaning.specs.Canonical.{canonical}
+use Rattle.meaning.specs.Filed.{filed}
 use Rattle.meaning.specs.Good.{Bytes}
 use Rattle.meaning.specs.Letters.{letters}
 use Rattle.meaning.specs.Look.{wholeRecords}
@@ -112,6 +113,11 @@ abbrev pub PrintsTwice : Writer → Type 0
 PrintsTwice f = (out : List ℕ) → length (canonical twice) ≤ length out
     → Prints (canonical twice) out (f (tapeOf twice) (storeOf twice) out .0) (f (tapeOf twice) (storeOf twice) out .1)
 
+-- prints a meaning's text in the old form, where there is room
+abbrev pub Files : Writer → Type 0
+Files f = (m : Meaning) (out : List ℕ) → length (filed m) ≤ length out
+    → Prints (filed m) out (f (tapeOf m) (storeOf m) out .0) (f (tapeOf m) (storeOf m) out .1)
+
 pub record Impostors : Type 0 where
   -- a reader that refuses everything, for whatever reason
   pub refuses-all : (f : Reader) → ((text tape store : List ℕ) → (why : Refusal)
@@ -138,6 +144,12 @@ pub record Impostors : Type 0 where
   -- a writer that prints an object with two equal keys
   pub repeated-jaxn : (f : Writer) → PrintsTwice f → KeepsJaxn f → ⊥
   pub repeated-json : (f : Writer) → PrintsTwice f → KeepsJson f → ⊥
+  -- a writer that goes on in the old form; a reader that takes no text in the old form but where the new one is the same
+  pub files-jaxn : (f : Writer) → Files f → KeepsJaxn f → ⊥
+  pub files-json : (f : Writer) → Files f → KeepsJson f → ⊥
+  pub refuses-filed : (f : Reader)
+      → ((m : Meaning) (tape store : List ℕ) → (filed m ≡ canonical m → ⊥) → (why : Refusal)
+      × (f (filed m) tape store .0 ≡ Answer.Refused why)) → KeepsRead f → ⊥
   -- a writer that always prints one text, or refuses
   pub one-text-jaxn : (f : Writer) (t : List ℕ) → WritesOnly t f → KeepsJaxn f → ⊥
   pub one-text-json : (f : Writer) (t : List ℕ) → WritesOnly t f → KeepsJson f → ⊥

@@ -4,7 +4,7 @@ use mathlib.Core.Path.{_≡_}
 use mathlib.Core.Bool.{true, false}
 use mathlib.Core.List.{List, [], _∷_, _++_}
 use Prim.Native.Nat.{ℕ, _≤_}
-use lib.IntN.{pos}
+use lib.IntN.{pos, negsuc}
 use lib.ListN.{length}
 use Rattle.rules.specs.Rfc3629.{encode}
 use Rattle.meaning.specs.declared.Number.the-variants.{Finite}
@@ -81,8 +81,16 @@ slips =
     -- a tenth fraction digit is cut off
     ∷ (letters "12:00:00.9999999999", taken (noonAnd 999999999) (letters "12:00:00.999999999"))
     -- one meaning, one text
-    ∷ (letters "1e5", taken (number (Finite false 1 (pos 5))) (letters "1e5"))
-    ∷ (letters "100000", taken (number (Finite false 1 (pos 5))) (letters "1e5"))
+    ∷ (letters "1e5", taken (number (Finite false 1 (pos 5))) (letters "100000"))
+    ∷ (letters "100000", taken (number (Finite false 1 (pos 5))) (letters "100000"))
+    -- as it was filed before; every digit behind the point; one place too many
+    ∷ (letters "12505e-1", taken (number (Finite false 12505 (negsuc 0))) (letters "1250.5"))
+    ∷ (
+      letters "18446744073709551615e-20",
+      taken (number (Finite false 18446744073709551615 (negsuc 19)))
+          (letters "0.18446744073709551615"),
+    )
+    ∷ (letters "12e-21", taken (number (Finite false 12 (negsuc 20))) (letters "12e-21"))
     ∷ []
 
 -- ---- what it is for a case to hold
