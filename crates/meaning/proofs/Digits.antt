@@ -4,7 +4,7 @@ use mathlib.Core.Bool.{Bool, true, false, cond}
 use mathlib.Core.List.{List, [], _∷_, _++_}
 use Prim.Native.Nat.{ℕ, zero, suc, _+_, _-_, _*_, _/_, _%_, _^_, _≤_, _<_}
 use native.Mathlib.Decide.{decLe}
-use native.Mathlib.Nat.{lt-of-not-le, div-lt-iff-lt-mul, div-div-eq-div-mul, mul-comm, pow-suc}
+use native.Mathlib.Nat.{lt-of-not-le, div-lt-iff-lt-mul, div-div-eq-div-mul, div-one, zero-div, mul-comm, pow-suc}
 use native.Mathlib.Omega.{arith}
 use lib.Dec.{eqb, ltb}
 use lib.ListN.{length, length-append}
@@ -60,6 +60,43 @@ decimal-more n h =
     ∙ in-more n n h
     ∙ ap (λ (l : List ℕ). l ++ (digit (n % 10) ∷ [])) (in-same n (n / 10) (n / 10) (omega arith) (omega arith))
 
+pub count-more : (n : ℕ) → 10 ≤ n → length (decimal n) ≡ length (decimal (n / 10)) + 1
+count-more n h = ap length (decimal-more n h) ∙ length-append (decimal (n / 10)) (digit (n % 10) ∷ [])
+
+pub count-small : (n : ℕ) → n < 10 → length (decimal n) ≡ 1
+count-small n h = ap length (decimal-small n h)
+
+-- without the last digit, and then without w more
+pub cut-more : (w n : ℕ) → n / 10 ^ suc w ≡ n / 10 / 10 ^ w
+cut-more w n = ap (λ (x : ℕ). n / x) (pow-suc 10 w ∙ mul-comm (10 ^ w) 10) ∙ sym (div-div-eq-div-mul n 10 (10 ^ w))
+
+-- without the last w of its digits
+pub cut-count : (w n : ℕ) → w < length (decimal n) → length (decimal (n / 10 ^ w)) + w ≡ length (decimal n)
+cut-count zero n h = omega (arith, ap (λ (x : ℕ). length (decimal x)) (div-one n))
+cut-count (suc w) n h =
+    elim (decLe 10 n) [
+      | yes g ↦
+          let e = ap (λ (x : ℕ). length (decimal x)) (cut-more w n) in
+          omega (arith, count-more n g, e, cut-count w (n / 10) (omega (arith, count-more n g)))
+      | no g ↦ absurd (omega (arith, count-small n (lt-of-not-le g)))
+    ]
+
+-- where it has no more than w, nothing is left
+pub cut-none : (w n : ℕ) → length (decimal n) ≤ w → n / 10 ^ w ≡ 0
+cut-none zero n h =
+    elim (decLe 10 n) [
+      | yes g ↦ absurd (omega (arith, count-more n g))
+      | no g ↦ absurd (omega (arith, count-small n (lt-of-not-le g)))
+    ]
+cut-none (suc w) n h =
+    elim (decLe 10 n) [
+      | yes g ↦ cut-more w n ∙ cut-none w (n / 10) (omega (arith, count-more n g))
+      | no g ↦
+          let l = lt-of-not-le g in
+          let z : n / 10 ≡ 0 = omega arith in
+          cut-more w n ∙ ap (λ (x : ℕ). x / 10 ^ w) z ∙ zero-div (10 ^ w)
+    ]
+
 -- a number below 10 ^ (w + 1) has at most w + 1 digits
 pub decimal-length : (w n : ℕ) → n < 10 ^ suc w → length (decimal n) ≤ suc w
 decimal-length zero n h = rw (decimal-small n h) (omega arith)
@@ -88,10 +125,6 @@ unfolding decimal
 decimal-ascii n = in-ascii n n (omega arith)
 
 -- ---- so many digits
-
--- without the last digit, and then without w more
-pub cut-more : (w n : ℕ) → n / 10 ^ suc w ≡ n / 10 / 10 ^ w
-cut-more w n = ap (λ (x : ℕ). n / x) (pow-suc 10 w ∙ mul-comm (10 ^ w) 10) ∙ sym (div-div-eq-div-mul n 10 (10 ^ w))
 
 pub fixed-more : (w n : ℕ) → fixed (suc w) n ≡ fixed w (n / 10) ++ (digit (n % 10) ∷ [])
 unfolding fixed

@@ -1,9 +1,10 @@
 -- The canonical text: it is UTF-8, and how long it can be. Assumes nothing.
-use mathlib.Core.Path.{_≡_, refl}
+use mathlib.Core.Path.{_≡_, refl, ap}
 use mathlib.Core.Bool.{Bool, true, false, cond}
 use mathlib.Core.List.{List, [], _∷_, _++_}
 use Prim.Native.Nat.{ℕ, zero, suc, _+_, _*_, _/_, _%_, _^_, _≤_, _<_}
-use native.Mathlib.Nat.{div-le-self}
+use native.Mathlib.Decide.{decLe}
+use native.Mathlib.Nat.{lt-of-not-le}
 use native.Mathlib.Omega.{arith}
 use lib.Dec.{eqb, leb}
 use lib.IntN.{ℤ, pos, negsuc, natAbs}
@@ -23,7 +24,8 @@ use Rattle.meaning.specs.Tape.{records, elementsRecords, membersRecords,
 use Rattle.meaning.specs.Canonical.{decimal, fixed, trimmed, quoted, binaryText, minusText, powerText, zeros, pointed, finiteText, numberText}
 use Rattle.meaning.specs.Canonical.{dateText, fractionText, clockText, minutesText, offsetText, timeText, elementsComma, membersComma}
 use Rattle.meaning.specs.Canonical.{textWith, canonical, elementsText, membersText}
-use Rattle.meaning.proofs.Digits.{Ascii, ascii-append, decimal-ascii, decimal-length, fixed-ascii, fixed-length, trimmed-ascii, trimmed-length}
+use Rattle.meaning.proofs.Digits.{Ascii, ascii-append, decimal-ascii, count-small, cut-count, cut-none, decimal-length, fixed-ascii, fixed-length}
+use Rattle.meaning.proofs.Digits.{trimmed-ascii, trimmed-length}
 use Rattle.meaning.proofs.Fitting.{finite-below, finite-power}
 use Rattle.meaning.proofs.Quotes.{octets-append, ascii-octets, quoted-octets, quoted-length, escapes-length, pairs-length, binary-ascii}
 
@@ -70,14 +72,25 @@ pointed-ascii : (n c : ℕ) → Ascii (pointed n c)
 unfolding pointed
 pointed-ascii n c = between (decimal (c / 10 ^ n)) (fixed n c) (ch ".") (decimal-ascii (c / 10 ^ n)) (omega arith) (fixed-ascii n c)
 
-pub pointed-length : (n c : ℕ) → length (pointed n c) ≡ length (decimal (c / 10 ^ n)) + 1 + n
+pointed-length : (n c : ℕ) → length (pointed n c) ≡ length (decimal (c / 10 ^ n)) + 1 + n
 unfolding pointed
 pointed-length n c = omega (arith, between-length (decimal (c / 10 ^ n)) (fixed n c) (ch "."), fixed-length n c)
 
-pointed-short : (n c : ℕ) → c < 10 ^ 20 → length (pointed n c) ≤ 21 + n
-pointed-short n c h =
-    let q = div-le-self c (10 ^ n) in
-    omega (arith, pointed-length n c, decimal-length 19 (c / 10 ^ n) (omega arith))
+-- with no digit in front but 0, and with some
+pub pointed-few : (n c : ℕ) → length (decimal c) ≤ n → length (pointed n c) ≡ n + 2
+pointed-few n c h =
+    let z = ap (λ (m : ℕ). length (decimal m)) (cut-none n c h) in
+    omega (arith, pointed-length n c, z, count-small 0 (omega arith))
+
+pub pointed-more : (n c : ℕ) → n < length (decimal c) → length (pointed n c) ≡ length (decimal c) + 1
+pointed-more n c h = omega (arith, pointed-length n c, cut-count n c h)
+
+pointed-short : (n c : ℕ) → length (decimal c) ≤ 20 → n ≤ 20 → length (pointed n c) ≤ 22
+pointed-short n c h l =
+    elim (decLe (length (decimal c)) n) [
+      | yes g ↦ omega (arith, pointed-few n c g)
+      | no g ↦ omega (arith, pointed-more n c (lt-of-not-le g))
+    ]
 
 finite-ascii : (c : ℕ) (p : ℤ) → Ascii (finiteText c p)
 unfolding finiteText
@@ -92,17 +105,17 @@ finite-ascii c (negsuc n) = go (leb (suc n) plainDigits)
     go true = pointed-ascii (suc n) c
     go false = ascii-append (decimal c) (powerText (negsuc n)) (decimal-ascii c) (power-ascii (negsuc n))
 
-finite-length : (c : ℕ) (p : ℤ) → c < 10 ^ 20 → natAbs p ≤ powerLimit → length (finiteText c p) ≤ 41
+finite-length : (c : ℕ) (p : ℤ) → c < 10 ^ 20 → natAbs p ≤ powerLimit → length (finiteText c p) ≤ 26
 unfolding finiteText
 finite-length c (pos p) h k = go (leb (length (decimal c) + p) plainDigits) refl
   where
-    go : (b : Bool) → leb (length (decimal c) + p) plainDigits ≡ b → length (decimal c ++ cond b (zeros p) (powerText (pos p))) ≤ 41
+    go : (b : Bool) → leb (length (decimal c) + p) plainDigits ≡ b → length (decimal c ++ cond b (zeros p) (powerText (pos p))) ≤ 26
     go true e = omega (arith, leb-true (length (decimal c) + p) plainDigits e, length-append (decimal c) (zeros p), zeros-length p)
     go false e = omega (arith, length-append (decimal c) (powerText (pos p)), decimal-length 19 c h, power-length (pos p) k)
 finite-length c (negsuc n) h k = go (leb (suc n) plainDigits) refl
   where
-    go : (b : Bool) → leb (suc n) plainDigits ≡ b → length (cond b (pointed (suc n) c) (decimal c ++ powerText (negsuc n))) ≤ 41
-    go true e = omega (arith, leb-true (suc n) plainDigits e, pointed-short (suc n) c h)
+    go : (b : Bool) → leb (suc n) plainDigits ≡ b → length (cond b (pointed (suc n) c) (decimal c ++ powerText (negsuc n))) ≤ 26
+    go true e = omega (arith, leb-true (suc n) plainDigits e, pointed-short (suc n) c (decimal-length 19 c h) (leb-true (suc n) plainDigits e))
     go false e = omega (arith, length-append (decimal c) (powerText (negsuc n)), decimal-length 19 c h, power-length (negsuc n) k)
 
 pub number-ascii : (n : Number) → Ascii (numberText n)
@@ -111,7 +124,7 @@ number-ascii (Finite minus c p) = ascii-append (minusText minus) (finiteText c p
 number-ascii NotANumber = omega arith
 number-ascii (Infinite minus) = ascii-append (minusText minus) (letters "Infinity") (minus-ascii minus) (omega arith)
 
-pub number-length : (n : Number) → GoodNumber n → length (numberText n) ≤ 42
+pub number-length : (n : Number) → GoodNumber n → length (numberText n) ≤ 27
 unfolding numberText
 number-length (Finite minus c p) g =
     omega (
@@ -259,7 +272,7 @@ mutual
       (plain (letters ":") (omega arith)))
       (canonical-octets m (p .2))
 
--- ---- how long it can be: at most 46 for a record and 6 for a store byte, a comma included
+-- ---- how long it can be: at most 40 for a record and 6 for a store byte, a comma included
 
 elements-comma-length : (ms : Meanings) → length (elementsComma ms) ≤ 1
 elements-comma-length none = omega arith
@@ -272,7 +285,7 @@ members-comma-length (member ms k m) = omega arith
 mutual
   unfolding textWith records storeOf binaryText
 
-  pub canonical-short : (m : Meaning) → GoodParts m → length (canonical m) + 1 ≤ 46 * records m + 6 * length (storeOf m)
+  pub canonical-short : (m : Meaning) → GoodParts m → length (canonical m) + 1 ≤ 40 * records m + 6 * length (storeOf m)
   canonical-short null p = omega arith
   canonical-short (bool true) p = omega arith
   canonical-short (bool false) p = omega arith
@@ -287,7 +300,7 @@ mutual
       let h = members-short ms p in
       simp length-append (omega arith)
 
-  elements-short : (ms : Meanings) → GoodElements ms → length (elementsText ms) ≤ 46 * elementsRecords ms + 6 * length (elementsStore ms)
+  elements-short : (ms : Meanings) → GoodElements ms → length (elementsText ms) ≤ 40 * elementsRecords ms + 6 * length (elementsStore ms)
   elements-short none p = omega arith
   elements-short (more ms m) p =
       let h = elements-short ms (p .0) in
@@ -295,7 +308,7 @@ mutual
       let c = elements-comma-length ms in
       simp length-append (omega arith)
 
-  members-short : (ms : Members) → GoodMembers ms → length (membersText ms) ≤ 46 * membersRecords ms + 6 * length (membersStore ms)
+  members-short : (ms : Members) → GoodMembers ms → length (membersText ms) ≤ 40 * membersRecords ms + 6 * length (membersStore ms)
   members-short bare p = omega arith
   members-short (member ms s m) p =
       let h = members-short ms (p .0) in

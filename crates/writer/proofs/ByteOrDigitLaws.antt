@@ -4,7 +4,7 @@ use mathlib.Core.Bool.{true}
 use mathlib.Core.List.{List, [], _∷_, _++_, append-assoc, append-nil}
 use Prim.Native.Nat.{ℕ, zero, suc, _+_, _-_, _*_, _/_, _%_, _^_, _≤_, _<_}
 use native.Mathlib.Decide.{decLe}
-use native.Mathlib.Nat.{lt-of-not-le, pow-suc, pow-le-pow-right, div-one, zero-div}
+use native.Mathlib.Nat.{lt-of-not-le, pow-suc, pow-le-pow-right}
 use native.Mathlib.Numerals.{add-one}
 use native.Mathlib.Omega.{arith}
 use lib.Count.{leadingZeros, leading-length}
@@ -12,7 +12,7 @@ use lib.Dec.{leb}
 use lib.ListN.{length, set, length-append}
 use borrow.Author.Tests.{leb-true}
 use Rattle.meaning.specs.Canonical.{digit, decimal, fixed}
-use Rattle.meaning.proofs.Digits.{decimal-small, decimal-more, cut-more, fixed-more, fixed-length}
+use Rattle.meaning.proofs.Digits.{decimal-small, decimal-more, count-more, count-small, fixed-more, fixed-length}
 use Rattle.writer.specs.Between.Laid.{laidAt, Put, PutAt}
 use Rattle.rules.proofs.Computed.{below, agree, agreed}
 use Rattle.writer.specs.Between.Pieces.{Power, Reaches}
@@ -133,39 +133,6 @@ whole-end w n o {out′ = out′} {i} {rest} f p h =
     let y : i ≡ i - 0 = omega arith in
     subst (λ (x : ℕ). Put (fixed w n) o out′ x) z
     (put-whole (filled-under w n 0 o f (put-at-as (ap (λ (k : ℕ). fixed k rest) y) p) (omega arith)))
-
-pub count-more : (n : ℕ) → 10 ≤ n → length (decimal n) ≡ length (decimal (n / 10)) + 1
-count-more n h = ap length (decimal-more n h) ∙ length-append (decimal (n / 10)) (digit (n % 10) ∷ [])
-
-pub count-small : (n : ℕ) → n < 10 → length (decimal n) ≡ 1
-count-small n h = ap length (decimal-small n h)
-
--- without the last w of its digits
-pub cut-count : (w n : ℕ) → w < length (decimal n) → length (decimal (n / 10 ^ w)) + w ≡ length (decimal n)
-cut-count zero n h = omega (arith, ap (λ (x : ℕ). length (decimal x)) (div-one n))
-cut-count (suc w) n h =
-    elim (decLe 10 n) [
-      | yes g ↦
-          let e = ap (λ (x : ℕ). length (decimal x)) (cut-more w n) in
-          omega (arith, count-more n g, e, cut-count w (n / 10) (omega (arith, count-more n g)))
-      | no g ↦ absurd (omega (arith, count-small n (lt-of-not-le g)))
-    ]
-
--- where it has no more than w, nothing is left
-pub cut-none : (w n : ℕ) → length (decimal n) ≤ w → n / 10 ^ w ≡ 0
-cut-none zero n h =
-    elim (decLe 10 n) [
-      | yes g ↦ absurd (omega (arith, count-more n g))
-      | no g ↦ absurd (omega (arith, count-small n (lt-of-not-le g)))
-    ]
-cut-none (suc w) n h =
-    elim (decLe 10 n) [
-      | yes g ↦ cut-more w n ∙ cut-none w (n / 10) (omega (arith, count-more n g))
-      | no g ↦
-          let l = lt-of-not-le g in
-          let z : n / 10 ≡ 0 = omega arith in
-          cut-more w n ∙ ap (λ (x : ℕ). x / 10 ^ w) z ∙ zero-div (10 ^ w)
-    ]
 
 -- by the powers of ten that it lies between
 pub decimal-size : (w n : ℕ) → 10 ^ w ≤ n → n < 10 ^ suc w → length (decimal n) ≡ suc w

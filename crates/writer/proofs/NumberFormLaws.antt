@@ -15,14 +15,14 @@ use borrow.Author.Tests.{le-leb, lt-leb}
 use Rattle.meaning.specs.Letters.{letters, ch}
 use Rattle.meaning.specs.Limits.{plainDigits}
 use Rattle.meaning.specs.Canonical.{digit, decimal, fixed, powerText, zeros, pointed, finiteText}
-use Rattle.meaning.proofs.Digits.{decimal-small, fixed-length}
-use Rattle.meaning.proofs.Text.{pointed-length}
+use Rattle.meaning.proofs.Digits.{decimal-small, cut-count, cut-none, fixed-length}
+use Rattle.meaning.proofs.Text.{pointed-few as few, pointed-more as more}
 use Rattle.writer.specs.declared.Form.{Form}
 use Rattle.writer.specs.declared.Form.the-variants.{Zeros, Point, Power as WithPower}
 use Rattle.writer.specs.declared.Signed.{Signed}
 use Rattle.writer.specs.Between.Pieces as P
 use Rattle.writer.specs.Between.Pieces.{negative, SignAndSize, FormOf, PointedLength, Power}
-use Rattle.writer.proofs.ByteOrDigitLaws.{cut-count, cut-none, decimal-fixed}
+use Rattle.writer.proofs.ByteOrDigitLaws.{decimal-fixed}
 
 -- ---- the form by the sign and the size of the power
 
@@ -115,12 +115,10 @@ module _ (c d : ℕ) (e : d ≡ length (decimal c)) where
       (decimal-fixed q ∙ ap₂ (λ (k m : ℕ). fixed k m) z (ap (λ (m : ℕ). c / m) (sym (x .some l))))
 
   pub few-length : {n : ℕ} → d ≤ n → length (pointed n c) ≡ n + 2
-  few-length {n} h =
-      let z = ap (λ (m : ℕ). length (decimal m)) (cut-none n c (omega arith)) ∙ ap length (decimal-small 0 (omega arith)) in
-      omega (arith, pointed-length n c, z)
+  few-length {n} h = few n c (omega arith)
 
   pub more-length : {n : ℕ} → n < d → length (pointed n c) ≡ d + 1
-  more-length {n} h = omega (arith, pointed-length n c, cut-count n c (omega arith))
+  more-length {n} h = omega (arith, more n c (omega arith))
 
   pub pointed-size : {n r : ℕ} → PointedLength d n r → r ≡ length (pointed n c)
   pointed-size {n} x =

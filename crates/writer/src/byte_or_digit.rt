@@ -90,7 +90,7 @@ fn reaches(n: u64, p: u64) -> usize
 }
 
 // 10 to the power t, and 0 where t is 0. A match of one number, with an arm for each of its values, is compiled to a table.
-pub fn power(t: usize) -> u64
+pub(crate) fn power(t: usize) -> u64
     requires { ⌜ t < 20 ⌝ }
     ensures { λ r. ⌜ Power t r ⌝ }
 {

@@ -98,12 +98,12 @@ fn pointed_at(out: &mut [u8], at: usize, d: usize, n: usize, c: u64) -> usize
     ensures { λ r. ⌜ PutAt (pointed n c) at (now (out .entry)) (now (out .exit)) r ⌝ }
 {
     if d <= n {
-        let few = byte_or_digit::bytes_at(out, at, b"0.");
-        return byte_or_digit::digits_at(out, few, n, c);
+        let first = byte_or_digit::bytes_at(out, at, b"0.");
+        return byte_or_digit::digits_at(out, first, n, c);
     }
     let point = byte_or_digit::digits_at(out, at, d - n, c / byte_or_digit::power(n));
-    let rest = byte_or_digit::byte_at(out, point, b'.');
-    byte_or_digit::digits_at(out, rest, n, c)
+    let first = byte_or_digit::byte_at(out, point, b'.');
+    byte_or_digit::digits_at(out, first, n, c)
 }
 
 // The length of the same.

@@ -343,8 +343,8 @@ refuses-filed f r k =
     let store = unnamed (bytes m) in
     let lent = k (filed m) tape store (text-lent (x .loose)) (zeros (tapeBytes m) (omega (arith, y .few))) (zeros (bytes m) (omega (arith, y .small))) in
     let p =
-        filed-before .held {m = m} (small-hundred .good) (omega (arith, filed-length)) (omega (arith, le-length (tapeBytes m) 0))
-        (omega (arith, le-length (bytes m) 0)) lent .answer in
+    filed-before .held {m = m} (small-hundred .good) (omega (arith, filed-length)) (omega (arith, le-length (tapeBytes m) 0))
+    (omega (arith, le-length (bytes m) 0)) lent .answer in
     let q = r m tape store (λ e. omega (arith, filed-length, hundred-length, ap length e)) .1 in
     let z : _≡_ {A = ℕ} 0 1 = cc in
     omega arith

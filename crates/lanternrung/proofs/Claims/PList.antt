@@ -83,7 +83,8 @@ keys-twice = (
 
 both : All samples × All slips
 unfolding verdict decoded judged faultFrom lengthAt isWide lowOf highOf leadingZeros encode isLeap isDate depthLimit decimalIn decimal fixed trimmed escaped
-    escapes quoted hexPairs binaryText powerText zeros pointed finiteText numberText dateText fractionText clockText timeText textWith strip settle read reading S.hexOf
+    escapes quoted hexPairs binaryText powerText zeros pointed finiteText numberText dateText fractionText clockText timeText textWith strip settle read reading
+    S.hexOf
     S.shortOf S.alone S.unit S.inBraces S.hexed S.onHex S.onBrace S.onShort S.plainByte S.onBody S.lineByte S.onLines S.scan B.onDigit B.onShort B.onText B.scan
     N.classOf N.onStart N.onName N.scan N.wordScan once onceElements
 both = (

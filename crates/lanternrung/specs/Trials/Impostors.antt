@@ -144,7 +144,8 @@ pub record Impostors : Type 0 where
   -- a writer that prints an object with two equal keys
   pub repeated-jaxn : (f : Writer) → PrintsTwice f → KeepsJaxn f → ⊥
   pub repeated-json : (f : Writer) → PrintsTwice f → KeepsJson f → ⊥
-  -- a writer that goes on in the old form; a reader that takes no text in the old form but where the new one is the same
+  -- a writer that goes on in the old form; a reader that takes no text in the old form but where the new one is the
+  -- same
   pub files-jaxn : (f : Writer) → Files f → KeepsJaxn f → ⊥
   pub files-json : (f : Writer) → Files f → KeepsJson f → ⊥
   pub refuses-filed : (f : Reader)

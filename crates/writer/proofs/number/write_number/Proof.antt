@@ -29,7 +29,8 @@ finite-at-requires c κs = omega (
   arith,
   c .before .before .before .before .before .before .before .before .before .pre,
   ap length (ap numberText (c .before .before .before .before .before .before .n .given .1)
-      ∙ finite-text ((c .before .before .before .before .before .before .n .given .0) .0) ((c .before .before .before .before .before .before .n .given .0) .1 .0)
+      ∙ finite-text ((c .before .before .before .before .before .before .n .given .0) .0)
+      ((c .before .before .before .before .before .before .n .given .0) .1 .0)
       ((c .before .before .before .before .before .before .n .given .0) .1 .1 .0)),
   length-append (minusText ((c .before .before .before .before .before .before .n .given .0) .0))
       (finiteText ((c .before .before .before .before .before .before .n .given .0) .1 .0)
