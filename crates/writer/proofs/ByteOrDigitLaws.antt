@@ -13,10 +13,10 @@ use lib.ListN.{length, set, length-append}
 use borrow.Author.Tests.{leb-true}
 use Rattle.meaning.specs.Canonical.{digit, decimal, fixed}
 use Rattle.meaning.proofs.Digits.{decimal-small, decimal-more, count-more, count-small, fixed-more, fixed-length}
-use Rattle.writer.specs.Between.Laid.{laidAt, Put, PutAt}
+use Rattle.writer.specs.Between.Laid.{laidAt, PutAt}
 use Rattle.rules.proofs.Computed.{below, agree, agreed}
 use Rattle.writer.specs.Between.Pieces.{Power, Reaches}
-use Rattle.writer.proofs.LaidLaws.{laid-before, laid-under, put-at-as, put-none, put-length, put-whole}
+use Rattle.writer.proofs.LaidLaws.{laid-before, laid-under, put-at-as, put-none, put-byte, put-length}
 
 -- the last digits of n stand from the place `at + k` on; the k digits of `rest` are to come before them
 pub record Filling (w n at : ℕ) (o out : List ℕ) (i rest : ℕ) : Type 0 where
@@ -51,6 +51,19 @@ module _ (w n at : ℕ) (o : List ℕ) where
                 ap (λ (l : List ℕ). set l (i - 1) (digit (rest % 10))) (f .text ∙ ap (λ (p : ℕ). laidAt (f .done) p o) j)
                 ∙ laid-before (digit (rest % 10)) (i - 1) (f .done) o (omega arith);
           }
+
+  -- two digits more
+  pub fill-two : {out : List ℕ} {i rest : ℕ} → Filling w n at o out i rest → at + 2 ≤ i → at + w ≤ length o
+      → Filling w n at o (set (set out (i - 1) (digit (rest % 100 % 10))) (i - 2) (digit (rest % 100 / 10))) (i - 2) (rest / 100)
+  fill-two {out} {i} {rest} f h r =
+      let d : i - 1 - 1 ≡ i - 2 = omega arith in
+      let p : digit (rest % 10) ≡ digit (rest % 100 % 10) = omega arith in
+      let q : digit (rest / 10 % 10) ≡ digit (rest % 100 / 10) = omega arith in
+      let x : rest / 10 / 10 ≡ rest / 100 = omega arith in
+      subst (λ (m : List ℕ). Filling w n at o m (i - 2) (rest / 100)) (λ k. set (set out (i - 1) (p k)) (d k) (q k))
+      (subst (λ (y : ℕ). Filling w n at o (set (set out (i - 1) (digit (rest % 10))) (i - 1 - 1) (digit (rest / 10 % 10))) y (rest / 100)) d
+      (subst (λ (y : ℕ). Filling w n at o (set (set out (i - 1) (digit (rest % 10))) (i - 1 - 1) (digit (rest / 10 % 10))) (i - 1 - 1) y) x
+      (fill (fill f (omega arith) r) (omega arith) r)))
 
   -- four digits more
   pub fill-four : {out : List ℕ} {i rest : ℕ} → Filling w n at o out i rest → at + 4 ≤ i → at + w ≤ length o
@@ -103,19 +116,6 @@ module _ (w n at : ℕ) (o : List ℕ) where
             ∙ ap (λ (x : List ℕ). laidAt x at o) (sym (f .whole));
       }
 
-  pub filled : {out : List ℕ} {i rest : ℕ} → Filling w n at o out i rest → i ≤ at → PutAt (fixed w n) at o out (at + w)
-  unfolding fixed
-  filled {out} {i} {rest} f h = go (f .k) (f .here) (f .whole)
-    where
-      go : (k : ℕ) → i ≡ at + k → fixed w n ≡ fixed k rest ++ f .done → PutAt (fixed w n) at o out (at + w)
-      go zero e x =
-          let z : i ≡ at = omega arith in
-          record {
-            next = ap (λ (x : ℕ). at + x) (sym (fixed-length w n));
-            text = f .text ∙ ap (λ (p : ℕ). laidAt (f .done) p o) z ∙ ap (λ (l : List ℕ). laidAt l at o) (sym x);
-          }
-      go (suc k) e x = absurd (omega arith)
-
   pub fill-length : {out : List ℕ} {i rest : ℕ} → Filling w n at o out i rest → at + w ≤ length o → length out ≡ length o
   fill-length {out} {i} {rest} f h =
       let l = ap length (f .whole) ∙ length-append (fixed (f .k) rest) (f .done) in
@@ -126,13 +126,24 @@ module _ (w n at : ℕ) (o : List ℕ) where
 pub whole-begin : (w n : ℕ) (o : List ℕ) → Filling w n 0 o o w n
 whole-begin w n o = let z : 0 + w ≡ w = omega arith in subst (λ (x : ℕ). Filling w n 0 o o x n) z (fill-begin w n 0 o)
 
-pub whole-end : (w n : ℕ) (o : List ℕ) {out out′ : List ℕ} {i rest r : ℕ} → Filling w n 0 o out i rest → PutAt (fixed i rest) 0 out out′ r
-    → w ≤ length o → Put (fixed w n) o out′ w
-whole-end w n o {out′ = out′} {i} {rest} f p h =
+pub whole-under : (w n : ℕ) (o : List ℕ) {out out′ : List ℕ} {i rest r : ℕ} → Filling w n 0 o out i rest → PutAt (fixed i rest) 0 out out′ r
+    → w ≤ length o → PutAt (fixed w n) 0 o out′ w
+whole-under w n o {out′ = out′} {i} {rest} f p h =
     let z : 0 + w ≡ w = omega arith in
     let y : i ≡ i - 0 = omega arith in
-    subst (λ (x : ℕ). Put (fixed w n) o out′ x) z
-    (put-whole (filled-under w n 0 o f (put-at-as (ap (λ (k : ℕ). fixed k rest) y) p) (omega arith)))
+    subst (λ (x : ℕ). PutAt (fixed w n) 0 o out′ x) z (filled-under w n 0 o f (put-at-as (ap (λ (k : ℕ). fixed k rest) y) p) (omega arith))
+
+-- ---- one digit, or none
+
+pub none-put : (w n : ℕ) (o : List ℕ) → w ≡ 0 → PutAt (fixed w n) 0 o o 0
+unfolding fixed
+none-put w n o e = put-at-as (ap (λ (k : ℕ). fixed k n) (sym e)) (put-none 0 o)
+
+pub one-put : (w n : ℕ) (o : List ℕ) → w ≡ 1 → 0 < length o → PutAt (fixed w n) 0 o (set o 0 (digit (n % 10))) 1
+unfolding fixed
+one-put w n o e h = put-at-as (ap (λ (k : ℕ). fixed k n) (sym e)) (put-byte (digit (n % 10)) 0 o h)
+
+-- ---- how many
 
 -- by the powers of ten that it lies between
 pub decimal-size : (w n : ℕ) → 10 ^ w ≤ n → n < 10 ^ suc w → length (decimal n) ≡ suc w

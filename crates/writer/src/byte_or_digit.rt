@@ -37,24 +37,34 @@ pub fn bytes_at(out: &mut [u8], at: usize, s: &[u8]) -> usize
     at + write_bytes(&mut out[at..], s)
 }
 
-// The last w decimal digits of n, with the zeros in front; filled from the last one on.
-fn ones_at(out: &mut [u8], at: usize, w: usize, n: u64) -> usize
-    requires { ⌜ at + w ≤ length (now out) ⌝ }
-    ensures { λ r. ⌜ PutAt (fixed w n) at (now (out .entry)) (now (out .exit)) r ⌝ }
+// The last decimal digit of n, where w is 1, at the start of the output.
+fn one_digit(out: &mut [u8], w: usize, n: u64) -> usize
+    requires { ⌜ (w < 2) × (w ≤ length (now out)) ⌝ }
+    ensures { λ r. ⌜ PutAt (fixed w n) 0 (now (out .entry)) (now (out .exit)) r ⌝ }
 {
-    let end = at + w;
-    let mut i = end;
-    let mut rest = n;
-    while i > at {
-        i -= 1;
-        let d = (rest % 10) as u8;
-        out[i] = b'0' + d;
-        rest = rest / 10;
+    if w == 0 {
+        return 0;
     }
-    end
+    out[0] = b'0' + (n % 10) as u8;
+    1
 }
 
-// The same into the lent part of the output, from its start, four by one division as long as there are four.
+// The last w decimal digits of n, at most three, with the zeros in front; two of them at once.
+fn few_digits(out: &mut [u8], w: usize, n: u64) -> usize
+    requires { ⌜ (w < 4) × (w ≤ length (now out)) ⌝ }
+    ensures { λ r. ⌜ PutAt (fixed w n) 0 (now (out .entry)) (now (out .exit)) r ⌝ }
+{
+    if w < 2 {
+        return one_digit(out, w, n);
+    }
+    let two = n % 100;
+    out[w - 1] = b'0' + (two % 10) as u8;
+    out[w - 2] = b'0' + (two / 10) as u8;
+    one_digit(out, w - 2, n / 100);
+    w
+}
+
+// The same of any w, four by one division as long as there are four.
 fn write_digits(out: &mut [u8], w: usize, n: u64) -> usize
     requires { ⌜ w ≤ length (now out) ⌝ }
     ensures { λ r. ⌜ Put (fixed w n) (now (out .entry)) (now (out .exit)) r ⌝ }
@@ -70,7 +80,7 @@ fn write_digits(out: &mut [u8], w: usize, n: u64) -> usize
         out[i] = b'0' + (four / 1000) as u8;
         rest = rest / 10000;
     }
-    ones_at(out, 0, i, rest);
+    few_digits(out, i, rest);
     w
 }
 

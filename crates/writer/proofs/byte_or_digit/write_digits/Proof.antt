@@ -1,7 +1,8 @@
 -- `byte_or_digit::write_digits`: four at a time, then those that are left. Assumes nothing.
 use native.Mathlib.Omega.{arith}
 use lib.ListN.{length-set}
-use Rattle.writer.proofs.ByteOrDigitLaws.{Filling, whole-begin, fill-four, whole-end, fill-length}
+use Rattle.writer.proofs.LaidLaws.{put-whole}
+use Rattle.writer.proofs.ByteOrDigitLaws.{Filling, whole-begin, fill-four, whole-under, fill-length}
 use borrow.Author.Needs.{needs}
 use Rattle.writer.proofs.byte_or_digit.write_digits.Statement.{statement}
 use Rattle.writer.proofs.byte_or_digit.write_digits.Tie as tie
@@ -94,26 +95,29 @@ loop-less c = search needs
 loop-again : tie.Need-loop-again Inv-loop μ-loop
 loop-again c = fill-four _ _ _ _ (c .before .loop .inv) (omega (arith, c .loop-test .taken)) (omega (arith, c .before .before .before .pre))
 
-ones-at-requires : tie.Need-ones-at-requires Inv-loop μ-loop
-ones-at-requires c κs = omega (
-  arith,
-  fill-length _ _ _ _ (c .before .before .loop .inv) (omega (arith, c .before .before .before .before .pre)),
-  c .before .before .before .before .pre,
-  c .before .before .loop .inv .here,
-  c .before .before .loop .inv .some,
+few-digits-requires : tie.Need-few-digits-requires Inv-loop μ-loop
+few-digits-requires c κs = (
+  omega (arith, c .before .loop-test .left),
+  omega (
+    arith,
+    fill-length _ _ _ _ (c .before .before .loop .inv) (omega (arith, c .before .before .before .before .pre)),
+    c .before .before .before .before .pre,
+    c .before .before .loop .inv .here,
+    c .before .before .loop .inv .some,
+  ),
 )
 
 same-length : tie.Need-same-length Inv-loop μ-loop
 same-length c = omega (
   arith,
-  c .before .before .ones-at .kept .0,
+  c .before .before .few-digits .kept .0,
   fill-length _ _ _ _ (c .before .before .before .before .before .loop .inv)
       (omega (arith, c .before .before .before .before .before .before .before .pre)),
 )
 
 returns : tie.Need-returns Inv-loop μ-loop
-returns c = whole-end _ _ _ (c .before .before .before .before .before .loop .inv) (c .before .before .ones-at .ensures)
-    (c .before .before .before .before .before .before .before .pre)
+returns c = put-whole (whole-under _ _ _ (c .before .before .before .before .before .loop .inv) (c .before .before .few-digits .ensures)
+    (c .before .before .before .before .before .before .before .pre))
 
 pub write-digits-spec : {M : Type 1} → statement M
 write-digits-spec =
@@ -139,6 +143,6 @@ write-digits-spec =
     slice-write-out-4
     loop-less
     loop-again
-    ones-at-requires
+    few-digits-requires
     same-length
     returns)
