@@ -51,6 +51,7 @@ fn kinds() -> Vec<Kind> {
         kind("one key", "{", "k", b'k', ":1}"),
         kind("many short keys", "[", "{a:1,b:2},", b' ', "]"),
         kind("many numbers", "[", "1,", b' ', "]"),
+        kind("numbers that grow", "[", "1e-20,", b' ', "]"),
         kind("times", "[", "2021-03-04 05:06:07.5-01:30,", b' ', "]"),
         kind("comments only", "", "/**/#\n", b' ', ""),
         kind("one comment", "/*", "*", b'*', "*/1"),
