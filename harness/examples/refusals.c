@@ -28,21 +28,25 @@ static lr_written json_of(const char *s)
 }
 
 /* A text that begins with a quote, holds a part so many times, and ends with a quote; its canonical text, without room for it. */
-static lr_written jaxn_of_many(const char *quote, const char *part, size_t times, const char *end)
+static lr_written jaxn_of_many(const char *begin, const char *part, size_t times, const char *end)
 {
-    size_t length = strlen(quote) + strlen(part) * times + strlen(end);
+    size_t length = strlen(begin) + strlen(part) * times + strlen(end);
     uint8_t *many = malloc(length + 1), *held = malloc(length);
     assert(many && held);
     char *at = (char *)many;
-    at = strcpy(at, quote) + strlen(quote);
+    at = strcpy(at, begin) + strlen(begin);
     for (size_t i = 0; i < times; i++)
         at = strcpy(at, part) + strlen(part);
     strcpy(at, end);
-    lr_sizes got = lanternrung_read(many, length, tape, 16, held, length);
+    lr_sizes needed = lanternrung_measure(many, length);
+    uint8_t *records = malloc(needed.records * 16);
+    assert(needed.refused == LR_DONE && records);
+    lr_sizes got = lanternrung_read(many, length, records, needed.records * 16, held, length);
     assert(got.refused == LR_DONE);
-    lr_written answer = lanternrung_write_jaxn(tape, 16, held, got.bytes, NULL, 0);
+    lr_written answer = lanternrung_write_jaxn(records, got.records * 16, held, got.bytes, NULL, 0);
     free(many);
     free(held);
+    free(records);
     return answer;
 }
 
@@ -92,6 +96,9 @@ static void writing(void)
 
     lr_written many_zeros = jaxn_of_many("\"", "\\0", 2800000, "\"");
     assert(many_zeros.refused == LR_WRITTEN_TOO_LONG && many_zeros.place == 16800002);
+
+    lr_written many_powers = jaxn_of_many("[", "1e-20,", 730000, "]");
+    assert(many_powers.refused == LR_WRITTEN_TOO_LONG && many_powers.place == 16790001);
 }
 
 static void looking(void)
