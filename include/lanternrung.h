@@ -165,9 +165,9 @@ lr_sizes lanternrung_check_finish(const uint8_t *state, size_t state_length);
 lr_record lanternrung_look(const uint8_t *tape, size_t tape_length, const uint8_t *store, size_t store_length, uint64_t index);
 
 /* The canonical JAXN text of a tape and its store, each exactly as long as used, into the output from its start; what lies past it is
- * as it was. Numbers are written as 1250.5, 0.0025 and 100000, and with a power, as 1e22 and 12e-21, only where they would have more than 20
- * digits or more than 20 behind the point (before version 5: wherever the power is not 0). 10, then 13, then 12, whose place is the length of
- * the text. */
+ * as it was. Numbers are written as 1250.5, 0.0025 and 100000, and with a power, as 1e22 and 12e-21, only where zeros would make more than
+ * 20 digits of them, or more than 20 digits would stand behind the point (before version 5: wherever the power is not 0). 10, then 13,
+ * then 12, whose place is the length of the text. */
 lr_written lanternrung_write_jaxn(const uint8_t *tape, size_t tape_length, const uint8_t *store, size_t store_length, uint8_t *out,
                                   size_t out_length);
 
