@@ -12,180 +12,180 @@ use Rattle.rules.specs.declared.Utf8Answer.{Utf8Answer}
 use Rattle.rules.specs.declared.Utf8Answer.TheVariants.{Done, IllFormed}
 use Rattle.rules.specs.Between.Decided.{judged}
 use Rattle.rules.proofs.Characters.{Each}
-use Rattle.meaning.specs.Limits.{textLimit, depthLimit}
+use Rattle.meaning.specs.Limits.{text_limit, depth_limit}
 use Rattle.meaning.specs.declared.Refusal.TheVariants.{TextTooLong, NotUtf8}
 use Rattle.machine.specs.Machine.{want, base, at, reading, Verdict, Ok, No}
 use Rattle.machine.specs.Verdict.{decoded, verdict}
 use Rattle.machine.proofs.Whole.{sound}
-use Rattle.machine.proofs.Refusals.Whole.{loose-refusals}
+use Rattle.machine.proofs.Refusals.Whole.{loose_refusals}
 use Rattle.reader.specs.declared.Answer.{Answer}
 use Rattle.reader.specs.declared.Answer.TheVariants.{Refused}
-use Rattle.reader.specs.Answers.{Loosely, answerSaid}
+use Rattle.reader.specs.Answers.{Loosely, answer_said}
 use Rattle.arriving.specs.declared.Check.{Check}
 use Rattle.arriving.specs.declared.octets.Utf.{Utf}
 use Rattle.arriving.specs.declared.states.Due.TheVariants as Due
 use Rattle.arriving.specs.declared.states.Mode.TheVariants as Mode
-use Rattle.arriving.specs.Between.Octets.{between, fedUtf}
+use Rattle.arriving.specs.Between.Octets.{between, fed_utf}
 use Rattle.arriving.specs.Between.Steps.{Stand, here_of, next, walked}
-use Rattle.arriving.specs.Between.Arriving.{core_of, checkOf, started, spent, saneMode, saneHere, sane, grown, fed, feds, endMode, endedCore}
+use Rattle.arriving.specs.Between.Arriving.{core_of, check_of, started, spent, sane_mode, sane_here, sane, grown, fed, feds, end_mode, ended_core}
 use Rattle.arriving.specs.Between.Arriving.{ended, joined}
-use Rattle.arriving.proofs.OctetsLaws.{said, octets-judged, fed-join}
-use Rattle.arriving.proofs.StepsLaws.{next_sane, walked-join}
+use Rattle.arriving.proofs.OctetsLaws.{said, octets_judged, fed_join}
+use Rattle.arriving.proofs.StepsLaws.{next_sane, walked_join}
 use Rattle.arriving.proofs.PushdownFrames.{held_none}
-use Rattle.arriving.proofs.PushdownStands.{Stands, at_base}
-use Rattle.arriving.proofs.PushdownEnds.{answer_of, walk-stands}
+use Rattle.arriving.proofs.PushdownStands.{Stands, at_base_lem}
+use Rattle.arriving.proofs.PushdownEnds.{answer_of, walk_stands}
 
 -- ---- the state after the bytes s, however they came
 
 abbrev pub start : Stand
-start = (here_of Mode.At Due.Value 0 0 0, replicate depthLimit 0)
+start = (here_of Mode.At Due.Value 0 0 0, replicate depth_limit 0)
 
 abbrev pub stood : List ℕ → Stand
 stood s = walked start 0 s
 
 abbrev pub after : List ℕ → Check
-after s = checkOf (core_of (length s) (fedUtf between 0 s) (stood s).0) (stood s).1
+after s = check_of (core_of (length s) (fed_utf between 0 s) (stood s).0) (stood s).1
 
-started-after : started ≡ after []
-unfolding walked fedUtf
-started-after = refl
+started_after : started ≡ after []
+unfolding walked fed_utf
+started_after = refl
 
-start-stands : Stands start (at (base want) depthLimit [])
-start-stands = at_base {s = want} (held_none (replicate depthLimit 0) (length-replicate depthLimit 0)) tt
+start_stands : Stands start (at (base want) depth_limit [])
+start_stands = at_base_lem {s = want} (held_none (replicate depth_limit 0) (length-replicate depth_limit 0)) tt
 
 -- ---- its bounds
 
-walked-sane : (t : List ℕ) (x : Stand) (p : ℕ) → saneHere p x.0 ≡ true → saneHere (p + length t) (walked x p t).0 ≡ true
+walked_sane : (t : List ℕ) (x : Stand) (p : ℕ) → sane_here p x.0 ≡ true → sane_here (p + length t) (walked x p t).0 ≡ true
 unfolding walked
-walked-sane [] x p h = let e : p + 0 ≡ p = omega arith in rw e h
-walked-sane (b ∷ t) x p h =
+walked_sane [] x p h = let e : p + 0 ≡ p = omega arith in rw e h
+walked_sane (b ∷ t) x p h =
     let e : p + suc (length t) ≡ suc p + length t = omega arith in
-    rw e (walked-sane t (next x p b) (suc p) (next_sane x p b h))
+    rw e (walked_sane t (next x p b) (suc p) (next_sane x p b h))
 
-start-sane : saneHere 0 start.0 ≡ true
-unfolding saneHere saneMode depthLimit
-start-sane = refl
+start_sane : sane_here 0 start.0 ≡ true
+unfolding sane_here sane_mode depth_limit
+start_sane = refl
 
-after-sane : (s : List ℕ) → length s ≤ textLimit → sane (after s).core ≡ true
+after_sane : (s : List ℕ) → length s ≤ text_limit → sane (after s).core ≡ true
 unfolding sane
-after-sane s l =
+after_sane s l =
     let e : 0 + length s ≡ length s = omega arith in
-    rw (le-leb (length s) textLimit l) (rw e at (walked-sane s start 0 start-sane))
+    rw (le-leb (length s) text_limit l) (rw e at (walked_sane s start 0 start_sane))
 
 -- ---- a part
 
-joined-check : (s t : List ℕ) → grown (after s).core t (walked (stood s) (length s) t) ≡ after (s ++ t)
-joined-check s t =
+joined_check : (s t : List ℕ) → grown (after s).core t (walked (stood s) (length s) t) ≡ after (s ++ t)
+joined_check s t =
     let e : 0 + length s ≡ length s = omega arith in
     let n : length s + length t ≡ length (s ++ t) = sym (length-append s t) in
-    let u : fedUtf (fedUtf between 0 s) (length s) t ≡ fedUtf between 0 (s ++ t) =
-    sym (fed-join between 0 s t ∙ ap (λ (p : ℕ). fedUtf (fedUtf between 0 s) p t) e) in
-    let y : walked (stood s) (length s) t ≡ stood (s ++ t) = sym (walked-join start 0 s t ∙ ap (λ (p : ℕ). walked (stood s) p t) e) in
-    λ i. checkOf (core_of (n i) (u i) (y i).0) (y i).1
+    let u : fed_utf (fed_utf between 0 s) (length s) t ≡ fed_utf between 0 (s ++ t) =
+    sym (fed_join between 0 s t ∙ ap (λ (p : ℕ). fed_utf (fed_utf between 0 s) p t) e) in
+    let y : walked (stood s) (length s) t ≡ stood (s ++ t) = sym (walked_join start 0 s t ∙ ap (λ (p : ℕ). walked (stood s) p t) e) in
+    λ i. check_of (core_of (n i) (u i) (y i).0) (y i).1
 
-fed-more : (s t : List ℕ) → length s + length t ≤ textLimit → fed (after s) t ≡ after (s ++ t)
+fed_more : (s t : List ℕ) → length s + length t ≤ text_limit → fed (after s) t ≡ after (s ++ t)
 unfolding fed
-fed-more s t l = rw (after-sane s (omega arith), le-leb (length t) (textLimit - length s) (omega arith)) (joined-check s t)
+fed_more s t l = rw (after_sane s (omega arith), le-leb (length t) (text_limit - length s) (omega arith)) (joined_check s t)
 
-fed-over : (s t : List ℕ) → length s ≤ textLimit → textLimit < length s + length t → fed (after s) t ≡ spent
+fed_over : (s t : List ℕ) → length s ≤ text_limit → text_limit < length s + length t → fed (after s) t ≡ spent
 unfolding fed
-fed-over s t l h = rw (after-sane s l, lt-leb (length t) (textLimit - length s) (omega arith)) refl
+fed_over s t l h = rw (after_sane s l, lt-leb (length t) (text_limit - length s) (omega arith)) refl
 
-fed-spent : (t : List ℕ) → fed spent t ≡ spent
+fed_spent : (t : List ℕ) → fed spent t ≡ spent
 unfolding fed sane
-fed-spent t = refl
+fed_spent t = refl
 
 -- ---- parts
 
-feds-spent : (ps : List (List ℕ)) → feds spent ps ≡ spent
+feds_spent : (ps : List (List ℕ)) → feds spent ps ≡ spent
 unfolding feds
-feds-spent [] = refl
-feds-spent (t ∷ ps) = ap (λ (x : Check). feds x ps) (fed-spent t) ∙ feds-spent ps
+feds_spent [] = refl
+feds_spent (t ∷ ps) = ap (λ (x : Check). feds x ps) (fed_spent t) ∙ feds_spent ps
 
 -- all bytes so far, or too many
 abbrev pub came : List ℕ → Check
-came s = cond (leb (length s) textLimit) (after s) spent
+came s = cond (leb (length s) text_limit) (after s) spent
 
-feds-came : (ps : List (List ℕ)) (s : List ℕ) → length s ≤ textLimit → feds (after s) ps ≡ came (s ++ joined ps)
+feds_came : (ps : List (List ℕ)) (s : List ℕ) → length s ≤ text_limit → feds (after s) ps ≡ came (s ++ joined ps)
 unfolding feds
-feds-came [] s l = rw (append-nil, le-leb (length s) textLimit l) refl
-feds-came (t ∷ ps) s l = go (leb (length s + length t) textLimit) refl (feds-came ps (s ++ t))
+feds_came [] s l = rw (append-nil, le-leb (length s) text_limit l) refl
+feds_came (t ∷ ps) s l = go (leb (length s + length t) text_limit) refl (feds_came ps (s ++ t))
   where
-    go : (x : Bool) → leb (length s + length t) textLimit ≡ x → (length (s ++ t) ≤ textLimit → feds (after (s ++ t)) ps ≡ came ((s ++ t) ++ joined ps))
+    go : (x : Bool) → leb (length s + length t) text_limit ≡ x → (length (s ++ t) ≤ text_limit → feds (after (s ++ t)) ps ≡ came ((s ++ t) ++ joined ps))
         → feds (fed (after s) t) ps ≡ came (s ++ (t ++ joined ps))
     go true e more =
-        let h : length s + length t ≤ textLimit = leb-true _ _ e in
-        ap (λ (c : Check). feds c ps) (fed-more s t h) ∙ more (omega (arith, length-append s t)) ∙ ap came (append_assoc s t (joined ps))
+        let h : length s + length t ≤ text_limit = leb-true _ _ e in
+        ap (λ (c : Check). feds c ps) (fed_more s t h) ∙ more (omega (arith, length-append s t)) ∙ ap came (append_assoc s t (joined ps))
     go false e more =
-        let h : textLimit < length s + length t = leb-false _ _ e in
-        let w : textLimit < length (s ++ (t ++ joined ps)) = omega (arith, length-append s (t ++ joined ps), length-append t (joined ps)) in
-        ap (λ (c : Check). feds c ps) (fed-over s t l h) ∙ feds-spent ps ∙ rw (lt-leb (length (s ++ (t ++ joined ps))) textLimit w) refl
+        let h : text_limit < length s + length t = leb-false _ _ e in
+        let w : text_limit < length (s ++ (t ++ joined ps)) = omega (arith, length-append s (t ++ joined ps), length-append t (joined ps)) in
+        ap (λ (c : Check). feds c ps) (fed_over s t l h) ∙ feds_spent ps ∙ rw (lt-leb (length (s ++ (t ++ joined ps))) text_limit w) refl
 
 -- from the start on
-pub feds-joined : (ps : List (List ℕ)) → feds started ps ≡ came (joined ps)
-feds-joined ps = ap (λ (c : Check). feds c ps) started-after ∙ feds-came ps [] (omega arith)
+pub feds_joined : (ps : List (List ℕ)) → feds started ps ≡ came (joined ps)
+feds_joined ps = ap (λ (c : Check). feds c ps) started_after ∙ feds_came ps [] (omega arith)
 
 -- where the text is cut makes no difference
-pub any-cut : (ps qs : List (List ℕ)) → joined ps ≡ joined qs → feds started ps ≡ feds started qs
-any-cut ps qs e = feds-joined ps ∙ ap came e ∙ sym (feds-joined qs)
+pub any_cut : (ps qs : List (List ℕ)) → joined ps ≡ joined qs → feds started ps ≡ feds started qs
+any_cut ps qs e = feds_joined ps ∙ ap came e ∙ sym (feds_joined qs)
 
 -- ---- the end
 
 -- 2 in front of what the grammar comes to
-abbrev judgedTo : Utf8Answer → Answer → Answer
-judgedTo Done a = a
-judgedTo (IllFormed k) a = Refused (NotUtf8 k)
+abbrev judged_to : Utf8Answer → Answer → Answer
+judged_to Done a = a
+judged_to (IllFormed k) a = Refused (NotUtf8 k)
 
-octets-first : (u : Utf) (a : Answer)
-    → cond u.broken (Refused (NotUtf8 u.first)) (cond (eqb u.left 0) a (Refused (NotUtf8 u.first))) ≡ judgedTo (said u) a
-octets-first u a = go u.broken (eqb u.left 0)
+octets_first : (u : Utf) (a : Answer)
+    → cond u.broken (Refused (NotUtf8 u.first)) (cond (eqb u.left 0) a (Refused (NotUtf8 u.first))) ≡ judged_to (said u) a
+octets_first u a = go u.broken (eqb u.left 0)
   where
     go : (x y : Bool) → cond x (Refused (NotUtf8 u.first)) (cond y a (Refused (NotUtf8 u.first)))
-        ≡ judgedTo (cond x (IllFormed u.first) (cond y Done (IllFormed u.first))) a
+        ≡ judged_to (cond x (IllFormed u.first) (cond y Done (IllFormed u.first))) a
     go true y = refl
     go false true = refl
     go false false = refl
 
-judged-answer : (t : List ℕ) (x : Utf8Answer) → judgedTo x (answer_of (reading t)) ≡ answer_of (decoded x t)
+judged_answer : (t : List ℕ) (x : Utf8Answer) → judged_to x (answer_of (reading t)) ≡ answer_of (decoded x t)
 unfolding decoded
-judged-answer t Done = refl
-judged-answer t (IllFormed k) = refl
+judged_answer t Done = refl
+judged_answer t (IllFormed k) = refl
 
-module _ (s : List ℕ) (small : Each (λ (b : ℕ). b < 256) s) (l : length s ≤ textLimit) where
-  grammar-ends : endMode (stood s).0 (length s) (stood s).0.mode ≡ answer_of (reading s)
+module _ (s : List ℕ) (small : Each (λ (b : ℕ). b < 256) s) (l : length s ≤ text_limit) where
+  grammar_ends : end_mode (stood s).0 (length s) (stood s).0.mode ≡ answer_of (reading s)
   unfolding reading
-  grammar-ends = let e : 0 + length s ≡ length s = omega arith in rw e at (walk-stands s 0 start-stands small (omega arith) start-sane)
+  grammar_ends = let e : 0 + length s ≡ length s = omega arith in rw e at (walk_stands s 0 start_stands small (omega arith) start_sane)
 
-  after-ends : ended (after s) ≡ answer_of (decoded (judged s) s)
-  unfolding endedCore
-  after-ends =
-      rw (after-sane s l)
-      (octets-first (fedUtf between 0 s) (endMode (stood s).0 (length s) (stood s).0.mode) ∙
-      ap (λ (a : Utf8Answer). judgedTo a (endMode (stood s).0 (length s) (stood s).0.mode)) (octets-judged s) ∙
-      ap (judgedTo (judged s)) grammar-ends ∙ judged-answer s (judged s))
+  after_ends : ended (after s) ≡ answer_of (decoded (judged s) s)
+  unfolding ended_core
+  after_ends =
+      rw (after_sane s l)
+      (octets_first (fed_utf between 0 s) (end_mode (stood s).0 (length s) (stood s).0.mode) ∙
+      ap (λ (a : Utf8Answer). judged_to a (end_mode (stood s).0 (length s) (stood s).0.mode)) (octets_judged s) ∙
+      ap (judged_to (judged s)) grammar_ends ∙ judged_answer s (judged s))
 
 spent_ends : ended spent ≡ Refused TextTooLong
-unfolding endedCore sane
+unfolding ended_core sane
 spent_ends = refl
 
-came-ends : (t : List ℕ) → Each (λ (b : ℕ). b < 256) t → ended (came t) ≡ answer_of (verdict t)
+came_ends : (t : List ℕ) → Each (λ (b : ℕ). b < 256) t → ended (came t) ≡ answer_of (verdict t)
 unfolding verdict
-came-ends t small = go (leb (length t) textLimit) refl
+came_ends t small = go (leb (length t) text_limit) refl
   where
-    go : (x : Bool) → leb (length t) textLimit ≡ x → ended (cond x (after t) spent) ≡ answer_of (cond x (decoded (judged t) t) (No TextTooLong))
-    go true e = after-ends t small (leb-true _ _ e)
+    go : (x : Bool) → leb (length t) text_limit ≡ x → ended (cond x (after t) spent) ≡ answer_of (cond x (decoded (judged t) t) (No TextTooLong))
+    go true e = after_ends t small (leb-true _ _ e)
     go false e = spent_ends
 
 -- ---- the whole
 
 -- what a check comes to is what the machine comes to on the parts joined
 pub checked : (ps : List (List ℕ)) → Each (λ (b : ℕ). b < 256) (joined ps) → ended (feds started ps) ≡ answer_of (verdict (joined ps))
-checked ps small = ap ended (feds-joined ps) ∙ came-ends (joined ps) small
+checked ps small = ap ended (feds_joined ps) ∙ came_ends (joined ps) small
 
 -- and so what `measure` may answer for them, with 15 left out
-pub checked-loosely : (ps : List (List ℕ)) → Each (λ (b : ℕ). b < 256) (joined ps) → Loosely (joined ps) (ended (feds started ps))
-checked-loosely ps small = go (verdict (joined ps)) refl
+pub checked_loosely : (ps : List (List ℕ)) → Each (λ (b : ℕ). b < 256) (joined ps) → Loosely (joined ps) (ended (feds started ps))
+checked_loosely ps small = go (verdict (joined ps)) refl
   where
     go : (v : Verdict) → verdict (joined ps) ≡ v → Loosely (joined ps) (ended (feds started ps))
-    go (Ok m) e = Loosely.sizes (sound (joined ps) m e) (ap answerSaid (checked ps small ∙ ap answer_of e))
-    go (No r) e = Loosely.no_text ((loose-refusals (joined ps) r).0 e) (ap answerSaid (checked ps small ∙ ap answer_of e))
+    go (Ok m) e = Loosely.sizes (sound (joined ps) m e) (ap answer_said (checked ps small ∙ ap answer_of e))
+    go (No r) e = Loosely.no_text ((loose_refusals (joined ps) r).0 e) (ap answer_said (checked ps small ∙ ap answer_of e))

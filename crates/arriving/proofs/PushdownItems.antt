@@ -8,7 +8,7 @@ use native.Mathlib.Omega.{arith}
 use lib.ListN.{length, length-append}
 use borrow.Author.Tests.{eq-eqb}
 use Rattle.meaning.specs.Letters.{ch}
-use Rattle.meaning.specs.Limits.{textLimit}
+use Rattle.meaning.specs.Limits.{text_limit}
 use Rattle.meaning.specs.Meaning.{Meaning}
 use Rattle.meaning.specs.Tape.{records, bytes}
 use Rattle.machine.specs.Scan as Scan
@@ -17,7 +17,7 @@ use Rattle.machine.specs.Numeric as Numeric
 use Rattle.machine.specs.Strings as Strings
 use Rattle.machine.specs.Binaries as Binaries
 use Rattle.machine.specs.Names as Names
-use Rattle.machine.specs.Machine.{Use, as-value, as-key, Item, word, numeric, string-part, binary-part, identifier, Got, value, key, string, binary, lift, scan}
+use Rattle.machine.specs.Machine.{Use, as_value, as_key, Item, word, numeric, string_part, binary_part, identifier, Got, value, key, string, binary, lift, scan}
 use Rattle.arriving.specs.declared.states.Due.{Due}
 use Rattle.arriving.specs.declared.states.Due.TheVariants as Due
 use Rattle.arriving.specs.declared.states.Mode.{Mode}
@@ -25,77 +25,77 @@ use Rattle.arriving.specs.declared.states.Mode.TheVariants as Mode
 use Rattle.arriving.specs.declared.states.Octets.TheVariants as Octets
 use Rattle.arriving.specs.declared.states.Out.{Out}
 use Rattle.arriving.specs.declared.states.Out.TheVariants.{Takes, Stops}
-use Rattle.arriving.specs.Between.Figures.{beginFigure, nextFigure}
-use Rattle.arriving.specs.Between.Times.{nextMoment}
-use Rattle.arriving.specs.Between.Strings.{openQuote, nextQuoted}
-use Rattle.arriving.specs.Between.Small.{nextWord, nextOctets, nextName}
-use Rattle.arriving.specs.Between.Arriving.{saneMode}
+use Rattle.arriving.specs.Between.Figures.{begin_figure, next_figure}
+use Rattle.arriving.specs.Between.Times.{next_moment}
+use Rattle.arriving.specs.Between.Strings.{open_quote, next_quoted}
+use Rattle.arriving.specs.Between.Small.{next_word, next_octets, next_name}
+use Rattle.arriving.specs.Between.Arriving.{sane_mode}
 use Rattle.arriving.proofs.Alike
 use Rattle.arriving.proofs.Alike.{Alike}
-use Rattle.arriving.proofs.NumericsLaws.{NumericIs, MeaningGives, numeric-begin, figures-alike, timing-alike, spelling-alike, numeric-end}
-use Rattle.arriving.proofs.StringsLaws.{StringIs, strings-alike, strings-begin, strings-end}
-use Rattle.arriving.proofs.SmallLaws.{Spelt, word-alike, word_end, NameIs, name-alike, name-begin, BinaryIs, binary-alike, binary-begin, binary-end}
-use Rattle.arriving.proofs.PushdownModes.{InNumber, spelling, counting, timing, numeric-mode, InString, quoting, string-mode}
-use Rattle.arriving.proofs.PushdownModes.{InBinary, packing, binary-mode, InName, naming, name-mode}
+use Rattle.arriving.proofs.NumericsLaws.{NumericIs, MeaningGives, numeric_begin, figures_alike, timing_alike, spelling_alike, numeric_end}
+use Rattle.arriving.proofs.StringsLaws.{StringIs, strings_alike, strings_begin, strings_end}
+use Rattle.arriving.proofs.SmallLaws.{Spelt, word_alike, word_end, NameIs, name_alike, name_begin, BinaryIs, binary_alike, binary_begin, binary_end}
+use Rattle.arriving.proofs.PushdownModes.{InNumber, spelling, counting, timing, numeric_mode, InString, quoting, string_mode}
+use Rattle.arriving.proofs.PushdownModes.{InBinary, packing, binary_mode, InName, naming, name_mode}
 
 -- ---- what an item gives
 
 -- what is due after a string part
-abbrev pub partDue : Use → Due
-partDue as-value = Due.AfterString
-partDue as-key = Due.AfterKeyString
+abbrev pub part_due : Use → Due
+part_due as_value = Due.AfterString
+part_due as_key = Due.AfterKeyString
 
-abbrev pub gotDue : Got → Due
-gotDue (value m) = Due.AfterValue
-gotDue (key u) = Due.AfterKey
-gotDue (string z u) = partDue z
-gotDue (binary u) = Due.AfterBinary
+abbrev pub got_due : Got → Due
+got_due (value m) = Due.AfterValue
+got_due (key u) = Due.AfterKey
+got_due (string z u) = part_due z
+got_due (binary u) = Due.AfterBinary
 
-abbrev pub gotRecords : Got → ℕ
-gotRecords (value m) = records m
-gotRecords (key u) = 1
-gotRecords (string z u) = 1
-gotRecords (binary u) = 1
+abbrev pub got_records : Got → ℕ
+got_records (value m) = records m
+got_records (key u) = 1
+got_records (string z u) = 1
+got_records (binary u) = 1
 
-abbrev pub gotBytes : Got → ℕ
-gotBytes (value m) = bytes m
-gotBytes (key u) = length u
-gotBytes (string z u) = length u
-gotBytes (binary u) = length u
+abbrev pub got_bytes : Got → ℕ
+got_bytes (value m) = bytes m
+got_bytes (key u) = length u
+got_bytes (string z u) = length u
+got_bytes (binary u) = length u
 
 -- one record with n store bytes, after which u is due
 pub record GotIs (u : Due) (g : Got) (n : ℕ) : Type 0 where
-  pub due : u ≡ gotDue g
-  pub one : gotRecords g ≡ 1
-  pub size : gotBytes g ≡ n
+  pub due : u ≡ got_due g
+  pub one : got_records g ≡ 1
+  pub size : got_bytes g ≡ n
 
 -- ---- an item
 
 -- The mode m stands for the machine's item, which has given n store bytes so far; u is due after it.
 pub data ItemIs (base : ℕ) : Due → Mode → Item → ℕ → Type 0 where
-  word-is : {i n : ℕ} {ls : List ℕ} {v : Meaning} → Spelt i ls → n ≡ 0 → records v ≡ 1 → bytes v ≡ 0
+  word_is : {i n : ℕ} {ls : List ℕ} {v : Meaning} → Spelt i ls → n ≡ 0 → records v ≡ 1 → bytes v ≡ 0
       → ItemIs base Due.AfterValue (Mode.Spelling i) (word ls v) n
-  numeric-is : {m : Mode} {s : Numeric.St} {n : ℕ} → NumericIs base m s n → ItemIs base Due.AfterValue m (numeric s) n
-  string-is : {u : Due} {z : Use} {a : List ℕ} {m : Mode} {s : Strings.St} {n t : ℕ} → u ≡ partDue z → t ≡ length a + n → StringIs base m s n
-      → ItemIs base u m (string-part z a s) t
-  binary-is : {a : List ℕ} {m : Mode} {s : Binaries.St} {n t : ℕ} → t ≡ length a + n → BinaryIs m s n
-      → ItemIs base Due.AfterBinary m (binary-part a s) t
-  name-is : {m : Mode} {s : Names.St} {n : ℕ} → NameIs m s n → ItemIs base Due.AfterKey m (identifier s) n
+  numeric_is : {m : Mode} {s : Numeric.St} {n : ℕ} → NumericIs base m s n → ItemIs base Due.AfterValue m (numeric s) n
+  string_is : {u : Due} {z : Use} {a : List ℕ} {m : Mode} {s : Strings.St} {n t : ℕ} → u ≡ part_due z → t ≡ length a + n → StringIs base m s n
+      → ItemIs base u m (string_part z a s) t
+  binary_is : {a : List ℕ} {m : Mode} {s : Binaries.St} {n t : ℕ} → t ≡ length a + n → BinaryIs m s n
+      → ItemIs base Due.AfterBinary m (binary_part a s) t
+  name_is : {m : Mode} {s : Names.St} {n : ℕ} → NameIs m s n → ItemIs base Due.AfterKey m (identifier s) n
 
 -- what a byte does in the mode of an item
-abbrev pub itemNext : Mode → ℕ → ℕ → Out
-itemNext Mode.At p b = Stops
-itemNext Mode.Slash p b = Stops
-itemNext Mode.Line p b = Stops
-itemNext Mode.Block p b = Stops
-itemNext Mode.Star p b = Stops
-itemNext (Mode.Spelling n) p b = nextWord n p b
-itemNext (Mode.Counting f) p b = nextFigure f p b
-itemNext (Mode.Timing s m) p b = nextMoment s m p b
-itemNext (Mode.Quoting k s) p b = nextQuoted k s p b
-itemNext (Mode.Packing o) p b = nextOctets o p b
-itemNext Mode.Naming p b = nextName b
-itemNext (Mode.Failed r) p b = Stops
+abbrev pub item_next : Mode → ℕ → ℕ → Out
+item_next Mode.At p b = Stops
+item_next Mode.Slash p b = Stops
+item_next Mode.Line p b = Stops
+item_next Mode.Block p b = Stops
+item_next Mode.Star p b = Stops
+item_next (Mode.Spelling n) p b = next_word n p b
+item_next (Mode.Counting f) p b = next_figure f p b
+item_next (Mode.Timing s m) p b = next_moment s m p b
+item_next (Mode.Quoting k s) p b = next_quoted k s p b
+item_next (Mode.Packing o) p b = next_octets o p b
+item_next Mode.Naming p b = next_name b
+item_next (Mode.Failed r) p b = Stops
 
 -- ---- from a scanner to the item with it
 
@@ -111,110 +111,110 @@ module _ {S M : Type 0} {Is : Mode → S → ℕ → Type 0} {Gives : M → ℕ 
 -- ---- each kind of item
 
 -- the value of a part, after those before it
-joined-size : (a x : List ℕ) (n t : ℕ) → t ≡ length a + n → length x ≡ n → length (a ++ x) ≡ t
-joined-size a x n t e h = rw length-append (omega arith)
+joined_size : (a x : List ℕ) (n t : ℕ) → t ≡ length a + n → length x ≡ n → length (a ++ x) ≡ t
+joined_size a x n t e h = rw length-append (omega arith)
 
 module _ (base p b : ℕ) (small : b < 256) where
-  numeric-alike : {m : Mode} (s : Numeric.St) (n : ℕ) → base + p ≤ textLimit → saneMode (base + p) m ≡ true → InNumber m → NumericIs base m s n
-      → Alike (NumericIs base) MeaningGives base n (itemNext m (base + p) b) (Numeric.scan p s b)
-  unfolding saneMode
-  numeric-alike s n l g (spelling {i = i}) h = spelling-alike base i s n p b h small
-  numeric-alike s n l g (counting {f = f}) h = figures-alike base f s n p b h small g l
-  numeric-alike s n l g (timing {s = x} {m = m}) h = timing-alike base x m s n p b h small
+  numeric_alike : {m : Mode} (s : Numeric.St) (n : ℕ) → base + p ≤ text_limit → sane_mode (base + p) m ≡ true → InNumber m → NumericIs base m s n
+      → Alike (NumericIs base) MeaningGives base n (item_next m (base + p) b) (Numeric.scan p s b)
+  unfolding sane_mode
+  numeric_alike s n l g (spelling {i = i}) h = spelling_alike base i s n p b h small
+  numeric_alike s n l g (counting {f = f}) h = figures_alike base f s n p b h small g l
+  numeric_alike s n l g (timing {s = x} {m = m}) h = timing_alike base x m s n p b h small
 
-  string-alike : {m : Mode} (s : Strings.St) (n : ℕ) → base + p ≤ textLimit → InString m → StringIs base m s n
-      → Alike (StringIs base) (λ (u : List ℕ) (m : ℕ). length u ≡ m) base n (itemNext m (base + p) b) (Strings.scan p s b)
-  string-alike s n l (quoting {k = k} {s = x}) h = strings-alike base k x s n p b h small l
+  string_alike : {m : Mode} (s : Strings.St) (n : ℕ) → base + p ≤ text_limit → InString m → StringIs base m s n
+      → Alike (StringIs base) (λ (u : List ℕ) (m : ℕ). length u ≡ m) base n (item_next m (base + p) b) (Strings.scan p s b)
+  string_alike s n l (quoting {k = k} {s = x}) h = strings_alike base k x s n p b h small l
 
-  octets-alike : {m : Mode} (s : Binaries.St) (n : ℕ) → InBinary m → BinaryIs m s n
-      → Alike BinaryIs (λ (u : List ℕ) (m : ℕ). length u ≡ m) base n (itemNext m (base + p) b) (Binaries.scan p s b)
-  octets-alike s n (packing {o = o}) h = binary-alike base o s n p b h
+  octets_alike : {m : Mode} (s : Binaries.St) (n : ℕ) → InBinary m → BinaryIs m s n
+      → Alike BinaryIs (λ (u : List ℕ) (m : ℕ). length u ≡ m) base n (item_next m (base + p) b) (Binaries.scan p s b)
+  octets_alike s n (packing {o = o}) h = binary_alike base o s n p b h
 
-  names-alike : {m : Mode} (s : Names.St) (n : ℕ) → InName m → NameIs m s n
-      → Alike NameIs (λ (u : List ℕ) (m : ℕ). length u ≡ m) base n (itemNext m (base + p) b) (Names.scan p s b)
-  names-alike s n naming h = name-alike base s n p b h
+  names_alike : {m : Mode} (s : Names.St) (n : ℕ) → InName m → NameIs m s n
+      → Alike NameIs (λ (u : List ℕ) (m : ℕ). length u ≡ m) base n (item_next m (base + p) b) (Names.scan p s b)
+  names_alike s n naming h = name_alike base s n p b h
 
 -- ---- any item
 
 -- the letters that are left of a word
 data LettersAre : Mode → List ℕ → ℕ → Type 0 where
-  letters-are : {i : ℕ} {ls : List ℕ} → Spelt i ls → LettersAre (Mode.Spelling i) ls 0
+  letters_are : {i : ℕ} {ls : List ℕ} → Spelt i ls → LettersAre (Mode.Spelling i) ls 0
 
-letters-is : {base : ℕ} {v : Meaning} → records v ≡ 1 → bytes v ≡ 0 → (m : Mode) (ls : List ℕ) (n t : ℕ) → t ≡ 0 + n → LettersAre m ls n
+letters_is : {base : ℕ} {v : Meaning} → records v ≡ 1 → bytes v ≡ 0 → (m : Mode) (ls : List ℕ) (n t : ℕ) → t ≡ 0 + n → LettersAre m ls n
     → ItemIs base Due.AfterValue m (word ls v) t
-letters-is r z m ls n t e (letters-are h) = word-is {n = t} h (omega arith) r z
+letters_is r z m ls n t e (letters_are h) = word_is {n = t} h (omega arith) r z
 
 numbered_is : {base : ℕ} (m : Mode) (s : Numeric.St) (n t : ℕ) → t ≡ 0 + n → NumericIs base m s n → ItemIs base Due.AfterValue m (numeric s) t
-numbered_is m s n t e h = let q : t ≡ n = omega arith in rw q (numeric-is h)
+numbered_is m s n t e h = let q : t ≡ n = omega arith in rw q (numeric_is h)
 
-named-is : {base : ℕ} (m : Mode) (s : Names.St) (n t : ℕ) → t ≡ 0 + n → NameIs m s n → ItemIs base Due.AfterKey m (identifier s) t
-named-is m s n t e h = let q : t ≡ n = omega arith in rw q (name-is h)
+named_is : {base : ℕ} (m : Mode) (s : Names.St) (n t : ℕ) → t ≡ 0 + n → NameIs m s n → ItemIs base Due.AfterKey m (identifier s) t
+named_is m s n t e h = let q : t ≡ n = omega arith in rw q (name_is h)
 
 -- a byte does the same to the check's item and to the machine's
-pub item-alike : (base : ℕ) (u : Due) (m : Mode) (i : Item) (n p b : ℕ) → ItemIs base u m i n → b < 256 → base + p ≤ textLimit
-    → saneMode (base + p) m ≡ true → Alike (ItemIs base u) (GotIs u) base n (itemNext m (base + p) b) (scan p i b)
-item-alike base u m i n p b (word-is {i = x} {ls = ls} {v = v} h z r q) small l sane =
-    lifted base 0 u (λ y. word y v) (λ y. value v) (letters-is r q)
-    (λ y k t e w. record { due = refl; one = r; size = omega arith }) 0 n (omega arith) (word-alike LettersAre base (λ j y w. letters-are w) x ls p b h)
-item-alike base u m i n p b (numeric-is {s = s} h) small l sane =
+pub item_alike : (base : ℕ) (u : Due) (m : Mode) (i : Item) (n p b : ℕ) → ItemIs base u m i n → b < 256 → base + p ≤ text_limit
+    → sane_mode (base + p) m ≡ true → Alike (ItemIs base u) (GotIs u) base n (item_next m (base + p) b) (scan p i b)
+item_alike base u m i n p b (word_is {i = x} {ls = ls} {v = v} h z r q) small l sane =
+    lifted base 0 u (λ y. word y v) (λ y. value v) (letters_is r q)
+    (λ y k t e w. record { due = refl; one = r; size = omega arith }) 0 n (omega arith) (word_alike LettersAre base (λ j y w. letters_are w) x ls p b h)
+item_alike base u m i n p b (numeric_is {s = s} h) small l sane =
     lifted base 0 u numeric value numbered_is (λ v k t e w. record { due = refl; one = w.0; size = omega arith }) n n (omega arith)
-    (numeric-alike base p b small s n l sane (numeric-mode h) h)
-item-alike base u m i n p b (string-is {z = z} {a = a} {s = s} {n = k} d e h) small l sane =
-    lifted base (length a) u (string-part z a) (λ x. string z (a ++ x)) (λ y w j t f g. string-is d f g)
-    (λ x j t f w. record { due = d; one = refl; size = joined-size a x j t f w }) k n e (string-alike base p b small s k l (string-mode h) h)
-item-alike base u m i n p b (binary-is {a = a} {s = s} {n = k} e h) small l sane =
-    lifted base (length a) u (binary-part a) (λ x. binary (a ++ x)) (λ y w j t f g. binary-is f g)
-    (λ x j t f w. record { due = refl; one = refl; size = joined-size a x j t f w }) k n e (octets-alike base p b small s k (binary-mode h) h)
-item-alike base u m i n p b (name-is {s = s} h) small l sane =
-    lifted base 0 u identifier key named-is (λ x j t f w. record { due = refl; one = refl; size = omega arith }) n n (omega arith)
-    (names-alike base p b small s n (name-mode h) h)
+    (numeric_alike base p b small s n l sane (numeric_mode h) h)
+item_alike base u m i n p b (string_is {z = z} {a = a} {s = s} {n = k} d e h) small l sane =
+    lifted base (length a) u (string_part z a) (λ x. string z (a ++ x)) (λ y w j t f g. string_is d f g)
+    (λ x j t f w. record { due = d; one = refl; size = joined_size a x j t f w }) k n e (string_alike base p b small s k l (string_mode h) h)
+item_alike base u m i n p b (binary_is {a = a} {s = s} {n = k} e h) small l sane =
+    lifted base (length a) u (binary_part a) (λ x. binary (a ++ x)) (λ y w j t f g. binary_is f g)
+    (λ x j t f w. record { due = refl; one = refl; size = joined_size a x j t f w }) k n e (octets_alike base p b small s k (binary_mode h) h)
+item_alike base u m i n p b (name_is {s = s} h) small l sane =
+    lifted base 0 u identifier key named_is (λ x j t f w. record { due = refl; one = refl; size = omega arith }) n n (omega arith)
+    (names_alike base p b small s n (name_mode h) h)
 
-names-end : (p : ℕ) (s : Names.St) → Names.scan p s over ≡ Names.scan p s 0
-unfolding Names.scan Names.class_of Names.onStart Names.onName
-names-end p Names.start = refl
-names-end p (Names.name acc) = refl
+names_end : (p : ℕ) (s : Names.St) → Names.scan p s over ≡ Names.scan p s 0
+unfolding Names.scan Names.class_of Names.on_start Names.on_name
+names_end p Names.start = refl
+names_end p (Names.name acc) = refl
 
 -- the text's end is to an item what a zero byte is
-pub item-end : {base : ℕ} {u : Due} {m : Mode} {i : Item} {n : ℕ} (p : ℕ) → ItemIs base u m i n → scan p i over ≡ scan p i 0
-item-end p (word-is {i = x} {ls = ls} {v = v} h z r q) = ap (lift (λ y. word y v) (λ y. value v)) (word_end x ls p h)
-item-end {base} p (numeric-is {m = m} {s = s} {n = n} h) = ap (lift numeric value) (numeric-end base m s n p h)
-item-end p (string-is {z = z} {a = a} d e h) = ap (lift (string-part z a) (λ x. string z (a ++ x))) (strings-end p h)
-item-end p (binary-is {a = a} {m = m} {s = s} {n = n} e h) = ap (lift (binary-part a) (λ x. binary (a ++ x))) (binary-end m s n p h)
-item-end p (name-is {s = s} h) = ap (lift identifier key) (names-end p s)
+pub item_end : {base : ℕ} {u : Due} {m : Mode} {i : Item} {n : ℕ} (p : ℕ) → ItemIs base u m i n → scan p i over ≡ scan p i 0
+item_end p (word_is {i = x} {ls = ls} {v = v} h z r q) = ap (lift (λ y. word y v) (λ y. value v)) (word_end x ls p h)
+item_end {base} p (numeric_is {m = m} {s = s} {n = n} h) = ap (lift numeric value) (numeric_end base m s n p h)
+item_end p (string_is {z = z} {a = a} d e h) = ap (lift (string_part z a) (λ x. string z (a ++ x))) (strings_end p h)
+item_end p (binary_is {a = a} {m = m} {s = s} {n = n} e h) = ap (lift (binary_part a) (λ x. binary (a ++ x))) (binary_end m s n p h)
+item_end p (name_is {s = s} h) = ap (lift identifier key) (names_end p s)
 
 -- ---- an item's first byte
 
 -- a string part, after the bytes a of the parts before it
-pub string-begins : (base p b : ℕ) (z : Use) (a : List ℕ) → (b ≡ ch "\"") ⊎ (b ≡ ch "'")
-    → Alike (ItemIs base (partDue z)) (GotIs (partDue z)) base (length a) (Takes (openQuote b) 0) (scan p (string-part z a Strings.begin) b)
-string-begins base p b z a q =
-    lifted base (length a) (partDue z) (string-part z a) (λ x. string z (a ++ x)) (λ y w j t f g. string-is refl f g)
-    (λ x j t f w. record { due = refl; one = refl; size = joined-size a x j t f w }) 0 (length a) (omega arith) (strings-begin base p b q)
+pub string_begins : (base p b : ℕ) (z : Use) (a : List ℕ) → (b ≡ ch "\"") ⊎ (b ≡ ch "'")
+    → Alike (ItemIs base (part_due z)) (GotIs (part_due z)) base (length a) (Takes (open_quote b) 0) (scan p (string_part z a Strings.begin) b)
+string_begins base p b z a q =
+    lifted base (length a) (part_due z) (string_part z a) (λ x. string z (a ++ x)) (λ y w j t f g. string_is refl f g)
+    (λ x j t f w. record { due = refl; one = refl; size = joined_size a x j t f w }) 0 (length a) (omega arith) (strings_begin base p b q)
 
-pub binary-begins : (base p b : ℕ) (a : List ℕ) → b ≡ ch "$"
+pub binary_begins : (base p b : ℕ) (a : List ℕ) → b ≡ ch "$"
     → Alike (ItemIs base Due.AfterBinary) (GotIs Due.AfterBinary) base (length a) (Takes (Mode.Packing Octets.Dollar) 0)
-    (scan p (binary-part a Binaries.begin) b)
-binary-begins base p b a q =
-    lifted base (length a) Due.AfterBinary (binary-part a) (λ x. binary (a ++ x)) (λ y w j t f g. binary-is f g)
-    (λ x j t f w. record { due = refl; one = refl; size = joined-size a x j t f w }) 0 (length a) (omega arith)
+    (scan p (binary_part a Binaries.begin) b)
+binary_begins base p b a q =
+    lifted base (length a) Due.AfterBinary (binary_part a) (λ x. binary (a ++ x)) (λ y w j t f g. binary_is f g)
+    (λ x j t f w. record { due = refl; one = refl; size = joined_size a x j t f w }) 0 (length a) (omega arith)
     (subst
     (λ (c : ℕ). Alike BinaryIs (λ (u : List ℕ) (m : ℕ). length u ≡ m) base 0 (Takes (Mode.Packing Octets.Dollar) 0) (Binaries.scan p Binaries.begin c)) (sym q)
-    (binary-begin base p))
+    (binary_begin base p))
 
-pub name-begins : (base p b : ℕ) → Names.class_of b ≡ Names.letter
+pub name_begins : (base p b : ℕ) → Names.class_of b ≡ Names.letter
     → Alike (ItemIs base Due.AfterKey) (GotIs Due.AfterKey) base 0 (Takes Mode.Naming 1) (scan p (identifier Names.begin) b)
-name-begins base p b q =
-    lifted base 0 Due.AfterKey identifier key named-is (λ x j t f w. record { due = refl; one = refl; size = omega arith }) 0 0 (omega arith)
-    (name-begin base p b q)
+name_begins base p b q =
+    lifted base 0 Due.AfterKey identifier key named_is (λ x j t f w. record { due = refl; one = refl; size = omega arith }) 0 0 (omega arith)
+    (name_begin base p b q)
 
-pub number-begins : (base p b : ℕ) → b < 256
-    → Alike (ItemIs base Due.AfterValue) (GotIs Due.AfterValue) base 0 (beginFigure (base + p) b) (scan p (numeric Numeric.begin) b)
-number-begins base p b small =
+pub number_begins : (base p b : ℕ) → b < 256
+    → Alike (ItemIs base Due.AfterValue) (GotIs Due.AfterValue) base 0 (begin_figure (base + p) b) (scan p (numeric Numeric.begin) b)
+number_begins base p b small =
     lifted base 0 Due.AfterValue numeric value numbered_is (λ v k t e w. record { due = refl; one = w.0; size = omega arith }) 0 0 (omega arith)
-    (numeric-begin base p b small)
+    (numeric_begin base p b small)
 
 -- a word's first letter c, before the letters ls
-pub word-begins : (base p c i : ℕ) (ls : List ℕ) (v : Meaning) → Spelt i ls → records v ≡ 1 → bytes v ≡ 0
+pub word_begins : (base p c i : ℕ) (ls : List ℕ) (v : Meaning) → Spelt i ls → records v ≡ 1 → bytes v ≡ 0
     → Alike (ItemIs base Due.AfterValue) (GotIs Due.AfterValue) base 0 (Takes (Mode.Spelling i) 0) (scan p (word (c ∷ ls) v) c)
-unfolding Names.wordScan
-word-begins base p c i ls v h r z = rw (eq-eqb c c refl) (Alike.takes (word-is {n = 0 + 0} h (omega arith) r z))
+unfolding Names.word_scan
+word_begins base p c i ls v h r z = rw (eq-eqb c c refl) (Alike.takes (word_is {n = 0 + 0} h (omega arith) r z))

@@ -12,9 +12,9 @@ use Rattle.arriving.specs.declared.states.Moment.{Moment}
 use Rattle.arriving.specs.declared.states.Octets.{Octets}
 use Rattle.arriving.specs.declared.states.Mode.{Mode}
 use Rattle.arriving.specs.declared.states.Mode.TheVariants as Mode
-use Rattle.arriving.proofs.NumericsLaws.{NumericIs, numeric-by}
-use Rattle.arriving.proofs.StringsLaws.{StringIs, is_one, is-two, is-opened, is-cr, is-lines, is_body, is-escape, is-unicode, is-hex, is-brace-open}
-use Rattle.arriving.proofs.StringsLaws.{is-brace, is-done}
+use Rattle.arriving.proofs.NumericsLaws.{NumericIs, numeric_by}
+use Rattle.arriving.proofs.StringsLaws.{StringIs, is_one, is_two, is_opened, is_cr, is_lines, is_body, is_escape, is_unicode, is_hex, is_brace_open}
+use Rattle.arriving.proofs.StringsLaws.{is_brace, is_done}
 use Rattle.arriving.proofs.SmallLaws.{NameIs, BinaryIs}
 
 pub data InNumber : Mode → Type 0 where
@@ -31,33 +31,33 @@ pub data InBinary : Mode → Type 0 where
 pub data InName : Mode → Type 0 where
   naming : InName Mode.Naming
 
-pub numeric-mode : {base : ℕ} {m : Mode} {s : Numeric.St} {n : ℕ} → NumericIs base m s n → InNumber m
-numeric-mode h = numeric-by InNumber (λ f. counting) (λ s m. timing) (λ i. spelling) h
+pub numeric_mode : {base : ℕ} {m : Mode} {s : Numeric.St} {n : ℕ} → NumericIs base m s n → InNumber m
+numeric_mode h = numeric_by InNumber (λ f. counting) (λ s m. timing) (λ i. spelling) h
 
-pub string-mode : {base : ℕ} {m : Mode} {s : Strings.St} {n : ℕ} → StringIs base m s n → InString m
-string-mode (is_one m) = quoting
-string-mode (is-two m) = quoting
-string-mode (is-opened m) = quoting
-string-mode (is-cr m) = quoting
-string-mode (is-lines m l e) = quoting
-string-mode (is_body m e) = quoting
-string-mode (is-escape m e) = quoting
-string-mode (is-unicode m e) = quoting
-string-mode (is-hex m l e) = quoting
-string-mode (is-brace-open m e) = quoting
-string-mode (is-brace m l e) = quoting
-string-mode (is-done e) = quoting
+pub string_mode : {base : ℕ} {m : Mode} {s : Strings.St} {n : ℕ} → StringIs base m s n → InString m
+string_mode (is_one m) = quoting
+string_mode (is_two m) = quoting
+string_mode (is_opened m) = quoting
+string_mode (is_cr m) = quoting
+string_mode (is_lines m l e) = quoting
+string_mode (is_body m e) = quoting
+string_mode (is_escape m e) = quoting
+string_mode (is_unicode m e) = quoting
+string_mode (is_hex m l e) = quoting
+string_mode (is_brace_open m e) = quoting
+string_mode (is_brace m l e) = quoting
+string_mode (is_done e) = quoting
 
-pub binary-mode : {m : Mode} {s : Binaries.St} {n : ℕ} → BinaryIs m s n → InBinary m
-binary-mode BinaryIs.dollar = packing
-binary-mode (BinaryIs.text l h e) = packing
-binary-mode (BinaryIs.escape l h e) = packing
-binary-mode (BinaryIs.hex l h e) = packing
-binary-mode (BinaryIs.hexLow l h e) = packing
-binary-mode (BinaryIs.low e) = packing
-binary-mode (BinaryIs.pair e) = packing
-binary-mode (BinaryIs.dot e) = packing
-binary-mode (BinaryIs.done e) = packing
+pub binary_mode : {m : Mode} {s : Binaries.St} {n : ℕ} → BinaryIs m s n → InBinary m
+binary_mode BinaryIs.dollar = packing
+binary_mode (BinaryIs.text l h e) = packing
+binary_mode (BinaryIs.escape l h e) = packing
+binary_mode (BinaryIs.hex l h e) = packing
+binary_mode (BinaryIs.hex_low l h e) = packing
+binary_mode (BinaryIs.low e) = packing
+binary_mode (BinaryIs.pair e) = packing
+binary_mode (BinaryIs.dot e) = packing
+binary_mode (BinaryIs.done e) = packing
 
-pub name-mode : {m : Mode} {s : Names.St} {n : ℕ} → NameIs m s n → InName m
-name-mode (NameIs.named e) = naming
+pub name_mode : {m : Mode} {s : Names.St} {n : ℕ} → NameIs m s n → InName m
+name_mode (NameIs.named e) = naming

@@ -1,7 +1,7 @@
 // What a byte is, where no item stands and in a comment.
 ghost use Rattle.std.specs.Prelude.{◌≡◌};
 ghost use Rattle.machine.specs.Machine.{class_of, note_of};
-ghost use Rattle.arriving.specs.Between.Classes.{classIs, noteIs};
+ghost use Rattle.arriving.specs.Between.Classes.{class_is, note_is};
 
 // A byte where no item stands. Three letters begin a word; `$` begins a binary part or an identifier.
 #[derive(Drop)]
@@ -37,7 +37,7 @@ pub enum Note {
 
 // The class of a byte where no item stands.
 pub fn class_of(b: u8) -> Class
-    ensures { class_of b ≡ classIs result }
+    ensures { class_of b ≡ class_is result }
 {
     match b {
         b' ' => Class::Blank,
@@ -68,7 +68,7 @@ pub fn class_of(b: u8) -> Class
 
 // The class of a byte in a comment.
 pub fn note_of(b: u8) -> Note
-    ensures { note_of b ≡ noteIs result }
+    ensures { note_of b ≡ note_is result }
 {
     match b {
         b'\n' => Note::LineEnd,

@@ -1,8 +1,8 @@
 // The text's end.
 ghost use Rattle.std.specs.Prelude.{◌≤◌, ◌≡◌, true};
-ghost use Rattle.meaning.specs.Limits.{textLimit};
+ghost use Rattle.meaning.specs.Limits.{text_limit};
 ghost use Rattle.arriving.specs.Between.Arriving as Arriving;
-ghost use Rattle.arriving.specs.Between.Arriving.{endOut, endMode, saneMode};
+ghost use Rattle.arriving.specs.Between.Arriving.{end_out, end_mode, sane_mode};
 
 use crate::states::{Here, Mode, Out};
 use crate::{figures, small, steps, strings, times};
@@ -28,7 +28,7 @@ fn complete(here: Here, p: usize) -> Answer
 
 // What the text's end did to an item.
 fn ended_item(here: Here, out: Out, p: usize) -> Answer
-    ensures { result ≡ endOut here p out }
+    ensures { result ≡ end_out here p out }
 {
     match out {
         Out::Takes(_, _) => Answer::Refused(Refusal::NotGrammar(p)),
@@ -39,8 +39,8 @@ fn ended_item(here: Here, out: Out, p: usize) -> Answer
 
 // The answer where the text ends at the place p: to an item its end is what a zero byte is.
 pub fn finished(here: Here, p: usize) -> Answer
-    requires { (saneMode p here.mode ≡ true) × (p ≤ textLimit) }
-    ensures { result ≡ endMode here p here.mode }
+    requires { (sane_mode p here.mode ≡ true) × (p ≤ text_limit) }
+    ensures { result ≡ end_mode here p here.mode }
 {
     let mode = here.mode;
     match mode {

@@ -2,11 +2,11 @@
 ghost use Rattle.std.specs.Prelude.{◌≡◌, true, false, ◌^◌, ◌≤◌, ◌<◌};
 ghost use Rattle.rules.specs.Between.Tests.{Decides};
 ghost use Rattle.meaning.specs.Letters.{ch};
-ghost use Rattle.meaning.specs.Limits.{textLimit};
-ghost use Rattle.machine.specs.Numeric.{fst_of, num_of, expOf, dgOf, hexOf};
+ghost use Rattle.meaning.specs.Limits.{text_limit};
+ghost use Rattle.machine.specs.Numeric.{fst_of, num_of, exp_of, dg_of, hex_of};
 ghost use Rattle.items.specs.Between.NumberOrTime.{IsDigit};
 ghost use Rattle.arriving.specs.Between.Figures as Spec;
-ghost use Rattle.arriving.specs.Between.Figures.{Sound, beginFigure, nextFigure, saneFigure, saneDecimal};
+ghost use Rattle.arriving.specs.Between.Figures.{Sound, begin_figure, next_figure, sane_figure, sane_decimal};
 
 use crate::states::{Decimal, Figure, Mode, Moment, Out, Slot, Stamp};
 use items::number::{Acc, NONE};
@@ -61,7 +61,7 @@ fn digited(d: Decimal, b: u8, more: usize) -> Decimal
 
 // Whether digits times 10 ^ up / 10 ^ down are a number within the limits.
 fn fits(a: Acc, up: usize, down: usize) -> bool
-    requires { (a.z ≤ textLimit) × (up < 2 ^ 40) }
+    requires { (a.z ≤ text_limit) × (up < 2 ^ 40) }
     ensures { result ≡ Spec.fits a up down }
 {
     if a.over {
@@ -92,7 +92,7 @@ fn settled(d: Decimal, up: usize, down: usize) -> Out
 // Where a number may go on with no digit, at its first byte or after a sign.
 fn undigited(first: usize, p: usize, b: u8) -> Out
     requires { IsDigit b → ⊥ }
-    ensures { result ≡ Spec.onSign p first b (fst_of b) }
+    ensures { result ≡ Spec.on_sign p first b (fst_of b) }
 {
     if b == b'.' {
         return goes(Figure::Point(first));
@@ -108,7 +108,7 @@ fn undigited(first: usize, p: usize, b: u8) -> Out
 
 // The first byte of a number or a time value.
 pub fn begin(p: usize, b: u8) -> Out
-    ensures { result ≡ beginFigure p b }
+    ensures { result ≡ begin_figure p b }
 {
     if b == b'+' {
         return goes(Figure::Sign(p));
@@ -131,7 +131,7 @@ pub fn begin(p: usize, b: u8) -> Out
 
 // After a sign.
 fn signed(first: usize, p: usize, b: u8) -> Out
-    ensures { result ≡ Spec.onSign p first b (fst_of b) }
+    ensures { result ≡ Spec.on_sign p first b (fst_of b) }
 {
     if b == b'0' {
         return goes(Figure::Nought(first));
@@ -145,7 +145,7 @@ fn signed(first: usize, p: usize, b: u8) -> Out
 
 // After a first 0.
 fn nought(first: usize, b: u8) -> Out
-    ensures { result ≡ Spec.onNought first (num_of b) }
+    ensures { result ≡ Spec.on_nought first (num_of b) }
 {
     if b == b'.' {
         return goes(Figure::Fraction(decimal(first, NONE, 0)));
@@ -168,7 +168,7 @@ fn nought(first: usize, b: u8) -> Out
 // After digits of the whole part.
 fn whole(d: Decimal, b: u8) -> Out
     requires { Sound d }
-    ensures { result ≡ Spec.onWhole d b (num_of b) }
+    ensures { result ≡ Spec.on_whole d b (num_of b) }
 {
     if is_digit(b) {
         return goes(Figure::Whole(digited(d, b, 0)));
@@ -187,7 +187,7 @@ fn whole(d: Decimal, b: u8) -> Out
 
 // After a point with no digit before it.
 fn point(first: usize, p: usize, b: u8) -> Out
-    ensures { result ≡ Spec.onPoint p first b (dgOf b) }
+    ensures { result ≡ Spec.on_point p first b (dg_of b) }
 {
     if is_digit(b) {
         let d = decimal(first, NONE, 0);
@@ -199,7 +199,7 @@ fn point(first: usize, p: usize, b: u8) -> Out
 // After digits of a fraction, or after a point that follows others.
 fn fraction(d: Decimal, b: u8) -> Out
     requires { Sound d }
-    ensures { result ≡ Spec.onFraction d b (num_of b) }
+    ensures { result ≡ Spec.on_fraction d b (num_of b) }
 {
     if is_digit(b) {
         return goes(Figure::Fraction(digited(d, b, 1)));
@@ -215,7 +215,7 @@ fn fraction(d: Decimal, b: u8) -> Out
 
 // After an exponent's sign.
 fn exponent_sign(d: Decimal, down: bool, p: usize, b: u8) -> Out
-    ensures { result ≡ Spec.onExponentSign p d down b (dgOf b) }
+    ensures { result ≡ Spec.on_exponent_sign p d down b (dg_of b) }
 {
     if is_digit(b) {
         return goes(Figure::ExponentDigits {
@@ -229,7 +229,7 @@ fn exponent_sign(d: Decimal, down: bool, p: usize, b: u8) -> Out
 
 // After the letter of an exponent.
 fn exponent(d: Decimal, p: usize, b: u8) -> Out
-    ensures { result ≡ Spec.onExponent p d b (expOf b) }
+    ensures { result ≡ Spec.on_exponent p d b (exp_of b) }
 {
     if b == b'+' {
         return goes(Figure::ExponentSign(d, false));
@@ -254,7 +254,7 @@ fn scaled(d: Decimal, down: bool, power: usize) -> Out
 // After digits of an exponent.
 fn exponent_digits(d: Decimal, down: bool, power: usize, b: u8) -> Out
     requires { Sound d × (power < 10000000000) }
-    ensures { result ≡ Spec.onExponentDigits d down power b (dgOf b) }
+    ensures { result ≡ Spec.on_exponent_digits d down power b (dg_of b) }
 {
     if is_digit(b) {
         return goes(Figure::ExponentDigits {
@@ -268,7 +268,7 @@ fn exponent_digits(d: Decimal, down: bool, power: usize, b: u8) -> Out
 
 // After the mark of a hexadecimal number.
 fn hex_mark(first: usize, p: usize, b: u8) -> Out
-    ensures { result ≡ Spec.onHexMark p first (hexOf b) }
+    ensures { result ≡ Spec.on_hex_mark p first (hex_of b) }
 {
     let x = hex_digit::hex(b);
     if x < 16 {
@@ -283,7 +283,7 @@ fn hex_mark(first: usize, p: usize, b: u8) -> Out
 
 // After hexadecimal digits. Such a number must itself be below 2^64.
 fn hex(first: usize, value: u64, over: bool, b: u8) -> Out
-    ensures { result ≡ Spec.onHex first value over (hexOf b) }
+    ensures { result ≡ Spec.on_hex first value over (hex_of b) }
 {
     let x = hex_digit::hex(b);
     if x < 16 {
@@ -309,7 +309,7 @@ fn hex(first: usize, value: u64, over: bool, b: u8) -> Out
 
 // Digits with no sign that are no time; more digits after a first 0 are no number.
 fn as_number(first: usize, count: u8, zero: bool, acc: Acc, p: usize, b: u8) -> Out
-    requires { acc.z ≤ textLimit }
+    requires { acc.z ≤ text_limit }
     ensures { result ≡ Spec.as_number p first count zero acc b (num_of b) }
 {
     if zero {
@@ -323,8 +323,8 @@ fn as_number(first: usize, count: u8, zero: bool, acc: Acc, p: usize, b: u8) -> 
 
 // One more digit with no sign.
 fn open_digit(first: usize, count: u8, zero: bool, value: u16, acc: Acc, p: usize, b: u8) -> Out
-    requires { IsDigit b × (acc.z ≤ textLimit) }
-    ensures { result ≡ Spec.onDigit p first count zero value acc b }
+    requires { IsDigit b × (acc.z ≤ text_limit) }
+    ensures { result ≡ Spec.on_digit p first count zero value acc b }
 {
     if count < 4 {
         let more = number::push(acc, b);
@@ -341,8 +341,8 @@ fn open_digit(first: usize, count: u8, zero: bool, value: u16, acc: Acc, p: usiz
 
 // A colon after digits with no sign: two may be an hour.
 fn open_colon(first: usize, count: u8, zero: bool, value: u16, acc: Acc, p: usize) -> Out
-    requires { acc.z ≤ textLimit }
-    ensures { result ≡ Spec.onColon p first count zero value acc (ch ":") }
+    requires { acc.z ≤ text_limit }
+    ensures { result ≡ Spec.on_colon p first count zero value acc (ch ":") }
 {
     if count == 2 {
         let s = Stamp {
@@ -362,8 +362,8 @@ fn open_colon(first: usize, count: u8, zero: bool, value: u16, acc: Acc, p: usiz
 
 // A minus after digits with no sign: four may be a year.
 fn open_minus(first: usize, count: u8, zero: bool, value: u16, acc: Acc, p: usize) -> Out
-    requires { acc.z ≤ textLimit }
-    ensures { result ≡ Spec.onMinus p first count zero value acc (ch "-") }
+    requires { acc.z ≤ text_limit }
+    ensures { result ≡ Spec.on_minus p first count zero value acc (ch "-") }
 {
     if count == 4 {
         let s = Stamp {
@@ -383,8 +383,8 @@ fn open_minus(first: usize, count: u8, zero: bool, value: u16, acc: Acc, p: usiz
 
 // After digits with no sign, a number's or a time's.
 fn open_digits(first: usize, count: u8, zero: bool, value: u16, acc: Acc, p: usize, b: u8) -> Out
-    requires { acc.z ≤ textLimit }
-    ensures { result ≡ Spec.onOpen p first count zero value acc b (num_of b) }
+    requires { acc.z ≤ text_limit }
+    ensures { result ≡ Spec.on_open p first count zero value acc b (num_of b) }
 {
     if is_digit(b) {
         return open_digit(first, count, zero, value, acc, p, b);
@@ -400,8 +400,8 @@ fn open_digits(first: usize, count: u8, zero: bool, value: u16, acc: Acc, p: usi
 
 // What the byte b does at the place p to a number.
 pub fn figure_next(f: Figure, p: usize, b: u8) -> Out
-    requires { (saneFigure p f ≡ true) × (p ≤ textLimit) }
-    ensures { result ≡ nextFigure f p b }
+    requires { (sane_figure p f ≡ true) × (p ≤ text_limit) }
+    ensures { result ≡ next_figure f p b }
 {
     match f {
         Figure::Sign(q) => signed(q, p, b),
@@ -430,7 +430,7 @@ pub fn figure_next(f: Figure, p: usize, b: u8) -> Out
 
 // Whether a decimal number is within the bounds that its sums need, after n bytes.
 fn sane_decimal(d: Decimal, n: usize) -> bool
-    ensures { result ≡ saneDecimal n d }
+    ensures { result ≡ sane_decimal n d }
 {
     let a = d.acc;
     if a.z > n {
@@ -441,7 +441,7 @@ fn sane_decimal(d: Decimal, n: usize) -> bool
 
 // The same of any number.
 pub fn sane_figure(f: Figure, n: usize) -> bool
-    ensures { result ≡ saneFigure n f }
+    ensures { result ≡ sane_figure n f }
 {
     match f {
         Figure::Sign(_) => true,

@@ -1,16 +1,16 @@
 // Runs of bytes and whole items at once, by the readers of the items: byte by byte comes to the same.
 ghost use Rattle.std.specs.Prelude.{ℕ, ◌+◌, ◌-◌, ◌≤◌, ◌<◌, ◌≡◌, true, List, ◌⊎◌, length, get_or};
 ghost use Rattle.meaning.specs.Letters.{ch};
-ghost use Rattle.meaning.specs.Limits.{textLimit};
+ghost use Rattle.meaning.specs.Limits.{text_limit};
 ghost use Rattle.machine.specs.Names as Names;
 ghost use Rattle.machine.specs.Machine.{Bracket, class_of};
 ghost use Rattle.arriving.specs.declared.leaps.Run.TheVariants as RunIs;
 ghost use Rattle.arriving.specs.declared.states.Due.TheVariants as Dues;
 ghost use Rattle.arriving.specs.declared.states.Mode.TheVariants as Modes;
 ghost use Rattle.arriving.specs.Between.Steps as Steps;
-ghost use Rattle.arriving.specs.Between.Steps.{kind_of, dueIn, on_after, afterValue, afterKey, here_of};
-ghost use Rattle.arriving.specs.Between.Leaps.{Leaps, Skips, Bytes, Room, Placed, Stands, staysIn, RanTo, Stepped, WordPassed};
-ghost use Rattle.arriving.specs.Between.Leaps.{spot_of, spotAt, dueNumber, dueOf, due_at, Plainly};
+ghost use Rattle.arriving.specs.Between.Steps.{kind_of, due_in, on_after, after_value, after_key, here_of};
+ghost use Rattle.arriving.specs.Between.Leaps.{Leaps, Skips, Bytes, Room, Placed, Stands, stays_in, RanTo, Stepped, WordPassed};
+ghost use Rattle.arriving.specs.Between.Leaps.{spot_of, spot_at, due_number, due_of, due_at, Plainly};
 
 use crate::states::{Due, Here, Inner, Mode, Quoted};
 use crate::steps;
@@ -51,7 +51,7 @@ pub struct Reached {
 
 // Whether a byte is a blank.
 fn is_blank(b: u8) -> bool
-    ensures { (q : ℕ) → result ≡ staysIn RunIs.Blank q b }
+    ensures { (q : ℕ) → result ≡ stays_in RunIs.Blank q b }
 {
     if b == b' ' {
         return true;
@@ -67,7 +67,7 @@ fn is_blank(b: u8) -> bool
 
 // Whether a byte leaves the check where it stands.
 fn stays(run: Run, quote: u8, b: u8) -> bool
-    ensures { result ≡ staysIn run quote b }
+    ensures { result ≡ stays_in run quote b }
 {
     match run {
         Run::Blank => is_blank(b),
@@ -118,7 +118,7 @@ fn run_end(part: &[u8], from: usize, run: Run, quote: u8) -> usize
 
 // The number of what is due.
 fn due_number(d: Due) -> usize
-    ensures { result ≡ dueNumber d }
+    ensures { result ≡ due_number d }
 {
     match d {
         Due::Value => 0,
@@ -136,7 +136,7 @@ fn due_number(d: Due) -> usize
 
 // What is due by this number.
 fn due_of(n: usize) -> Due
-    ensures { result ≡ dueOf n }
+    ensures { result ≡ due_of n }
 {
     match n {
         0 => Due::Value,
@@ -154,7 +154,7 @@ fn due_of(n: usize) -> Due
 
 // At another place, with all else as it was.
 fn passed(x: Spot, at: usize) -> Spot
-    ensures { result ≡ spotAt x at }
+    ensures { result ≡ spot_at x at }
 {
     Spot {
         at,
@@ -167,7 +167,7 @@ fn passed(x: Spot, at: usize) -> Spot
 
 // At another place, with so many records and store bytes more.
 fn moved(x: Spot, at: usize, due: Due, records: usize, stored: usize) -> Spot
-    requires { Room x × (records ≤ 1) × (stored ≤ textLimit) }
+    requires { Room x × (records ≤ 1) × (stored ≤ text_limit) }
     ensures { result ≡ spot_of at due x.depth (x.records + records) (x.stored + stored) }
 {
     Spot {
@@ -182,7 +182,7 @@ fn moved(x: Spot, at: usize, due: Due, records: usize, stored: usize) -> Spot
 // Past an opening bracket.
 fn opened(x: Spot, kind: u8, due: Due, kinds: &mut [u8; DEPTH_LIMIT]) -> Spot
     requires { Room x }
-    ensures { (c : Bracket) → kind ≡ kind_of c → due ≡ dueIn c
+    ensures { (c : Bracket) → kind ≡ kind_of c → due ≡ due_in c
         → Stepped (λ s p. Steps.opened s p c) x kinds.old result kinds.new }
 {
     let depth = x.depth;
@@ -235,7 +235,7 @@ fn comma(x: Spot, kinds: &[u8; DEPTH_LIMIT]) -> Spot
 
 // Past what may follow a value.
 fn after_value(x: Spot, b: u8, kinds: &[u8; DEPTH_LIMIT]) -> Spot
-    requires { Room x × (afterValue (due_at x) ≡ true) }
+    requires { Room x × (after_value (due_at x) ≡ true) }
     ensures { Stepped (λ s p. on_after s p (class_of b)) x kinds.now result kinds.now }
 {
     match b {
@@ -248,7 +248,7 @@ fn after_value(x: Spot, b: u8, kinds: &[u8; DEPTH_LIMIT]) -> Spot
 
 // Past a colon after a key.
 fn after_key(x: Spot, b: u8) -> Spot
-    requires { Room x × (afterKey (due_at x) ≡ true) }
+    requires { Room x × (after_key (due_at x) ≡ true) }
     ensures { (ks : List ℕ) → Stepped (λ s p. on_after s p (class_of b)) x ks result ks }
 {
     if b == b':' {

@@ -12,10 +12,10 @@ mod strings;
 mod times;
 
 ghost use Rattle.std.specs.Prelude.{◌+◌, ◌≤◌, ◌≡◌, true, length};
-ghost use Rattle.meaning.specs.Limits.{textLimit};
+ghost use Rattle.meaning.specs.Limits.{text_limit};
 ghost use Rattle.arriving.specs.Between.Steps as Steps;
 ghost use Rattle.arriving.specs.Between.Arriving as Arriving;
-ghost use Rattle.arriving.specs.Between.Arriving.{startedCore, spentCore, started, saneMode, saneHere, fed, endedCore};
+ghost use Rattle.arriving.specs.Between.Arriving.{started_core, spent_core, started, sane_mode, sane_here, fed, ended_core};
 
 use meaning::{DEPTH_LIMIT, Refusal, TEXT_LIMIT};
 use octets::Utf;
@@ -39,7 +39,7 @@ pub struct Check {
 
 // Nothing has come: all but the kinds.
 fn start() -> Core
-    ensures { result ≡ startedCore }
+    ensures { result ≡ started_core }
 {
     let utf = octets::whole();
     let here = Here {
@@ -58,7 +58,7 @@ fn start() -> Core
 
 // Too many bytes have come, or the state never came from a start: all but the kinds.
 fn spent_core() -> Core
-    ensures { result ≡ spentCore }
+    ensures { result ≡ spent_core }
 {
     let utf = octets::whole();
     let here = Here {
@@ -77,7 +77,7 @@ fn spent_core() -> Core
 
 // Whether the numbers of an item lie where sums need them, after n bytes.
 fn sane_mode(mode: Mode, n: usize) -> bool
-    ensures { result ≡ saneMode n mode }
+    ensures { result ≡ sane_mode n mode }
 {
     match mode {
         Mode::At => true,
@@ -97,8 +97,8 @@ fn sane_mode(mode: Mode, n: usize) -> bool
 
 // The same where the check stands.
 fn sane_here(here: Here, n: usize) -> bool
-    requires { n ≤ textLimit }
-    ensures { result ≡ saneHere n here }
+    requires { n ≤ text_limit }
+    ensures { result ≡ sane_here n here }
 {
     if here.depth > DEPTH_LIMIT {
         return false;
@@ -127,7 +127,7 @@ fn sane(c: Core) -> bool
 
 // The bytes of a part, the first at the place `base`: whole items and runs at once, and a byte at a time between them.
 fn walked(had: Here, part: &[u8], base: usize, kinds: &mut [u8; DEPTH_LIMIT]) -> Here
-    requires { (saneHere base had ≡ true) × (base + length part.now ≤ textLimit) }
+    requires { (sane_here base had ≡ true) × (base + length part.now ≤ text_limit) }
     ensures { (result, kinds.new) ≡ Steps.walked (had, kinds.old) base part.now }
 {
     let mut here = had;
@@ -190,7 +190,7 @@ pub fn check_feed(c: Check, part: &[u8]) -> Check
 
 // The answer where all but the kinds is this.
 fn ended(c: Core) -> Answer
-    ensures { result ≡ endedCore c }
+    ensures { result ≡ ended_core c }
 {
     if sane(c) {
         let utf = c.utf;

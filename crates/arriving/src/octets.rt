@@ -1,7 +1,7 @@
 // UTF-8 while it arrives: a character that a cut has left open, and the first fault.
 ghost use Rattle.std.specs.Prelude.{◌≡◌, ◌+◌, ◌≤◌, ◌<◌, length, drop};
-ghost use Rattle.meaning.specs.Limits.{textLimit};
-ghost use Rattle.arriving.specs.Between.Octets.{between, faultAt, opens, leadOfThree, leadOfFour, leads, follow, Rests, nextUtf, fedUtf};
+ghost use Rattle.meaning.specs.Limits.{text_limit};
+ghost use Rattle.arriving.specs.Between.Octets.{between, fault_at, opens, lead_of_three, lead_of_four, leads, follow, Rests, next_utf, fed_utf};
 
 use rules::Utf8Answer;
 
@@ -31,7 +31,7 @@ pub fn whole() -> Utf
 
 // The first fault, at this place.
 fn fault(at: usize) -> Utf
-    ensures { result ≡ faultAt at }
+    ensures { result ≡ fault_at at }
 {
     Utf {
         left: 0,
@@ -57,7 +57,7 @@ fn awaits(left: u8, low: u8, high: u8, first: usize) -> Utf
 
 // The first byte of three: no overlong form, and no surrogate.
 fn lead_of_three(p: usize, b: u8) -> Utf
-    ensures { result ≡ leadOfThree p b }
+    ensures { result ≡ lead_of_three p b }
 {
     if b == 0xE0 {
         return awaits(2, 0xA0, 0xBF, p);
@@ -70,7 +70,7 @@ fn lead_of_three(p: usize, b: u8) -> Utf
 
 // The first byte of four: no overlong form, and nothing above 10FFFF.
 fn lead_of_four(p: usize, b: u8) -> Utf
-    ensures { result ≡ leadOfFour p b }
+    ensures { result ≡ lead_of_four p b }
 {
     if b == 0xF0 {
         return awaits(3, 0x90, 0xBF, p);
@@ -121,7 +121,7 @@ fn tail(u: Utf, b: u8) -> Utf
 
 // What a byte does; `p` is its place.
 pub fn utf_next(u: Utf, p: usize, b: u8) -> Utf
-    ensures { result ≡ nextUtf u p b }
+    ensures { result ≡ next_utf u p b }
 {
     if u.broken {
         return u;
@@ -134,8 +134,8 @@ pub fn utf_next(u: Utf, p: usize, b: u8) -> Utf
 
 // The bytes of a part from `from` on, one at a time, up to a fault; `base` is the part's place.
 fn bytes(had: Utf, part: &[u8], from: usize, base: usize) -> Utf
-    requires { base + length part.now ≤ textLimit }
-    ensures { result ≡ fedUtf had (base + from) (drop from part.now) }
+    requires { base + length part.now ≤ text_limit }
+    ensures { result ≡ fed_utf had (base + from) (drop from part.now) }
 {
     let mut u = had;
     let mut i = from;
@@ -162,8 +162,8 @@ fn rest_of(u: Utf, part: &[u8]) -> usize
 
 // The bytes of a part: the rest of an open character, whole characters, and the beginning of one; `base` is the part's place.
 pub fn utf_feed(had: Utf, part: &[u8], base: usize) -> Utf
-    requires { base + length part.now ≤ textLimit }
-    ensures { result ≡ fedUtf had base part.now }
+    requires { base + length part.now ≤ text_limit }
+    ensures { result ≡ fed_utf had base part.now }
 {
     let from = rest_of(had, part);
     let u = bytes(had, &part[..from], 0, base);

@@ -2,10 +2,10 @@
 ghost use Rattle.std.specs.Prelude.{◌≡◌, ◌+◌, ◌*◌, ◌≤◌, length};
 ghost use Rattle.std.proofs.lemmas.List.Edits.{sets};
 ghost use Rattle.meaning.specs.Bytes.{flag};
-ghost use Rattle.arriving.specs.Between.Packing.{flat, dueNumber, dueOf, flatDecimal, decimalOf, flatFigure, figureOf, flatTime, flatField, flatMoment};
-ghost use Rattle.arriving.specs.Between.Packing.{stampOf, slot_of, momentOf, flatQuoted, flatInner, quotedOf, inner_of, flatOctets, octetsOf};
-ghost use Rattle.arriving.specs.Between.Packing.{flatRefusal, refusalOf, flatMode, mode_of, openOf, FitFigure, FitSlot, FitMoment, FitInner, FitMode};
-ghost use Rattle.arriving.specs.Between.Packing.{spread, Narrow, smalls, larges, Kept, packed, unpacked, padded, flat_at, utfAt, hereAt};
+ghost use Rattle.arriving.specs.Between.Packing.{flat, due_number, due_of, flat_decimal, decimal_of, flat_figure, figure_of, flat_time, flat_field, flat_moment};
+ghost use Rattle.arriving.specs.Between.Packing.{stamp_of, slot_of, moment_of, flat_quoted, flat_inner, quoted_of, inner_of, flat_octets, octets_of};
+ghost use Rattle.arriving.specs.Between.Packing.{flat_refusal, refusal_of, flat_mode, mode_of, open_of, FitFigure, FitSlot, FitMoment, FitInner, FitMode};
+ghost use Rattle.arriving.specs.Between.Packing.{spread, Narrow, smalls, larges, Kept, packed, unpacked, padded, flat_at, utf_at, here_at};
 
 use crate::octets::Utf;
 use crate::states::{Decimal, Due, Figure, Here, Inner, Mode, Moment, Octets, Quoted, Slot, Stamp};
@@ -41,7 +41,7 @@ fn bit(b: bool) -> u8
 
 // What is due, as a number.
 fn due_number(due: Due) -> u8
-    ensures { result ≡ dueNumber due }
+    ensures { result ≡ due_number due }
 {
     match due {
         Due::Value => 0,
@@ -59,7 +59,7 @@ fn due_number(due: Due) -> u8
 
 // What the number says is due.
 fn due_of(n: u8) -> Due
-    ensures { result ≡ dueOf n }
+    ensures { result ≡ due_of n }
 {
     match n {
         0 => Due::Value,
@@ -77,7 +77,7 @@ fn due_of(n: u8) -> Due
 
 // A decimal number, of which the exponent's sign and digits are known so far.
 fn flat_decimal(sort: u8, decimal: Decimal, down: bool, power: usize) -> Flat
-    ensures { result ≡ flatDecimal sort decimal down power }
+    ensures { result ≡ flat_decimal sort decimal down power }
 {
     Flat {
         kind: 6,
@@ -94,7 +94,7 @@ fn flat_decimal(sort: u8, decimal: Decimal, down: bool, power: usize) -> Flat
 
 // The decimal number that these numbers are.
 fn decimal_of(f: Flat) -> Decimal
-    ensures { result ≡ decimalOf f }
+    ensures { result ≡ decimal_of f }
 {
     Decimal {
         first: f.a as usize,
@@ -143,7 +143,7 @@ fn flat_open(first: usize, count: u8, nought: bool, value: u16, acc: Acc) -> Fla
 
 // A number.
 fn flat_figure(figure: Figure) -> Flat
-    ensures { (result ≡ flatFigure figure) × FitFigure figure }
+    ensures { (result ≡ flat_figure figure) × FitFigure figure }
 {
     match figure {
         Figure::Sign(first) => flat_begun(0, false, first, 0),
@@ -172,7 +172,7 @@ fn flat_figure(figure: Figure) -> Flat
 
 // The digits that may yet be a time, alike.
 fn open_of(f: Flat) -> Figure
-    ensures { result ≡ openOf f }
+    ensures { result ≡ open_of f }
 {
     Figure::Open {
         first: f.a as usize,
@@ -189,7 +189,7 @@ fn open_of(f: Flat) -> Figure
 
 // Any number, alike.
 fn figure_of(f: Flat) -> Figure
-    ensures { result ≡ figureOf f }
+    ensures { result ≡ figure_of f }
 {
     let first = f.a as usize;
     let decimal = decimal_of(f);
@@ -219,7 +219,7 @@ fn figure_of(f: Flat) -> Figure
 
 // A time value, with what a date's fields are so far.
 fn flat_time(sort: u8, stamp: Stamp, left: u8, value: u8, year: u16, month: u8) -> Flat
-    ensures { result ≡ flatTime sort stamp left value year month }
+    ensures { result ≡ flat_time sort stamp left value year month }
 {
     Flat {
         kind: 7,
@@ -236,7 +236,7 @@ fn flat_time(sort: u8, stamp: Stamp, left: u8, value: u8, year: u16, month: u8) 
 
 // A field of a time value.
 fn flat_field(stamp: Stamp, slot: Slot, left: u8, value: u8) -> Flat
-    ensures { (result ≡ flatField stamp left value slot) × FitSlot slot }
+    ensures { (result ≡ flat_field stamp left value slot) × FitSlot slot }
 {
     match slot {
         Slot::Month(year) => flat_time(0, stamp, left, value, year, 0),
@@ -251,7 +251,7 @@ fn flat_field(stamp: Stamp, slot: Slot, left: u8, value: u8) -> Flat
 
 // A time value.
 fn flat_moment(stamp: Stamp, moment: Moment) -> Flat
-    ensures { (result ≡ flatMoment stamp moment) × FitMoment moment }
+    ensures { (result ≡ flat_moment stamp moment) × FitMoment moment }
 {
     match moment {
         Moment::Field { slot, left, value } => flat_field(stamp, slot, left, value),
@@ -264,7 +264,7 @@ fn flat_moment(stamp: Stamp, moment: Moment) -> Flat
 
 // The time value that these numbers are: its first place and what holds of it.
 fn stamp_of(f: Flat) -> Stamp
-    ensures { result ≡ stampOf f }
+    ensures { result ≡ stamp_of f }
 {
     Stamp {
         first: f.a as usize,
@@ -293,7 +293,7 @@ fn slot_of(f: Flat) -> Slot
 
 // Where in it, alike.
 fn moment_of(f: Flat) -> Moment
-    ensures { result ≡ momentOf f }
+    ensures { result ≡ moment_of f }
 {
     let sort = f.sort;
     if sort < 7 {
@@ -313,7 +313,7 @@ fn moment_of(f: Flat) -> Moment
 
 // A string part, with the fields that the place in it has.
 fn flat_quoted(sort: u8, quoted: Quoted, left: u8, at: usize, value: u32) -> Flat
-    ensures { result ≡ flatQuoted sort quoted left at value }
+    ensures { result ≡ flat_quoted sort quoted left at value }
 {
     Flat {
         kind: 8,
@@ -330,7 +330,7 @@ fn flat_quoted(sort: u8, quoted: Quoted, left: u8, at: usize, value: u32) -> Fla
 
 // A string part, by where in it.
 fn flat_inner(quoted: Quoted, inner: Inner) -> Flat
-    ensures { (result ≡ flatInner quoted inner) × FitInner inner }
+    ensures { (result ≡ flat_inner quoted inner) × FitInner inner }
 {
     match inner {
         Inner::One => flat_quoted(0, quoted, 0, 0, 0),
@@ -350,7 +350,7 @@ fn flat_inner(quoted: Quoted, inner: Inner) -> Flat
 
 // The string part that these numbers are.
 fn quoted_of(f: Flat) -> Quoted
-    ensures { result ≡ quotedOf f }
+    ensures { result ≡ quoted_of f }
 {
     Quoted {
         quote: f.x,
@@ -402,7 +402,7 @@ fn flat_plain(kind: u8, sort: u8, quote: u8, at: usize) -> Flat
 
 // A binary part.
 fn flat_octets(octets: Octets) -> Flat
-    ensures { result ≡ flatOctets octets }
+    ensures { result ≡ flat_octets octets }
 {
     match octets {
         Octets::Dollar => flat_plain(9, 0, 0, 0),
@@ -419,7 +419,7 @@ fn flat_octets(octets: Octets) -> Flat
 
 // The binary part that these numbers are.
 fn octets_of(f: Flat) -> Octets
-    ensures { result ≡ octetsOf f }
+    ensures { result ≡ octets_of f }
 {
     let quote = f.x;
     let sort = f.sort;
@@ -438,7 +438,7 @@ fn octets_of(f: Flat) -> Octets
 
 // A refusal.
 fn flat_refusal(why: Refusal) -> Flat
-    ensures { result ≡ flatRefusal why }
+    ensures { result ≡ flat_refusal why }
 {
     match why {
         Refusal::TextTooLong => flat_plain(11, 0, 0, 0),
@@ -461,7 +461,7 @@ fn flat_refusal(why: Refusal) -> Flat
 
 // The refusal that these numbers are.
 fn refusal_of(f: Flat) -> Refusal
-    ensures { result ≡ refusalOf f }
+    ensures { result ≡ refusal_of f }
 {
     let at = f.a as usize;
     let sort = f.sort;
@@ -486,7 +486,7 @@ fn refusal_of(f: Flat) -> Refusal
 
 // Any mode.
 fn flat_mode(mode: Mode) -> Flat
-    ensures { (result ≡ flatMode mode) × FitMode mode }
+    ensures { (result ≡ flat_mode mode) × FitMode mode }
 {
     match mode {
         Mode::At => flat_plain(0, 0, 0, 0),
@@ -647,7 +647,7 @@ fn flat_at(bytes: &[u8; 640]) -> Flat
 
 // How far a character of UTF-8 has come.
 fn utf_at(bytes: &[u8; 640]) -> Utf
-    ensures { result ≡ utfAt bytes.now }
+    ensures { result ≡ utf_at bytes.now }
 {
     Utf {
         left: bytes[0],
@@ -660,7 +660,7 @@ fn utf_at(bytes: &[u8; 640]) -> Utf
 
 // Where the grammar stands.
 fn here_at(bytes: &[u8; 640]) -> Here
-    ensures { result ≡ hereAt bytes.now }
+    ensures { result ≡ here_at bytes.now }
 {
     Here {
         mode: mode_of(flat_at(bytes)),

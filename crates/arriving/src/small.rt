@@ -1,10 +1,10 @@
 // Words, identifiers and binary parts, a byte at a time.
 ghost use Rattle.std.specs.Prelude.{◌≡◌, get_or};
-ghost use Rattle.machine.specs.Strings.{hexOf};
+ghost use Rattle.machine.specs.Strings.{hex_of};
 ghost use Rattle.meaning.specs.declared.Refusal.TheVariants.{NotGrammar};
 ghost use Rattle.arriving.specs.declared.states.Octets.TheVariants.{Low};
 ghost use Rattle.arriving.specs.declared.states.Out.TheVariants.{Stops, Breaks};
-ghost use Rattle.arriving.specs.Between.Small.{letterAt, nextWord, nextName, packs, onDigit, onText, onDollar, onEscape, onPair, nextOctets};
+ghost use Rattle.arriving.specs.Between.Small.{letter_at, next_word, next_name, packs, on_digit, on_text, on_dollar, on_escape, on_pair, next_octets};
 
 use crate::states::{Mode, Octets, Out};
 use items::identifier::Sort;
@@ -23,14 +23,14 @@ fn byte_at(list: &[u8], n: usize) -> u8
 
 // The letter at a place of the list of words, 0 where a word is whole.
 fn letter_at(n: usize) -> u8
-    ensures { result ≡ letterAt n }
+    ensures { result ≡ letter_at n }
 {
     byte_at(b"null\0true\0false\0NaN\0Infinity\0", n)
 }
 
 // A byte in a word, before the letter at a place of the list of words.
 pub fn word_next(n: usize, p: usize, b: u8) -> Out
-    ensures { result ≡ nextWord n p b }
+    ensures { result ≡ next_word n p b }
 {
     let due = letter_at(n);
     if due == 0 {
@@ -44,7 +44,7 @@ pub fn word_next(n: usize, p: usize, b: u8) -> Out
 
 // A byte in an identifier.
 pub fn name_next(b: u8) -> Out
-    ensures { result ≡ nextName b }
+    ensures { result ≡ next_name b }
 {
     match identifier::sort_of(b) {
         Sort::Neither => Out::Stops,
@@ -55,7 +55,7 @@ pub fn name_next(b: u8) -> Out
 
 // A digit takes the part on, and so many store bytes come; without one it breaks.
 fn on_digit(b: u8, next: Octets, stored: usize, p: usize) -> Out
-    ensures { result ≡ onDigit (hexOf b) (packs next stored) (Breaks (NotGrammar p)) }
+    ensures { result ≡ on_digit (hex_of b) (packs next stored) (Breaks (NotGrammar p)) }
 {
     if hex_digit::hex(b) < 16 {
         return Out::Takes(Mode::Packing(next), stored);
@@ -65,7 +65,7 @@ fn on_digit(b: u8, next: Octets, stored: usize, p: usize) -> Out
 
 // A digit begins a pair; without one the part stops.
 fn pair_or_end(b: u8) -> Out
-    ensures { result ≡ onDigit (hexOf b) (packs Low 0) Stops }
+    ensures { result ≡ on_digit (hex_of b) (packs Low 0) Stops }
 {
     if hex_digit::hex(b) < 16 {
         return Out::Takes(Mode::Packing(Octets::Low), 0);
@@ -75,7 +75,7 @@ fn pair_or_end(b: u8) -> Out
 
 // After the dollar.
 fn dollar(b: u8) -> Out
-    ensures { result ≡ onDollar b }
+    ensures { result ≡ on_dollar b }
 {
     if b == b'"' {
         return Out::Takes(Mode::Packing(Octets::Text(b)), 0);
@@ -88,7 +88,7 @@ fn dollar(b: u8) -> Out
 
 // In the quoted form: from U+0020 to U+007E.
 fn quoted(p: usize, quote: u8, b: u8) -> Out
-    ensures { result ≡ onText p quote b }
+    ensures { result ≡ on_text p quote b }
 {
     if b == b'\\' {
         return Out::Takes(Mode::Packing(Octets::Escape(quote)), 0);
@@ -107,7 +107,7 @@ fn quoted(p: usize, quote: u8, b: u8) -> Out
 
 // After a backslash.
 fn escaped(p: usize, quote: u8, b: u8) -> Out
-    ensures { result ≡ onEscape p quote b }
+    ensures { result ≡ on_escape p quote b }
 {
     if b == b'x' {
         return Out::Takes(Mode::Packing(Octets::Hex(quote)), 0);
@@ -120,7 +120,7 @@ fn escaped(p: usize, quote: u8, b: u8) -> Out
 
 // After a pair.
 fn after_pair(b: u8) -> Out
-    ensures { result ≡ onPair b }
+    ensures { result ≡ on_pair b }
 {
     if b == b'.' {
         return Out::Takes(Mode::Packing(Octets::Dot), 0);
@@ -130,7 +130,7 @@ fn after_pair(b: u8) -> Out
 
 // A byte in a binary part.
 pub fn octets_next(o: Octets, p: usize, b: u8) -> Out
-    ensures { result ≡ nextOctets o p b }
+    ensures { result ≡ next_octets o p b }
 {
     match o {
         Octets::Dollar => dollar(b),

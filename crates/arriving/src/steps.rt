@@ -1,6 +1,6 @@
 // One byte of the grammar: layout, punctuation, and the items by their own steps. `kinds` are those of the open brackets.
 ghost use Rattle.std.specs.Prelude.{ℕ, ◌≤◌, ◌<◌, ◌≡◌, true, List};
-ghost use Rattle.meaning.specs.Limits.{textLimit, depthLimit};
+ghost use Rattle.meaning.specs.Limits.{text_limit, depth_limit};
 ghost use Rattle.machine.specs.Machine.{Bracket, note_of};
 ghost use Rattle.machine.specs.Machine as Machine;
 ghost use Rattle.arriving.specs.declared.states.Out.TheVariants.{Takes};
@@ -8,13 +8,13 @@ ghost use Rattle.arriving.specs.declared.states.Due.TheVariants.{AfterBinary};
 ghost use Rattle.arriving.specs.declared.states.Mode.TheVariants.{Packing};
 ghost use Rattle.arriving.specs.declared.states.Octets.TheVariants.{Dollar};
 ghost use Rattle.arriving.specs.Between.Steps as Steps;
-ghost use Rattle.arriving.specs.Between.Steps.{kind_of, dueIn, top_of, onSlash, onLine, onBlock, onStar};
-ghost use Rattle.arriving.specs.Between.Steps.{on_after, begunFigure, onValue, onKey, onPart, afterValue};
-ghost use Rattle.arriving.specs.Between.Figures.{beginFigure};
-ghost use Rattle.arriving.specs.Between.Strings.{openQuote};
-ghost use Rattle.arriving.specs.Between.Classes.{classIs};
+ghost use Rattle.arriving.specs.Between.Steps.{kind_of, due_in, top_of, on_slash, on_line, on_block, on_star};
+ghost use Rattle.arriving.specs.Between.Steps.{on_after, begun_figure, on_value, on_key, on_part, after_value};
+ghost use Rattle.arriving.specs.Between.Figures.{begin_figure};
+ghost use Rattle.arriving.specs.Between.Strings.{open_quote};
+ghost use Rattle.arriving.specs.Between.Classes.{class_is};
 ghost use Rattle.arriving.specs.Between.Room.{Roomy, Few};
-ghost use Rattle.arriving.specs.Between.Arriving.{saneHere};
+ghost use Rattle.arriving.specs.Between.Arriving.{sane_here};
 
 use crate::classes::{Class, Note};
 use crate::states::{Due, Here, Mode, Octets, Out};
@@ -83,7 +83,7 @@ fn odd(here: Here, p: usize) -> Here
 
 // The kind of the innermost open bracket; 0 where none is open.
 pub fn top(kinds: &[u8; DEPTH_LIMIT], depth: usize) -> u8
-    requires { depth ≤ depthLimit }
+    requires { depth ≤ depth_limit }
     ensures { result ≡ top_of kinds.now depth }
 {
     if depth == 0 {
@@ -95,7 +95,7 @@ pub fn top(kinds: &[u8; DEPTH_LIMIT], depth: usize) -> u8
 // An opening bracket: 7 where too many are open.
 fn opened(here: Here, kind: u8, due: Due, p: usize, kinds: &mut [u8; DEPTH_LIMIT]) -> Here
     requires { Roomy here }
-    ensures { (c : Bracket) → kind ≡ kind_of c → due ≡ dueIn c
+    ensures { (c : Bracket) → kind ≡ kind_of c → due ≡ due_in c
         → (result, kinds.new) ≡ Steps.opened (here, kinds.old) p c }
 {
     let depth = here.depth;
@@ -147,7 +147,7 @@ fn comma(here: Here, p: usize, kinds: &[u8; DEPTH_LIMIT]) -> Here
 
 // Whether what came may be a value.
 pub fn after_value(due: Due) -> bool
-    ensures { result ≡ afterValue due }
+    ensures { result ≡ after_value due }
 {
     match due {
         Due::Value => false,
@@ -167,7 +167,7 @@ pub fn after_value(due: Due) -> bool
 fn closed_after(here: Here, kind: u8, p: usize, kinds: &[u8; DEPTH_LIMIT]) -> Here
     requires { Roomy here × (1 ≤ kind) }
     ensures { (c : Bracket) → kind ≡ kind_of c
-        → (result, kinds.now) ≡ on_after (here, kinds.now) p (Machine.closeC c) }
+        → (result, kinds.now) ≡ on_after (here, kinds.now) p (Machine.close_c c) }
 {
     let due = here.due;
     if after_value(due) {
@@ -179,7 +179,7 @@ fn closed_after(here: Here, kind: u8, p: usize, kinds: &[u8; DEPTH_LIMIT]) -> He
 // A comma after a value, or where none has come.
 fn comma_after(here: Here, p: usize, kinds: &[u8; DEPTH_LIMIT]) -> Here
     requires { Roomy here }
-    ensures { (result, kinds.now) ≡ on_after (here, kinds.now) p Machine.commaC }
+    ensures { (result, kinds.now) ≡ on_after (here, kinds.now) p Machine.comma_c }
 {
     let due = here.due;
     if after_value(due) {
@@ -190,7 +190,7 @@ fn comma_after(here: Here, p: usize, kinds: &[u8; DEPTH_LIMIT]) -> Here
 
 // A colon, after a key alone.
 fn colon_after(here: Here, p: usize) -> Here
-    ensures { (ks : List ℕ) → (result, ks) ≡ on_after (here, ks) p Machine.colonC }
+    ensures { (ks : List ℕ) → (result, ks) ≡ on_after (here, ks) p Machine.colon_c }
 {
     let due = here.due;
     match due {
@@ -209,7 +209,7 @@ fn colon_after(here: Here, p: usize) -> Here
 
 // A plus joins the next part to one that has come.
 fn plus_after(here: Here, p: usize) -> Here
-    ensures { (ks : List ℕ) → (result, ks) ≡ on_after (here, ks) p Machine.plusC }
+    ensures { (ks : List ℕ) → (result, ks) ≡ on_after (here, ks) p Machine.plus_c }
 {
     let due = here.due;
     match due {
@@ -229,7 +229,7 @@ fn plus_after(here: Here, p: usize) -> Here
 // A byte of this class after a value, a key or a part.
 fn on_after(here: Here, p: usize, class: Class, kinds: &[u8; DEPTH_LIMIT]) -> Here
     requires { Roomy here }
-    ensures { (result, kinds.now) ≡ on_after (here, kinds.now) p (classIs class) }
+    ensures { (result, kinds.now) ≡ on_after (here, kinds.now) p (class_is class) }
 {
     match class {
         Class::Blank => moded(here, Mode::At),
@@ -255,7 +255,7 @@ fn on_after(here: Here, p: usize, class: Class, kinds: &[u8; DEPTH_LIMIT]) -> He
 // The first byte of a number or a time value.
 fn begun_figure(here: Here, p: usize, b: u8) -> Here
     requires { Roomy here }
-    ensures { (ks : List ℕ) → (result, ks) ≡ begunFigure (here, ks) p (beginFigure p b) }
+    ensures { (ks : List ℕ) → (result, ks) ≡ begun_figure (here, ks) p (begin_figure p b) }
 {
     match figures::begin(p, b) {
         Out::Takes(mode, n) => begun(here, mode, Due::AfterValue, n),
@@ -267,7 +267,7 @@ fn begun_figure(here: Here, p: usize, b: u8) -> Here
 // A byte of this class where a value may stand.
 fn on_value(here: Here, p: usize, b: u8, class: Class, kinds: &mut [u8; DEPTH_LIMIT]) -> Here
     requires { Roomy here }
-    ensures { (result, kinds.new) ≡ onValue (here, kinds.old) p b (classIs class) }
+    ensures { (result, kinds.new) ≡ on_value (here, kinds.old) p b (class_is class) }
 {
     match class {
         Class::Blank => moded(here, Mode::At),
@@ -293,7 +293,7 @@ fn on_value(here: Here, p: usize, b: u8, class: Class, kinds: &mut [u8; DEPTH_LI
 // A byte of this class where a key may stand.
 fn on_key(here: Here, p: usize, b: u8, class: Class, kinds: &[u8; DEPTH_LIMIT]) -> Here
     requires { Roomy here }
-    ensures { (result, kinds.now) ≡ onKey (here, kinds.now) p b (classIs class) }
+    ensures { (result, kinds.now) ≡ on_key (here, kinds.now) p b (class_is class) }
 {
     match class {
         Class::Blank => moded(here, Mode::At),
@@ -318,7 +318,7 @@ fn on_key(here: Here, p: usize, b: u8, class: Class, kinds: &[u8; DEPTH_LIMIT]) 
 
 // A byte of this class after a plus: what a quote comes to, and a dollar.
 fn on_part(here: Here, quoted: Here, dollared: Here, p: usize, class: Class) -> Here
-    ensures { (ks : List ℕ) → (result, ks) ≡ onPart (here, ks) p (quoted, ks) (dollared, ks) (classIs class) }
+    ensures { (ks : List ℕ) → (result, ks) ≡ on_part (here, ks) p (quoted, ks) (dollared, ks) (class_is class) }
 {
     match class {
         Class::Blank => moded(here, Mode::At),
@@ -344,7 +344,7 @@ fn on_part(here: Here, quoted: Here, dollared: Here, p: usize, class: Class) -> 
 // A byte of this class where the next part of a string or a key must stand; `after` is due after it.
 fn on_string_part(here: Here, after: Due, p: usize, b: u8, class: Class) -> Here
     ensures { (ks : List ℕ) → (result, ks)
-        ≡ onPart (here, ks) p (Steps.resumed (here, ks) (openQuote b) after) (Steps.odd (here, ks) p) (classIs class) }
+        ≡ on_part (here, ks) p (Steps.resumed (here, ks) (open_quote b) after) (Steps.odd (here, ks) p) (class_is class) }
 {
     let quoted = resumed(here, strings::opening(b), after);
     let dollared = odd(here, p);
@@ -354,7 +354,7 @@ fn on_string_part(here: Here, after: Due, p: usize, b: u8, class: Class) -> Here
 // A byte of this class where the next part of a binary must stand.
 fn on_binary_part(here: Here, p: usize, class: Class) -> Here
     ensures { (ks : List ℕ) → (result, ks)
-        ≡ onPart (here, ks) p (Steps.odd (here, ks) p) (Steps.resumed (here, ks) (Packing Dollar) AfterBinary) (classIs class) }
+        ≡ on_part (here, ks) p (Steps.odd (here, ks) p) (Steps.resumed (here, ks) (Packing Dollar) AfterBinary) (class_is class) }
 {
     let quoted = odd(here, p);
     let dollared = resumed(here, Mode::Packing(Octets::Dollar), Due::AfterBinary);
@@ -384,7 +384,7 @@ fn between(here: Here, p: usize, b: u8, kinds: &mut [u8; DEPTH_LIMIT]) -> Here
 
 // After a slash where no item stands.
 fn slash(here: Here, p: usize, b: u8) -> Here
-    ensures { (ks : List ℕ) → (result, ks) ≡ onSlash (here, ks) p (note_of b) }
+    ensures { (ks : List ℕ) → (result, ks) ≡ on_slash (here, ks) p (note_of b) }
 {
     match classes::note_of(b) {
         Note::Slash => moded(here, Mode::Line),
@@ -397,7 +397,7 @@ fn slash(here: Here, p: usize, b: u8) -> Here
 
 // In a line comment.
 fn line(here: Here, p: usize, b: u8) -> Here
-    ensures { (ks : List ℕ) → (result, ks) ≡ onLine (here, ks) p (note_of b) }
+    ensures { (ks : List ℕ) → (result, ks) ≡ on_line (here, ks) p (note_of b) }
 {
     match classes::note_of(b) {
         Note::LineEnd => moded(here, Mode::At),
@@ -410,7 +410,7 @@ fn line(here: Here, p: usize, b: u8) -> Here
 
 // In a block comment.
 fn block(here: Here, p: usize, b: u8) -> Here
-    ensures { (ks : List ℕ) → (result, ks) ≡ onBlock (here, ks) p (note_of b) }
+    ensures { (ks : List ℕ) → (result, ks) ≡ on_block (here, ks) p (note_of b) }
 {
     match classes::note_of(b) {
         Note::Star => moded(here, Mode::Star),
@@ -423,7 +423,7 @@ fn block(here: Here, p: usize, b: u8) -> Here
 
 // After a star in a block comment.
 fn star(here: Here, p: usize, b: u8) -> Here
-    ensures { (ks : List ℕ) → (result, ks) ≡ onStar (here, ks) p (note_of b) }
+    ensures { (ks : List ℕ) → (result, ks) ≡ on_star (here, ks) p (note_of b) }
 {
     match classes::note_of(b) {
         Note::Slash => moded(here, Mode::At),
@@ -463,7 +463,7 @@ fn done(here: Here, out: Out, p: usize, b: u8, kinds: &mut [u8; DEPTH_LIMIT]) ->
 
 // What the byte b does at the place p.
 pub fn next(here: Here, p: usize, b: u8, kinds: &mut [u8; DEPTH_LIMIT]) -> Here
-    requires { (saneHere p here ≡ true) × (p < textLimit) }
+    requires { (sane_here p here ≡ true) × (p < text_limit) }
     ensures { (result, kinds.new) ≡ Steps.next (here, kinds.old) p b }
 {
     let mode = here.mode;

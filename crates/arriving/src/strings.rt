@@ -2,10 +2,10 @@
 // than they are, 0 for none.
 ghost use Rattle.std.specs.Prelude.{◌≡◌, ◌≤◌, length};
 ghost use Rattle.rules.specs.Rfc3629.{encode};
-ghost use Rattle.meaning.specs.Limits.{textLimit};
-ghost use Rattle.machine.specs.Strings.{hexOf, short_of};
+ghost use Rattle.meaning.specs.Limits.{text_limit};
+ghost use Rattle.machine.specs.Strings.{hex_of, short_of};
 ghost use Rattle.arriving.specs.Between.Strings as Strings;
-ghost use Rattle.arriving.specs.Between.Strings.{openQuote, quotes, nextQuoted};
+ghost use Rattle.arriving.specs.Between.Strings.{open_quote, quotes, next_quoted};
 ghost use Rattle.arriving.specs.declared.states.Inner.TheVariants as Inners;
 
 use crate::states::{Inner, Mode, Out, Quoted};
@@ -14,7 +14,7 @@ use meaning::Refusal;
 
 // After the opening quote b.
 pub fn opening(b: u8) -> Mode
-    ensures { result ≡ openQuote b }
+    ensures { result ≡ open_quote b }
 {
     let k = Quoted {
         quote: b,
@@ -50,7 +50,7 @@ fn first_of(bad: usize, at: usize) -> usize
 
 // A high surrogate that waits no longer is a bad escape.
 fn bad_now(k: Quoted) -> usize
-    ensures { result ≡ Strings.badNow k }
+    ensures { result ≡ Strings.bad_now k }
 {
     if k.half == 0 {
         return k.bad;
@@ -136,7 +136,7 @@ fn unit(k: Quoted, at: usize, w: u32) -> Out
 
 // A character in braces.
 fn in_braces(k: Quoted, at: usize, w: u32) -> Out
-    ensures { result ≡ Strings.inBraces k at w }
+    ensures { result ≡ Strings.in_braces k at w }
 {
     if w < 0xD800 {
         return give(k, utf8_size(w));
@@ -167,7 +167,7 @@ fn hexed(k: Quoted, at: usize, n: u8, w: u32) -> Out
 
 // A digit of four, after which n more come.
 fn hex(k: Quoted, at: usize, n: u8, v: u32, p: usize, b: u8) -> Out
-    ensures { result ≡ Strings.onHex k at n v p (hexOf b) }
+    ensures { result ≡ Strings.on_hex k at n v p (hex_of b) }
 {
     let x = hex_digit::hex(b);
     if x < 16 {
@@ -178,7 +178,7 @@ fn hex(k: Quoted, at: usize, n: u8, v: u32, p: usize, b: u8) -> Out
 
 // A digit in braces.
 fn brace(k: Quoted, at: usize, v: u32, p: usize, b: u8) -> Out
-    ensures { result ≡ Strings.onBrace k at v p (hexOf b) }
+    ensures { result ≡ Strings.on_brace k at v p (hex_of b) }
 {
     let x = hex_digit::hex(b);
     if x < 16 {
@@ -193,7 +193,7 @@ fn brace(k: Quoted, at: usize, v: u32, p: usize, b: u8) -> Out
 
 // After the first digit in braces.
 fn braced(k: Quoted, at: usize, v: u32, p: usize, b: u8) -> Out
-    ensures { result ≡ nextQuoted k (Inners.Brace v at) p b }
+    ensures { result ≡ next_quoted k (Inners.Brace v at) p b }
 {
     if b == b'}' {
         return in_braces(k, at, v);
@@ -203,7 +203,7 @@ fn braced(k: Quoted, at: usize, v: u32, p: usize, b: u8) -> Out
 
 // After `\u`.
 fn unicode(k: Quoted, at: usize, p: usize, b: u8) -> Out
-    ensures { result ≡ nextQuoted k (Inners.Unicode at) p b }
+    ensures { result ≡ next_quoted k (Inners.Unicode at) p b }
 {
     if b == b'{' {
         return goes(k, Inner::BraceOpen(at), 0);
@@ -213,7 +213,7 @@ fn unicode(k: Quoted, at: usize, p: usize, b: u8) -> Out
 
 // After a backslash.
 fn escape(k: Quoted, at: usize, p: usize, b: u8) -> Out
-    ensures { result ≡ nextQuoted k (Inners.Escape at) p b }
+    ensures { result ≡ next_quoted k (Inners.Escape at) p b }
 {
     if b == b'u' {
         return goes(k, Inner::Unicode(at), 0);
@@ -226,8 +226,8 @@ fn escape(k: Quoted, at: usize, p: usize, b: u8) -> Out
 
 // Between two characters.
 fn body(k: Quoted, p: usize, b: u8) -> Out
-    requires { p ≤ textLimit }
-    ensures { result ≡ Strings.onBody k p b }
+    requires { p ≤ text_limit }
+    ensures { result ≡ Strings.on_body k p b }
 {
     if b == b'\\' {
         return goes(k, Inner::Escape(p + 1), 0);
@@ -243,8 +243,8 @@ fn body(k: Quoted, p: usize, b: u8) -> Out
 
 // After one quote.
 fn one(k: Quoted, p: usize, b: u8) -> Out
-    requires { p ≤ textLimit }
-    ensures { result ≡ nextQuoted k Inners.One p b }
+    requires { p ≤ text_limit }
+    ensures { result ≡ next_quoted k Inners.One p b }
 {
     if b == k.quote {
         return goes(k, Inner::Two, 0);
@@ -254,7 +254,7 @@ fn one(k: Quoted, p: usize, b: u8) -> Out
 
 // After two quotes.
 fn two(k: Quoted, p: usize, b: u8) -> Out
-    ensures { result ≡ nextQuoted k Inners.Two p b }
+    ensures { result ≡ next_quoted k Inners.Two p b }
 {
     if b == k.quote {
         return goes(k, Inner::Opened, 0);
@@ -265,7 +265,7 @@ fn two(k: Quoted, p: usize, b: u8) -> Out
 // In a multiline part after n quotes, with so many store bytes held back before them; no more than two quotes ever wait.
 fn lines(k: Quoted, n: u8, held: usize, p: usize, b: u8) -> Out
     requires { held ≤ 1 }
-    ensures { result ≡ Strings.onLines k n held p b }
+    ensures { result ≡ Strings.on_lines k n held p b }
 {
     if b == k.quote {
         if 2 <= n {
@@ -281,7 +281,7 @@ fn lines(k: Quoted, n: u8, held: usize, p: usize, b: u8) -> Out
 
 // After three quotes.
 fn opened(k: Quoted, p: usize, b: u8) -> Out
-    ensures { result ≡ Strings.onOpened k p b }
+    ensures { result ≡ Strings.on_opened k p b }
 {
     if b == b'\n' {
         return goes(k, Inner::Lines(0), 0);
@@ -294,7 +294,7 @@ fn opened(k: Quoted, p: usize, b: u8) -> Out
 
 // After three quotes and a CR, which is lost with an LF behind it, and kept otherwise.
 fn opened_cr(k: Quoted, p: usize, b: u8) -> Out
-    ensures { result ≡ nextQuoted k Inners.OpenedCr p b }
+    ensures { result ≡ next_quoted k Inners.OpenedCr p b }
 {
     if b == b'\n' {
         return goes(k, Inner::Lines(0), 0);
@@ -315,8 +315,8 @@ fn closed(k: Quoted) -> Out
 
 // What the byte b at the place p does to a string part.
 pub fn quoted_next(k: Quoted, s: Inner, p: usize, b: u8) -> Out
-    requires { p ≤ textLimit }
-    ensures { result ≡ nextQuoted k s p b }
+    requires { p ≤ text_limit }
+    ensures { result ≡ next_quoted k s p b }
 {
     match s {
         Inner::One => one(k, p, b),

@@ -1,10 +1,10 @@
 // Time values, a byte at a time. The check of one is made at its end, and gives 5 at its first byte.
 ghost use Rattle.std.specs.Prelude.{◌≡◌};
 ghost use Rattle.arriving.specs.declared.states.Moment.TheVariants as Moment;
-ghost use Rattle.rules.specs.Between.Decided.{isDate};
-ghost use Rattle.machine.specs.Numeric.{dgOf, dayOf, secOf};
+ghost use Rattle.rules.specs.Between.Decided.{is_date};
+ghost use Rattle.machine.specs.Numeric.{dg_of, day_of, sec_of};
 ghost use Rattle.arriving.specs.Between.Times as Times;
-ghost use Rattle.arriving.specs.Between.Times.{goesOn, fieldDue, testedOut, nextDay, nextOffset, nextZone, nextSecond, nextMoment};
+ghost use Rattle.arriving.specs.Between.Times.{goes_on, field_due, tested_out, next_day, next_offset, next_zone, next_second, next_moment};
 
 use crate::states::{Mode, Moment, Out, Slot, Stamp};
 use meaning::Refusal;
@@ -12,14 +12,14 @@ use rules::DateAnswer;
 
 // The time value goes on.
 fn goes(s: Stamp, m: Moment) -> Out
-    ensures { result ≡ goesOn s m }
+    ensures { result ≡ goes_on s m }
 {
     Out::Takes(Mode::Timing(s, m), 0)
 }
 
 // The first digit of a field is due.
 fn due(s: Stamp, slot: Slot) -> Out
-    ensures { result ≡ fieldDue s slot }
+    ensures { result ≡ field_due s slot }
 {
     goes(
         s,
@@ -33,7 +33,7 @@ fn due(s: Stamp, slot: Slot) -> Out
 
 // The check at the end.
 fn tested(s: Stamp) -> Out
-    ensures { result ≡ testedOut s }
+    ensures { result ≡ tested_out s }
 {
     if s.good {
         return Out::Stops;
@@ -43,7 +43,7 @@ fn tested(s: Stamp) -> Out
 
 // Whether three numbers are a date.
 fn is_date(year: u16, month: u8, day: u8) -> bool
-    ensures { result ≡ isDate year month day }
+    ensures { result ≡ is_date year month day }
 {
     match rules::date(year as u64, month as u64, day as u64) {
         DateAnswer::Done => true,
@@ -74,7 +74,7 @@ fn within(s: Stamp, v: u8, most: u8) -> Stamp
 
 // After a date: it goes on with a time after T, or after one space followed by a digit.
 fn after_day(s: Stamp, b: u8) -> Out
-    ensures { result ≡ nextDay s (dayOf b) }
+    ensures { result ≡ next_day s (day_of b) }
 {
     if b == b'T' {
         return due(s, Slot::Hour);
@@ -90,7 +90,7 @@ fn after_day(s: Stamp, b: u8) -> Out
 
 // After a date and one space.
 fn spaced(s: Stamp, b: u8) -> Out
-    ensures { result ≡ Times.nextSpaced s b (dgOf b) }
+    ensures { result ≡ Times.next_spaced s b (dg_of b) }
 {
     if b < b'0' {
         return tested(s);
@@ -110,7 +110,7 @@ fn spaced(s: Stamp, b: u8) -> Out
 
 // After a date and its time of day.
 fn offset(s: Stamp, b: u8) -> Out
-    ensures { result ≡ nextOffset s (secOf b) }
+    ensures { result ≡ next_offset s (sec_of b) }
 {
     if b == b'Z' {
         return goes(s, Moment::Zulu);
@@ -129,7 +129,7 @@ fn offset(s: Stamp, b: u8) -> Out
 
 // After a time of day: a local time has no offset.
 fn zone(s: Stamp, b: u8) -> Out
-    ensures { result ≡ nextZone s (secOf b) }
+    ensures { result ≡ next_zone s (sec_of b) }
 {
     if s.dated {
         return offset(s, b);
@@ -139,7 +139,7 @@ fn zone(s: Stamp, b: u8) -> Out
 
 // After a second.
 fn after_second(s: Stamp, b: u8) -> Out
-    ensures { result ≡ nextSecond s (secOf b) }
+    ensures { result ≡ next_second s (sec_of b) }
 {
     if b == b'.' {
         return goes(s, Moment::Point);
@@ -149,7 +149,7 @@ fn after_second(s: Stamp, b: u8) -> Out
 
 // After a second and a point.
 fn point(s: Stamp, p: usize, b: u8) -> Out
-    ensures { result ≡ Times.nextPoint s p (dgOf b) }
+    ensures { result ≡ Times.next_point s p (dg_of b) }
 {
     if b < b'0' {
         return Out::Breaks(Refusal::NotGrammar(p));
@@ -162,7 +162,7 @@ fn point(s: Stamp, p: usize, b: u8) -> Out
 
 // After a digit of a second's fraction.
 fn fraction(s: Stamp, b: u8) -> Out
-    ensures { result ≡ Times.nextFraction s (secOf b) }
+    ensures { result ≡ Times.next_fraction s (sec_of b) }
 {
     if b < b'0' {
         return zone(s, b);
@@ -175,7 +175,7 @@ fn fraction(s: Stamp, b: u8) -> Out
 
 // No byte but this mark, and then the next field.
 fn only(s: Stamp, slot: Slot, mark: u8, p: usize, b: u8) -> Out
-    ensures { result ≡ Times.onlyThen s slot mark p b }
+    ensures { result ≡ Times.only_then s slot mark p b }
 {
     if b == mark {
         return due(s, slot);
@@ -185,7 +185,7 @@ fn only(s: Stamp, slot: Slot, mark: u8, p: usize, b: u8) -> Out
 
 // After a field of the value v.
 fn full(s: Stamp, slot: Slot, v: u8, p: usize, b: u8) -> Out
-    ensures { result ≡ Times.nextFull s slot v p b }
+    ensures { result ≡ Times.next_full s slot v p b }
 {
     match slot {
         Slot::Month(year) => only(s, Slot::Day { year, month: v }, b'-', p, b),
@@ -200,7 +200,7 @@ fn full(s: Stamp, slot: Slot, v: u8, p: usize, b: u8) -> Out
 
 // In a field of the value v so far, of which `left` more digits are due.
 fn field(s: Stamp, slot: Slot, left: u8, v: u8, p: usize, b: u8) -> Out
-    ensures { result ≡ nextMoment s (Moment.Field slot left v) p b }
+    ensures { result ≡ next_moment s (Moment.Field slot left v) p b }
 {
     if left == 0 {
         return full(s, slot, v, p, b);
@@ -223,7 +223,7 @@ fn field(s: Stamp, slot: Slot, left: u8, v: u8, p: usize, b: u8) -> Out
 
 // What the byte b at the place p does to a time value.
 pub fn moment_next(s: Stamp, m: Moment, p: usize, b: u8) -> Out
-    ensures { result ≡ nextMoment s m p b }
+    ensures { result ≡ next_moment s m p b }
 {
     match m {
         Moment::Field { slot, left, value } => field(s, slot, left, value, p, b),

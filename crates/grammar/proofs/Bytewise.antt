@@ -9,12 +9,12 @@ use native.Mathlib.Omega.{arith}
 use lib.Dec.{lit<, lit≤}
 use lib.ListN.{length, length-append}
 use Rattle.rules.specs.Rfc3629.{Char, Octets, Scalar, encode}
-use Rattle.rules.proofs.Characters.{Each, all_none, all_more, each_map, sized, long, short, same_head, same-tail, after, join}
-use Rattle.rules.proofs.Numbers.{row-1, row-2, row-3, row-4, numbered}
+use Rattle.rules.proofs.Characters.{Each, all_none, all_more, each_map, sized, long, short, same_head, same_tail, after, join}
+use Rattle.rules.proofs.Numbers.{row_1, row_2, row_3, row_4, numbered}
 use Rattle.meaning.specs.Letters.{ch}
 use Rattle.grammar.specs.Characters.{Range, Of, Among, Many}
-use Rattle.grammar.specs.Comments.{c-char, c-no-star, c-no-star-or-slash, Stars, C-inner}
-use Rattle.grammar.specs.Strings.{Quote, double, single, mark, other, Chars, unescaped, Up-to-two, source}
+use Rattle.grammar.specs.Comments.{c_char, c_no_star, c_no_star_or_slash, Stars, CInner}
+use Rattle.grammar.specs.Strings.{Quote, double, single, mark, other, Chars, unescaped, UpToTwo, source}
 use Rattle.grammar.proofs.Utf8.{ascii}
 
 -- a byte of a character of these ranges: an ASCII character is its byte, and every byte of another one is 80 or more
@@ -27,9 +27,9 @@ pub longer : (n : ℕ) → 0x7F < n → 1 < length (encode n)
 longer n h = go (dec_lt 0x7FF n) (dec_lt 0xFFFF n)
   where
     go : Dec (0x7FF < n) → Dec (0xFFFF < n) → 1 < length (encode n)
-    go (no l) y = omega (arith, ap length (row-2 n h (omega arith)))
-    go (yes l) (no m) = omega (arith, ap length (row-3 n l (omega arith)))
-    go (yes l) (yes m) = omega (arith, ap length (row-4 n m))
+    go (no l) y = omega (arith, ap length (row_2 n h (omega arith)))
+    go (yes l) (no m) = omega (arith, ap length (row_3 n l (omega arith)))
+    go (yes l) (yes m) = omega (arith, ap length (row_4 n m))
 
 -- ---- from bytes to characters
 
@@ -39,7 +39,7 @@ above n h = go (dec_lt 0x7F n)
   where
     go : Dec (0x7F < n) → 0x7F < n
     go (yes l) = l
-    go (no l) = absurd (omega (arith, ap length (row-1 n (omega arith))))
+    go (no l) = absurd (omega (arith, ap length (row_1 n (omega arith))))
 
 -- a byte from 80 up begins a longer character in UTF-8
 pub record Begins (b : ℕ) (s : List ℕ) : Type 0 where
@@ -80,7 +80,7 @@ begins b s o h = go o refl
   where
     cut : (c t : List ℕ) → Char c → Octets t → c ++ t ≡ b ∷ s → Begins b s
     cut [] t x y e = let z = sized x in absurd (omega arith)
-    cut (d ∷ c) t x y e = subst (Begins b) (same-tail e) (begun b c (subst (λ (k : ℕ). Char (k ∷ c)) (same_head e) x) t y h)
+    cut (d ∷ c) t x y e = subst (Begins b) (same_tail e) (begun b c (subst (λ (k : ℕ). Char (k ∷ c)) (same_head e) x) t y h)
 
     go : {a : List ℕ} → Octets a → a ≡ b ∷ s → Begins b s
     go Octets.none e = absurd (omega (arith, ap length e))
@@ -92,66 +92,66 @@ behind b s h o = after (ascii {b = b} (omega arith) Octets.none) s o
 
 -- Units of a front p, in ASCII, and a character n behind it: K says which n may follow which p. Line comments, block comments and
 -- multiline strings are such.
-pub data Unit-of (K : List ℕ → ℕ → Type 0) : List ℕ → Type 0 where
-  unit : {p : List ℕ} {n : ℕ} → Scalar n → K p n → Unit-of K (p ++ encode n)
+pub data UnitOf (K : List ℕ → ℕ → Type 0) : List ℕ → Type 0 where
+  unit : {p : List ℕ} {n : ℕ} → Scalar n → K p n → UnitOf K (p ++ encode n)
 
 -- the same by bytes
-pub data Byte-of (K : List ℕ → ℕ → Type 0) : List ℕ → Type 0 where
-  low : {p : List ℕ} {b : ℕ} → b < 0x80 → K p b → Byte-of K (p ++ (b ∷ []))
-  high : {p : List ℕ} {b : ℕ} → 0x80 ≤ b → ((n : ℕ) → 0x7F < n → Scalar n → K p n) → Byte-of K (p ++ (b ∷ []))
+pub data ByteOf (K : List ℕ → ℕ → Type 0) : List ℕ → Type 0 where
+  low : {p : List ℕ} {b : ℕ} → b < 0x80 → K p b → ByteOf K (p ++ (b ∷ []))
+  high : {p : List ℕ} {b : ℕ} → 0x80 ≤ b → ((n : ℕ) → 0x7F < n → Scalar n → K p n) → ByteOf K (p ++ (b ∷ []))
 
 module _ {K : List ℕ → ℕ → Type 0} (fronts : (p : List ℕ) (n : ℕ) → K p n → Each (λ b. b < 0x80) p) where
   -- a front is ASCII
-  front-octets : {p : List ℕ} → Each (λ b. b < 0x80) p → Octets p
-  front-octets all_none = Octets.none
-  front-octets (all_more h r) = ascii (omega arith) (front-octets r)
+  front_octets : {p : List ℕ} → Each (λ b. b < 0x80) p → Octets p
+  front_octets all_none = Octets.none
+  front_octets (all_more h r) = ascii (omega arith) (front_octets r)
 
-  some-scalar : Scalar 0x80
-  some-scalar = record { top = omega arith; whole = inl (omega arith) }
+  some_scalar : Scalar 0x80
+  some_scalar = record { top = omega arith; whole = inl (omega arith) }
 
   -- a byte from 80 up is a unit by itself
-  peel-one : (p : List ℕ) (c : ℕ) (a : List ℕ) (b : ℕ) (s : List ℕ) → 0x80 ≤ b → Each (λ k. k < 0x80) p → p ++ (c ∷ []) ++ a ≡ b ∷ s → a ≡ s
-  peel-one [] c a b s h f e = same-tail e
-  peel-one (d ∷ p) c a b s h (all_more l f) e = absurd (omega (arith, same_head e))
+  peel_one : (p : List ℕ) (c : ℕ) (a : List ℕ) (b : ℕ) (s : List ℕ) → 0x80 ≤ b → Each (λ k. k < 0x80) p → p ++ (c ∷ []) ++ a ≡ b ∷ s → a ≡ s
+  peel_one [] c a b s h f e = same_tail e
+  peel_one (d ∷ p) c a b s h (all_more l f) e = absurd (omega (arith, same_head e))
 
-  peel : {a : List ℕ} → Many (Byte-of K) a → (b : ℕ) (s : List ℕ) → 0x80 ≤ b → a ≡ b ∷ s → Many (Byte-of K) s
+  peel : {a : List ℕ} → Many (ByteOf K) a → (b : ℕ) (s : List ℕ) → 0x80 ≤ b → a ≡ b ∷ s → Many (ByteOf K) s
   peel Many.none b s h e = absurd (omega (arith, ap length e))
-  peel (Many.more {a = a} (Byte-of.low {p = p} {b = c} l k) m) b s h e = subst (Many (Byte-of K)) (peel-one p c a b s h (fronts p c k) e) m
-  peel (Many.more {a = a} (Byte-of.high {p = p} {b = c} l k) m) b s h e = subst (Many (Byte-of K))
-      (peel-one p c a b s h (fronts p 0x80 (k 0x80 (omega arith) some-scalar)) e) m
+  peel (Many.more {a = a} (ByteOf.low {p = p} {b = c} l k) m) b s h e = subst (Many (ByteOf K)) (peel_one p c a b s h (fronts p c k) e) m
+  peel (Many.more {a = a} (ByteOf.high {p = p} {b = c} l k) m) b s h e = subst (Many (ByteOf K))
+      (peel_one p c a b s h (fronts p 0x80 (k 0x80 (omega arith) some_scalar)) e) m
 
-  peels : {c : List ℕ} → Each (λ k. 0x80 ≤ k) c → (s : List ℕ) → Many (Byte-of K) (c ++ s) → Many (Byte-of K) s
+  peels : {c : List ℕ} → Each (λ k. 0x80 ≤ k) c → (s : List ℕ) → Many (ByteOf K) (c ++ s) → Many (ByteOf K) s
   peels all_none s m = m
   peels (all_more {b = b} {s = c} h f) s m = peels f s (peel m b (c ++ s) h refl)
 
-  abbrev Up-to : ℕ → Type 0
-  Up-to n = (a : List ℕ) → length a < n → Many (Byte-of K) a → Octets a → Many (Unit-of K) a
+  abbrev UpTo : ℕ → Type 0
+  UpTo n = (a : List ℕ) → length a < n → Many (ByteOf K) a → Octets a → Many (UnitOf K) a
 
-  further : (n : ℕ) → Up-to n → {a : List ℕ} → length a < suc n → Many (Byte-of K) a → Octets a → Many (Unit-of K) a
+  further : (n : ℕ) → UpTo n → {a : List ℕ} → length a < suc n → Many (ByteOf K) a → Octets a → Many (UnitOf K) a
   further n f l Many.none o = Many.none
-  further n f l (Many.more {a = a} (Byte-of.low {p = p} {b = b} h k) m) o =
-      let x : Unit-of K (p ++ (b ∷ [])) = subst (λ (c : List ℕ). Unit-of K (p ++ c)) (row-1 b (omega arith))
-      (Unit-of.unit (record { top = omega arith; whole = inl (omega arith) }) k) in
-      Many.more x (f a (omega (arith, simp length-append at l)) m (after (join (front-octets (fronts p b k)) (ascii {b = b} (omega arith) Octets.none)) a o))
-  further n f l (Many.more {a = a} (Byte-of.high {p = p} {b = b} h k) m) o =
-      let w = begins b a (after (front-octets (fronts p 0x80 (k 0x80 (omega arith) some-scalar))) (b ∷ a) (rw append_assoc at o)) h in
+  further n f l (Many.more {a = a} (ByteOf.low {p = p} {b = b} h k) m) o =
+      let x : UnitOf K (p ++ (b ∷ [])) = subst (λ (c : List ℕ). UnitOf K (p ++ c)) (row_1 b (omega arith))
+      (UnitOf.unit (record { top = omega arith; whole = inl (omega arith) }) k) in
+      Many.more x (f a (omega (arith, simp length-append at l)) m (after (join (front_octets (fronts p b k)) (ascii {b = b} (omega arith) Octets.none)) a o))
+  further n f l (Many.more {a = a} (ByteOf.high {p = p} {b = b} h k) m) o =
+      let w = begins b a (after (front_octets (fronts p 0x80 (k 0x80 (omega arith) some_scalar))) (b ∷ a) (rw append_assoc at o)) h in
       let e : (p ++ encode w.number) ++ w.rest ≡ (p ++ (b ∷ [])) ++ a = append_assoc p (encode w.number) w.rest
       ∙ ap (λ (c : List ℕ). p ++ (c ++ w.rest)) (sym w.bytes) ∙ ap (λ (c : List ℕ). p ++ (b ∷ c)) (sym w.split) ∙ sym (append_assoc p (b ∷ []) a) in
       let r = f w.rest (omega (arith, simp length-append at l, simp length-append at (ap length w.split)))
-      (peels w.high w.rest (subst (Many (Byte-of K)) w.split m)) w.good in
-      subst (Many (Unit-of K)) e (Many.more (Unit-of.unit w.scalar (k w.number w.past w.scalar)) r)
+      (peels w.high w.rest (subst (Many (ByteOf K)) w.split m)) w.good in
+      subst (Many (UnitOf K)) e (Many.more (UnitOf.unit w.scalar (k w.number w.past w.scalar)) r)
 
-  up_to : (n : ℕ) → Up-to n
+  up_to : (n : ℕ) → UpTo n
   up_to zero a l m o = absurd (omega arith)
   up_to (suc n) a l m o = further n (up_to n) l m o
 
   -- in UTF-8, units by bytes are units
-  pub units : {a : List ℕ} → Many (Byte-of K) a → Octets a → Many (Unit-of K) a
+  pub units : {a : List ℕ} → Many (ByteOf K) a → Octets a → Many (UnitOf K) a
   units {a} m o = up_to (suc (length a)) a (omega arith) m o
 
-many-map : {X Y : List ℕ → Type 0} {a : List ℕ} → ((c : List ℕ) → X c → Y c) → Many X a → Many Y a
-many-map f Many.none = Many.none
-many-map f (Many.more x m) = Many.more (f _ x) (many-map f m)
+many_map : {X Y : List ℕ → Type 0} {a : List ℕ} → ((c : List ℕ) → X c → Y c) → Many X a → Many Y a
+many_map f Many.none = Many.none
+many_map f (Many.more x m) = Many.more (f _ x) (many_map f m)
 
 -- one such byte
 pub data Byte (r : List Range) : List ℕ → Type 0 where
@@ -159,134 +159,134 @@ pub data Byte (r : List Range) : List ℕ → Type 0 where
 
 -- a unit by bytes, by its byte
 by_byte : {K : List ℕ → ℕ → Type 0} (r : List Range) (p : List ℕ) → ((n : ℕ) → Of r n → K p n) → ((n : ℕ) → 0x7F < n → Scalar n → Of r n) → {c : List ℕ}
-    → Byte r c → Byte-of K (p ++ c)
-by_byte r p f g (Byte.byte (inl x)) = Byte-of.low x.0 (f _ x.1)
-by_byte r p f g (Byte.byte (inr x)) = Byte-of.high x (λ n l s. f n (g n l s))
+    → Byte r c → ByteOf K (p ++ c)
+by_byte r p f g (Byte.byte (inl x)) = ByteOf.low x.0 (f _ x.1)
+by_byte r p f g (Byte.byte (inr x)) = ByteOf.high x (λ n l s. f n (g n l s))
 
 -- ---- line comments
 
-data Line-unit : List ℕ → ℕ → Type 0 where
-  line-unit : {n : ℕ} → Of c-char n → Line-unit [] n
+data LineUnit : List ℕ → ℕ → Type 0 where
+  line_unit : {n : ℕ} → Of c_char n → LineUnit [] n
 
-line-front : (p : List ℕ) (n : ℕ) → Line-unit p n → Each (λ b. b < 0x80) p
-line-front p n (Line-unit.line-unit h) = all_none
+line_front : (p : List ℕ) (n : ℕ) → LineUnit p n → Each (λ b. b < 0x80) p
+line_front p n (LineUnit.line_unit h) = all_none
 
-line-char : (c : List ℕ) → Unit-of Line-unit c → Among c-char c
-line-char c (Unit-of.unit s (Line-unit.line-unit h)) = Among.character s h
+line_char : (c : List ℕ) → UnitOf LineUnit c → Among c_char c
+line_char c (UnitOf.unit s (LineUnit.line_unit h)) = Among.character s h
 
-c-char-open : (n : ℕ) → 0x7F < n → Scalar n → Of c-char n
-c-char-open n l s = inr (inl (record { low = omega arith; high = s.top }))
+c_char_open : (n : ℕ) → 0x7F < n → Scalar n → Of c_char n
+c_char_open n l s = inr (inl (record { low = omega arith; high = s.top }))
 
-pub line-chars : {a : List ℕ} → Many (Byte c-char) a → Octets a → Many (Among c-char) a
-line-chars m o = many-map line-char (units line-front (many-map (λ c x. by_byte c-char [] (λ n h. Line-unit.line-unit h) c-char-open x) m) o)
+pub line_chars : {a : List ℕ} → Many (Byte c_char) a → Octets a → Many (Among c_char) a
+line_chars m o = many_map line_char (units line_front (many_map (λ c x. by_byte c_char [] (λ n h. LineUnit.line_unit h) c_char_open x) m) o)
 
 -- ---- block comments
 
-pub data Inner-byte : List ℕ → Type 0 where
-  no-star : {c : List ℕ} → Byte c-no-star c → Inner-byte c
-  stars : {s c : List ℕ} → Stars s → Byte c-no-star-or-slash c → Inner-byte (s ++ c)
+pub data InnerByte : List ℕ → Type 0 where
+  no_star : {c : List ℕ} → Byte c_no_star c → InnerByte c
+  stars : {s c : List ℕ} → Stars s → Byte c_no_star_or_slash c → InnerByte (s ++ c)
 
-data Block-unit : List ℕ → ℕ → Type 0 where
-  no-star : {n : ℕ} → Of c-no-star n → Block-unit [] n
-  stars : {s : List ℕ} {n : ℕ} → Stars s → Of c-no-star-or-slash n → Block-unit s n
+data BlockUnit : List ℕ → ℕ → Type 0 where
+  no_star : {n : ℕ} → Of c_no_star n → BlockUnit [] n
+  stars : {s : List ℕ} {n : ℕ} → Stars s → Of c_no_star_or_slash n → BlockUnit s n
 
-stars-low : {s : List ℕ} → Stars s → Each (λ b. b < 0x80) s
-stars-low Stars.one = all_more (lit< tt) all_none
-stars-low (Stars.more r) = all_more (lit< tt) (stars-low r)
+stars_low : {s : List ℕ} → Stars s → Each (λ b. b < 0x80) s
+stars_low Stars.one = all_more (lit< tt) all_none
+stars_low (Stars.more r) = all_more (lit< tt) (stars_low r)
 
-block-front : (p : List ℕ) (n : ℕ) → Block-unit p n → Each (λ b. b < 0x80) p
-block-front p n (Block-unit.no-star h) = all_none
-block-front p n (Block-unit.stars r h) = stars-low r
+block_front : (p : List ℕ) (n : ℕ) → BlockUnit p n → Each (λ b. b < 0x80) p
+block_front p n (BlockUnit.no_star h) = all_none
+block_front p n (BlockUnit.stars r h) = stars_low r
 
-block-char : (c : List ℕ) → Unit-of Block-unit c → C-inner c
-block-char c (Unit-of.unit s (Block-unit.no-star h)) = C-inner.no-star (Among.character s h)
-block-char c (Unit-of.unit s (Block-unit.stars r h)) = C-inner.stars r (Among.character s h)
+block_char : (c : List ℕ) → UnitOf BlockUnit c → CInner c
+block_char c (UnitOf.unit s (BlockUnit.no_star h)) = CInner.no_star (Among.character s h)
+block_char c (UnitOf.unit s (BlockUnit.stars r h)) = CInner.stars r (Among.character s h)
 
-no-star-open : (n : ℕ) → 0x7F < n → Scalar n → Of c-no-star n
-no-star-open n l s = inr (inr (inr (inr (inl (record { low = omega arith; high = s.top })))))
+no_star_open : (n : ℕ) → 0x7F < n → Scalar n → Of c_no_star n
+no_star_open n l s = inr (inr (inr (inr (inl (record { low = omega arith; high = s.top })))))
 
-no-star-or-slash-open : (n : ℕ) → 0x7F < n → Scalar n → Of c-no-star-or-slash n
-no-star-or-slash-open n l s = inr (inr (inr (inr (inr (inl (record { low = omega arith; high = s.top }))))))
+no_star_or_slash_open : (n : ℕ) → 0x7F < n → Scalar n → Of c_no_star_or_slash n
+no_star_or_slash_open n l s = inr (inr (inr (inr (inr (inl (record { low = omega arith; high = s.top }))))))
 
-block-byte : (c : List ℕ) → Inner-byte c → Byte-of Block-unit c
-block-byte c (Inner-byte.no-star x) = by_byte c-no-star [] (λ n h. Block-unit.no-star h) no-star-open x
-block-byte c (Inner-byte.stars {s = s} r x) = by_byte c-no-star-or-slash s (λ n h. Block-unit.stars r h) no-star-or-slash-open x
+block_byte : (c : List ℕ) → InnerByte c → ByteOf BlockUnit c
+block_byte c (InnerByte.no_star x) = by_byte c_no_star [] (λ n h. BlockUnit.no_star h) no_star_open x
+block_byte c (InnerByte.stars {s = s} r x) = by_byte c_no_star_or_slash s (λ n h. BlockUnit.stars r h) no_star_or_slash_open x
 
-pub block-inner : {a : List ℕ} → Many Inner-byte a → Octets a → Many C-inner a
-block-inner m o = many-map block-char (units block-front (many-map block-byte m) o)
+pub block_inner : {a : List ℕ} → Many InnerByte a → Octets a → Many CInner a
+block_inner m o = many_map block_char (units block_front (many_map block_byte m) o)
 
 -- ---- multiline strings
 
-pub data M-byte (q : Quote) : List ℕ → Type 0 where
-  m-byte : {s c : List ℕ} → Up-to-two q s → Byte (source q) c → M-byte q (s ++ c)
+pub data MByte (q : Quote) : List ℕ → Type 0 where
+  m_byte : {s c : List ℕ} → UpToTwo q s → Byte (source q) c → MByte q (s ++ c)
 
-data M-unit (q : Quote) : List ℕ → ℕ → Type 0 where
-  m-unit : {s : List ℕ} {n : ℕ} → Up-to-two q s → Of (source q) n → M-unit q s n
+data MUnit (q : Quote) : List ℕ → ℕ → Type 0 where
+  m_unit : {s : List ℕ} {n : ℕ} → UpToTwo q s → Of (source q) n → MUnit q s n
 
-mark-low : (q : Quote) → mark q < 0x80
-mark-low double = lit< tt
-mark-low single = lit< tt
+mark_low : (q : Quote) → mark q < 0x80
+mark_low double = lit< tt
+mark_low single = lit< tt
 
 -- ---- strings of one line
 
-unescaped-open : (n : ℕ) → 0x7F < n → Scalar n → Of unescaped n
-unescaped-open n l s = inr (inr (inr (inl (record { low = omega arith; high = s.top }))))
+unescaped_open : (n : ℕ) → 0x7F < n → Scalar n → Of unescaped n
+unescaped_open n l s = inr (inr (inr (inl (record { low = omega arith; high = s.top }))))
 
 module _ (E : List ℕ → List ℕ → Type 0) (q : Quote) (escapes : (e v : List ℕ) → E e v → Octets e) where
-  abbrev By-bytes : List ℕ → List ℕ → Type 0
-  By-bytes a u = Chars (Byte unescaped) E q a u
+  abbrev ByBytes : List ℕ → List ℕ → Type 0
+  ByBytes a u = Chars (Byte unescaped) E q a u
 
-  abbrev By-characters : List ℕ → List ℕ → Type 0
-  By-characters a u = Chars (Among unescaped) E q a u
+  abbrev ByCharacters : List ℕ → List ℕ → Type 0
+  ByCharacters a u = Chars (Among unescaped) E q a u
 
   -- bytes from 80 up stand for themselves
   record Peeled (c s u : List ℕ) : Type 0 where
     left : List ℕ
     is : u ≡ c ++ left
-    chars : By-bytes s left
+    chars : ByBytes s left
 
-  peel-char : {a u : List ℕ} → By-bytes a u → (b : ℕ) (s : List ℕ) → 0x80 ≤ b → a ≡ b ∷ s → Peeled (b ∷ []) s u
-  peel-char Chars.none b s h e = absurd (omega (arith, ap length e))
-  peel-char (Chars.plain {u = u} (Byte.byte {b = c} x) r) b s h e = record {
+  peel_char : {a u : List ℕ} → ByBytes a u → (b : ℕ) (s : List ℕ) → 0x80 ≤ b → a ≡ b ∷ s → Peeled (b ∷ []) s u
+  peel_char Chars.none b s h e = absurd (omega (arith, ap length e))
+  peel_char (Chars.plain {u = u} (Byte.byte {b = c} x) r) b s h e = record {
     left = u;
     is = ap (λ (k : ℕ). k ∷ u) (same_head e);
-    chars = subst (λ (d : List ℕ). By-bytes d u) (same-tail e) r;
+    chars = subst (λ (d : List ℕ). ByBytes d u) (same_tail e) r;
   }
-  peel-char (Chars.escaped x r) b s h e = absurd (omega (arith, same_head e))
-  peel-char (Chars.other-quote r) b s h e = absurd (omega (arith, same_head e, mark-low (other q)))
+  peel_char (Chars.escaped x r) b s h e = absurd (omega (arith, same_head e))
+  peel_char (Chars.other_quote r) b s h e = absurd (omega (arith, same_head e, mark_low (other q)))
 
-  peel-chars : {c : List ℕ} → Each (λ k. 0x80 ≤ k) c → (s u : List ℕ) → By-bytes (c ++ s) u → Peeled c s u
-  peel-chars all_none s u r = record { left = u; is = refl; chars = r }
-  peel-chars (all_more {b = b} {s = c} h f) s u r =
-      let x = peel-char r b (c ++ s) h refl in
-      let y = peel-chars f s x.left x.chars in
+  peel_chars : {c : List ℕ} → Each (λ k. 0x80 ≤ k) c → (s u : List ℕ) → ByBytes (c ++ s) u → Peeled c s u
+  peel_chars all_none s u r = record { left = u; is = refl; chars = r }
+  peel_chars (all_more {b = b} {s = c} h f) s u r =
+      let x = peel_char r b (c ++ s) h refl in
+      let y = peel_chars f s x.left x.chars in
       record { left = y.left; is = x.is ∙ ap (λ (d : List ℕ). b ∷ d) y.is; chars = y.chars }
 
-  abbrev Chars-to : ℕ → Type 0
-  Chars-to n = (a u : List ℕ) → length a < n → By-bytes a u → Octets a → By-characters a u
+  abbrev CharsTo : ℕ → Type 0
+  CharsTo n = (a u : List ℕ) → length a < n → ByBytes a u → Octets a → ByCharacters a u
 
-  chars-further : (n : ℕ) → Chars-to n → {a u : List ℕ} → length a < suc n → By-bytes a u → Octets a → By-characters a u
-  chars-further n f l Chars.none o = Chars.none
-  chars-further n f l (Chars.plain {a = a} {u = u} (Byte.byte {b = b} (inl x)) r) o =
-      let c : Among unescaped (b ∷ []) = subst (Among unescaped) (row-1 b (omega (arith, x.0)))
+  chars_further : (n : ℕ) → CharsTo n → {a u : List ℕ} → length a < suc n → ByBytes a u → Octets a → ByCharacters a u
+  chars_further n f l Chars.none o = Chars.none
+  chars_further n f l (Chars.plain {a = a} {u = u} (Byte.byte {b = b} (inl x)) r) o =
+      let c : Among unescaped (b ∷ []) = subst (Among unescaped) (row_1 b (omega (arith, x.0)))
       (Among.character (record { top = omega (arith, x.0); whole = inl (omega (arith, x.0)) }) x.1) in
       Chars.plain c (f a u (omega arith) r (behind b a x.0 o))
-  chars-further n f l (Chars.plain {a = a} {u = u} (Byte.byte {b = b} (inr h)) r) o =
+  chars_further n f l (Chars.plain {a = a} {u = u} (Byte.byte {b = b} (inr h)) r) o =
       let w = begins b a o h in
-      let y = peel-chars w.high w.rest u (subst (λ (d : List ℕ). By-bytes d u) w.split r) in
-      let z = Chars.plain (Among.character w.scalar (unescaped-open w.number w.past w.scalar))
+      let y = peel_chars w.high w.rest u (subst (λ (d : List ℕ). ByBytes d u) w.split r) in
+      let z = Chars.plain (Among.character w.scalar (unescaped_open w.number w.past w.scalar))
       (f w.rest y.left (omega (arith, simp length-append at (ap length w.split))) y.chars w.good) in
       let p : encode w.number ++ w.rest ≡ b ∷ a = ap (λ (d : List ℕ). d ++ w.rest) (sym w.bytes) ∙ ap (λ (d : List ℕ). b ∷ d) (sym w.split) in
       let t : encode w.number ++ y.left ≡ b ∷ u = ap (λ (d : List ℕ). d ++ y.left) (sym w.bytes) ∙ ap (λ (d : List ℕ). b ∷ d) (sym y.is) in
-      subst₂ By-characters p t z
-  chars-further n f l (Chars.escaped {e = e} {v = v} {a = a} {u = u} x r) o =
+      subst₂ ByCharacters p t z
+  chars_further n f l (Chars.escaped {e = e} {v = v} {a = a} {u = u} x r) o =
       Chars.escaped x (f a u (omega (arith, simp length-append at l)) r (after (ascii {b = ch "\\"} (lit≤ tt) (escapes e v x)) a o))
-  chars-further n f l (Chars.other-quote {a = a} {u = u} r) o = Chars.other-quote (f a u (omega arith) r (behind (mark (other q)) a (mark-low (other q)) o))
+  chars_further n f l (Chars.other_quote {a = a} {u = u} r) o = Chars.other_quote (f a u (omega arith) r (behind (mark (other q)) a (mark_low (other q)) o))
 
-  chars-to : (n : ℕ) → Chars-to n
-  chars-to zero a u l r o = absurd (omega arith)
-  chars-to (suc n) a u l r o = chars-further n (chars-to n) l r o
+  chars_to : (n : ℕ) → CharsTo n
+  chars_to zero a u l r o = absurd (omega arith)
+  chars_to (suc n) a u l r o = chars_further n (chars_to n) l r o
 
   -- in UTF-8, a string by bytes is a string by characters
-  pub chars : {a u : List ℕ} → By-bytes a u → Octets a → By-characters a u
-  chars {a} {u} r o = chars-to (suc (length a)) a u (omega arith) r o
+  pub chars : {a u : List ℕ} → ByBytes a u → Octets a → ByCharacters a u
+  chars {a} {u} r o = chars_to (suc (length a)) a u (omega arith) r o

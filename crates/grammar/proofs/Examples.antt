@@ -13,22 +13,22 @@ use lib.IntN.{ℤ, pos, negsuc}
 use lib.ListN.{length}
 use Rattle.rules.specs.Rfc3629.{In, Scalar, encode}
 use Rattle.rules.specs.Rfc3339 as Calendar
-use Rattle.rules.proofs.Numbers.{row-1}
-use Rattle.meaning.specs.Once.{once, onceElements, onceMembers, held, same}
+use Rattle.rules.proofs.Numbers.{row_1}
+use Rattle.meaning.specs.Once.{once, once_elements, once_members, held, same}
 use Rattle.meaning.specs.Letters.{letters, ch}
-use Rattle.meaning.specs.Limits.{depthLimit, textLimit}
+use Rattle.meaning.specs.Limits.{depth_limit, text_limit}
 use Rattle.meaning.specs.declared.Number.{Number as Num}
-use Rattle.meaning.specs.Clock.{timeOfDay}
+use Rattle.meaning.specs.Clock.{time_of_day}
 use Rattle.meaning.specs.Meaning.{Meaning, Meanings, Members}
 use Rattle.grammar.specs.Checks.{Room}
 use Rattle.grammar.specs.Characters.{Range, ◌to◌, Of, Among, Ascii, Many, Digit, Hexdig, Digits, Decimal, Hexadecimal}
-use Rattle.grammar.specs.Comments.{C-begin-line, c-char, c-no-star, C-line, Stars, C-inner, C-block, Blank, Line-end, Ws, Last}
+use Rattle.grammar.specs.Comments.{CBeginLine, c_char, c_no_star, CLine, Stars, CInner, CBlock, Blank, LineEnd, Ws, Last}
 use Rattle.grammar.specs.Numbers.{Finite, Sign, Int, Frac0, Frac1, E, Exp, Dec, X, Unsigned, Number}
-use Rattle.grammar.specs.Strings.{Quote, double, single, Chars, Quoted, Short, Escape, unescaped, Up-to-two, source, M-char, No-newline, String-part}
+use Rattle.grammar.specs.Strings.{Quote, double, single, Chars, Quoted, Short, Escape, unescaped, UpToTwo, source, MChar, NoNewline, StringPart}
 use Rattle.grammar.specs.Strings.{Concat, String}
-use Rattle.grammar.specs.Times.{Fraction, Time-secfrac, Time-hour, Time-minute, Local-time, Local-date, Separator, Plus-minus, Time-offset, Time-value}
-use Rattle.grammar.specs.Binary.{B-escape, b-unescaped, B-part, B-direct, B-value, Binary}
-use Rattle.grammar.specs.Keys.{i-begin, i-continue, Identifier, Key}
+use Rattle.grammar.specs.Times.{Fraction, TimeSecfrac, TimeHour, TimeMinute, LocalTime, LocalDate, Separator, PlusMinus, TimeOffset, TimeValue}
+use Rattle.grammar.specs.Binary.{BEscape, b_unescaped, BPart, BDirect, BValue, Binary}
+use Rattle.grammar.specs.Keys.{i_begin, i_continue, Identifier, Key}
 use Rattle.grammar.specs.Values.{Inside, elements, members, Closes, Value, Rest, After, Item, Loose, Text}
 use Rattle.grammar.proofs.Examples.Texts.{plus, date, examples, Derived}
 use Rattle.grammar.proofs.Utf8.{both}
@@ -65,7 +65,7 @@ among : (r : List Range) (b : ℕ) → T (one_of r b) → Among r (b ∷ [])
 among r b h =
     let w = both (leb b 0x7F) (lies_in r b) h in
     let l = leb→le b 0x7F w.0 in
-    subst (Among r) (row-1 b l) (Among.character (record { top = omega arith; whole = inl (omega arith) }) (of r b w.1))
+    subst (Among r) (row_1 b l) (Among.character (record { top = omega arith; whole = inl (omega arith) }) (of r b w.1))
 
 -- a run of them
 run : {X : List ℕ → Type 0} (f : ℕ → Bool) → ((b : ℕ) → T (f b) → X (b ∷ [])) → (s : List ℕ) → T (all f s) → Many X s
@@ -83,13 +83,13 @@ decimals [] v h = Digits.over
 decimals (b ∷ s) v h = let w = both (lies (ch "0") (ch "9") b) (all (lies (ch "0") (ch "9")) s) h in
     Digits.next (Digit.digit (within _ _ b w.0)) (decimals s (10 * v + (b - ch "0")) w.1)
 
-abbrev hex-value : ℕ → ℕ
-hex-value b = cond (lies (ch "0") (ch "9") b) (b - ch "0") (cond (lies (ch "A") (ch "F") b) (b - ch "A" + 10) (b - ch "a" + 10))
+abbrev hex_value : ℕ → ℕ
+hex_value b = cond (lies (ch "0") (ch "9") b) (b - ch "0") (cond (lies (ch "A") (ch "F") b) (b - ch "A" + 10) (b - ch "a" + 10))
 
-abbrev is-hex : ℕ → Bool
-is-hex b = cond (lies (ch "0") (ch "9") b) true (cond (lies (ch "A") (ch "F") b) true (lies (ch "a") (ch "f") b))
+abbrev is_hex : ℕ → Bool
+is_hex b = cond (lies (ch "0") (ch "9") b) true (cond (lies (ch "A") (ch "F") b) true (lies (ch "a") (ch "f") b))
 
-hexdig : (b : ℕ) → T (is-hex b) → Hexdig b (hex-value b)
+hexdig : (b : ℕ) → T (is_hex b) → Hexdig b (hex_value b)
 hexdig b = go (lies (ch "0") (ch "9") b) refl (lies (ch "A") (ch "F") b) refl
   where
     go : (x : Bool) → lies (ch "0") (ch "9") b ≡ x → (y : Bool) → lies (ch "A") (ch "F") b ≡ y → T (cond x true (cond y true (lies (ch "a") (ch "f") b)))
@@ -98,27 +98,27 @@ hexdig b = go (lies (ch "0") (ch "9") b) refl (lies (ch "A") (ch "F") b) refl
     go false e true f h = Hexdig.upper (within _ _ b (subst T (sym f) tt))
     go false e false f h = Hexdig.lower (within _ _ b h)
 
-abbrev hex-valued : ℕ → List ℕ → ℕ
-hex-valued v [] = v
-hex-valued v (b ∷ s) = hex-valued (16 * v + hex-value b) s
+abbrev hex_valued : ℕ → List ℕ → ℕ
+hex_valued v [] = v
+hex_valued v (b ∷ s) = hex_valued (16 * v + hex_value b) s
 
-hexes-from : (s : List ℕ) (v : ℕ) → T (all is-hex s) → Digits Hexdig 16 (length s) v s (hex-valued v s)
-hexes-from [] v h = Digits.over
-hexes-from (b ∷ s) v h = let w = both (is-hex b) (all is-hex s) h in Digits.next (hexdig b w.0) (hexes-from s (16 * v + hex-value b) w.1)
+hexes_from : (s : List ℕ) (v : ℕ) → T (all is_hex s) → Digits Hexdig 16 (length s) v s (hex_valued v s)
+hexes_from [] v h = Digits.over
+hexes_from (b ∷ s) v h = let w = both (is_hex b) (all is_hex s) h in Digits.next (hexdig b w.0) (hexes_from s (16 * v + hex_value b) w.1)
 
-hexes : (s : List ℕ) → T (all is-hex s) → Hexadecimal (length s) s (hex-valued 0 s)
-hexes s h = hexes-from s 0 h
+hexes : (s : List ℕ) → T (all is_hex s) → Hexadecimal (length s) s (hex_valued 0 s)
+hexes s h = hexes_from s 0 h
 
 -- ---- layout
 
 sp : Ws (letters " ")
 sp = Ws.blank Blank.space Ws.none
 
-comment : {b : List ℕ} → C-begin-line b → (s : List ℕ) → T (all (one_of c-char) s) → C-line (b ++ s)
-comment b s h = C-line.c-line b (run (one_of c-char) (among c-char) s h)
+comment : {b : List ℕ} → CBeginLine b → (s : List ℕ) → T (all (one_of c_char) s) → CLine (b ++ s)
+comment b s h = CLine.c_line b (run (one_of c_char) (among c_char) s h)
 
-block : (s : List ℕ) → T (all (one_of c-no-star) s) → C-block (letters "/*" ++ (s ++ letters "*/"))
-block s h = C-block.c-block (run (one_of c-no-star) (λ b h. C-inner.no-star (among c-no-star b h)) s h) Stars.one
+block : (s : List ℕ) → T (all (one_of c_no_star) s) → CBlock (letters "/*" ++ (s ++ letters "*/"))
+block s h = CBlock.c_block (run (one_of c_no_star) (λ b h. CInner.no_star (among c_no_star b h)) s h) Stars.one
 
 -- ---- numbers
 
@@ -154,78 +154,78 @@ Inner a u = Chars (Among unescaped) (Escape true) double a u
 the : {a u : List ℕ} (s : List ℕ) → T (all (one_of unescaped) s) → Inner a u → Inner (s ++ a) (s ++ u)
 the s h r = chars (one_of unescaped) (among unescaped) s h r
 
-in-quotes : {a u : List ℕ} → Inner a u → String-part true (ch "\"" ∷ (a ++ (ch "\"" ∷ []))) u
-in-quotes r = String-part.one_line (Quoted.quoted double r)
+in_quotes : {a u : List ℕ} → Inner a u → StringPart true (ch "\"" ∷ (a ++ (ch "\"" ∷ []))) u
+in_quotes r = StringPart.one_line (Quoted.quoted double r)
 
 hello : Inner (letters "Hello") (letters "Hello")
 hello = the (letters "Hello") tt Chars.none
 
-m-char : (b : ℕ) → T (one_of (source double) b) → M-char double (b ∷ [])
-m-char b h = M-char.m-char Up-to-two.no-quote (among (source double) b h)
+m_char : (b : ℕ) → T (one_of (source double) b) → MChar double (b ∷ [])
+m_char b h = MChar.m_char UpToTwo.no_quote (among (source double) b h)
 
-m-chars : {a : List ℕ} (s : List ℕ) → T (all (one_of (source double)) s) → Many (M-char double) a → Many (M-char double) (s ++ a)
-m-chars [] h r = r
-m-chars (b ∷ s) h r = let w = both (one_of (source double) b) (all (one_of (source double)) s) h in Many.more (m-char b w.0) (m-chars s w.1 r)
+m_chars : {a : List ℕ} (s : List ℕ) → T (all (one_of (source double)) s) → Many (MChar double) a → Many (MChar double) (s ++ a)
+m_chars [] h r = r
+m_chars (b ∷ s) h r = let w = both (one_of (source double) b) (all (one_of (source double)) s) h in Many.more (m_char b w.0) (m_chars s w.1 r)
 
 -- ---- times
 
-abbrev fraction-value : ℕ → ℕ → List ℕ → ℕ
-fraction-value n v [] = v * 10 ^ n
-fraction-value zero v (b ∷ s) = fraction-value zero v s
-fraction-value (suc n) v (b ∷ s) = fraction-value n (10 * v + (b - ch "0")) s
+abbrev fraction_value : ℕ → ℕ → List ℕ → ℕ
+fraction_value n v [] = v * 10 ^ n
+fraction_value zero v (b ∷ s) = fraction_value zero v s
+fraction_value (suc n) v (b ∷ s) = fraction_value n (10 * v + (b - ch "0")) s
 
-fraction : (s : List ℕ) (n v : ℕ) → T (digits s) → Fraction n v s (fraction-value n v s)
+fraction : (s : List ℕ) (n v : ℕ) → T (digits s) → Fraction n v s (fraction_value n v s)
 fraction [] n v h = Fraction.over
 fraction (b ∷ s) zero v h = let w = both (lies (ch "0") (ch "9") b) (digits s) h in Fraction.cut (Digit.digit (within _ _ b w.0)) (fraction s zero v w.1)
 fraction (b ∷ s) (suc n) v h = let w = both (lies (ch "0") (ch "9") b) (digits s) h in
     Fraction.counts (Digit.digit (within _ _ b w.0)) (fraction s n (10 * v + (b - ch "0")) w.1)
 
-hour : (s : List ℕ) → Decimal 2 0 s (valued 0 s) → T (leb (valued 0 s) 23) → Time-hour true s (valued 0 s)
-hour s d h = Time-hour.hour d (leb→le (valued 0 s) 23 h)
+hour : (s : List ℕ) → Decimal 2 0 s (valued 0 s) → T (leb (valued 0 s) 23) → TimeHour true s (valued 0 s)
+hour s d h = TimeHour.hour d (leb→le (valued 0 s) 23 h)
 
-minute : (s : List ℕ) → Decimal 2 0 s (valued 0 s) → T (leb (valued 0 s) 59) → Time-minute true s (valued 0 s)
-minute s d h = Time-minute.sixtieth d (leb→le (valued 0 s) 59 h)
+minute : (s : List ℕ) → Decimal 2 0 s (valued 0 s) → T (leb (valued 0 s) 59) → TimeMinute true s (valued 0 s)
+minute s d h = TimeMinute.sixtieth d (leb→le (valued 0 s) 59 h)
 
-clock : Local-time true (letters "10:23:54.345678") (timeOfDay 10 23 54 345678000)
-clock = Local-time.local-time (hour (letters "10") (decimals _ 0 tt) tt) (minute (letters "23") (decimals _ 0 tt) tt)
-    (minute (letters "54") (decimals _ 0 tt) tt) (Time-secfrac.given (fraction (letters "345678") 9 0 tt))
+clock : LocalTime true (letters "10:23:54.345678") (time_of_day 10 23 54 345678000)
+clock = LocalTime.local_time (hour (letters "10") (decimals _ 0 tt) tt) (minute (letters "23") (decimals _ 0 tt) tt)
+    (minute (letters "54") (decimals _ 0 tt) tt) (TimeSecfrac.given (fraction (letters "345678") 9 0 tt))
 
-noon : Local-time true (letters "12:00:00.0000000009") (timeOfDay 12 0 0 0)
-noon = Local-time.local-time (hour (letters "12") (decimals _ 0 tt) tt) (minute (letters "00") (decimals _ 0 tt) tt)
-    (minute (letters "00") (decimals _ 0 tt) tt) (Time-secfrac.given (fraction (letters "0000000009") 9 0 tt))
+noon : LocalTime true (letters "12:00:00.0000000009") (time_of_day 12 0 0 0)
+noon = LocalTime.local_time (hour (letters "12") (decimals _ 0 tt) tt) (minute (letters "00") (decimals _ 0 tt) tt)
+    (minute (letters "00") (decimals _ 0 tt) tt) (TimeSecfrac.given (fraction (letters "0000000009") 9 0 tt))
 
-september : Local-date true (letters "2017-09-05") (date 2017 9 5)
-september = Local-date.local-date (decimals (letters "2017") 0 tt) (decimals (letters "09") 0 tt) (decimals (letters "05") 0 tt)
+september : LocalDate true (letters "2017-09-05") (date 2017 9 5)
+september = LocalDate.local_date (decimals (letters "2017") 0 tt) (decimals (letters "09") 0 tt) (decimals (letters "05") 0 tt)
     (record { year = lit≤ tt; days = 30; month = Calendar.Days.september; from = lit≤ tt; to = lit≤ tt })
 
-leap-day : Local-date true (letters "2000-02-29") (date 2000 2 29)
-leap-day = Local-date.local-date (decimals (letters "2000") 0 tt) (decimals (letters "02") 0 tt) (decimals (letters "29") 0 tt)
-    (record { year = lit≤ tt; days = 29; month = Calendar.Days.february-leap (Calendar.Leap.fourth-hundred refl refl); from = lit≤ tt; to = lit≤ tt })
+leap_day : LocalDate true (letters "2000-02-29") (date 2000 2 29)
+leap_day = LocalDate.local_date (decimals (letters "2000") 0 tt) (decimals (letters "02") 0 tt) (decimals (letters "29") 0 tt)
+    (record { year = lit≤ tt; days = 29; month = Calendar.Days.february_leap (Calendar.Leap.fourth_hundred refl refl); from = lit≤ tt; to = lit≤ tt })
 
 -- ---- binary
 
-b-char : (b : ℕ) → T (lies_in b-unescaped b) → Ascii b-unescaped (b ∷ [])
-b-char b h = Ascii.byte (of b-unescaped b h)
+b_char : (b : ℕ) → T (lies_in b_unescaped b) → Ascii b_unescaped (b ∷ [])
+b_char b h = Ascii.byte (of b_unescaped b h)
 
-pair : (s : List ℕ) → T (all is-hex s) → length s ≡ 2 → Hexadecimal 2 s (hex-valued 0 s)
-pair s h e = subst (λ (n : ℕ). Hexadecimal n s (hex-valued 0 s)) e (hexes s h)
+pair : (s : List ℕ) → T (all is_hex s) → length s ≡ 2 → Hexadecimal 2 s (hex_valued 0 s)
+pair s h e = subst (λ (n : ℕ). Hexadecimal n s (hex_valued 0 s)) e (hexes s h)
 
 -- ---- keys
 
-identifier : (b : ℕ) (s : List ℕ) → T (lies_in i-begin b) → T (all (lies_in i-continue) s) → Key true (b ∷ s) (b ∷ s)
-identifier b s h l = Key.identifier (Identifier.identifier (Ascii.byte (of i-begin b h)) (run (lies_in i-continue) (λ c p. Ascii.byte (of i-continue c p)) s l))
+identifier : (b : ℕ) (s : List ℕ) → T (lies_in i_begin b) → T (all (lies_in i_continue) s) → Key true (b ∷ s) (b ∷ s)
+identifier b s h l = Key.identifier (Identifier.identifier (Ascii.byte (of i_begin b h)) (run (lies_in i_continue) (λ c p. Ascii.byte (of i_continue c p)) s l))
 
 -- ---- whole texts
 
 -- with no key
-once-each : {a : List ℕ} → Loose true a Meaning.null → Text a Meaning.null
+once_each : {a : List ℕ} → Loose true a Meaning.null → Text a Meaning.null
 unfolding once
-once-each x = record { loose = x; single = refl }
+once_each x = record { loose = x; single = refl }
 
-plain : {a : List ℕ} {m : Meaning} → Value true depthLimit a m → T (leb (length a) textLimit) → once m ≡ true → Text a m
+plain : {a : List ℕ} {m : Meaning} → Value true depth_limit a m → T (leb (length a) text_limit) → once m ≡ true → Text a m
 plain {a} {m} v h e = record {
   loose = subst (λ (t : List ℕ). Loose true t m) (append-nil a) (Loose.text Ws.none v (Last.ended Ws.none)
-      (rw append-nil (leb→le (length a) textLimit h)));
+      (rw append-nil (leb→le (length a) text_limit h)));
   single = e;
 }
 
@@ -234,17 +234,17 @@ element : {d : ℕ} {x : Meanings} {c : ℕ} (b : ℕ) → Number true (b ∷ []
 element b n = Item.element (Value.number n)
 
 pub derived : Derived examples
-unfolding depthLimit encode once onceElements onceMembers held same
+unfolding depth_limit encode once once_elements once_members held same
 derived = (
-  once-each
-      (Loose.text (Ws.line (comment C-begin-line.hash (letters " single-line comment") tt) Line-end.line-feed Ws.none) Value.null_word
+  once_each
+      (Loose.text (Ws.line (comment CBeginLine.hash (letters " single-line comment") tt) LineEnd.line_feed Ws.none) Value.null_word
       (Last.ended Ws.none) (lit≤ tt)),
   (
-    once-each (Loose.text Ws.none Value.null_word (Last.unended Ws.none (comment C-begin-line.slashes (letters " single-line comment") tt)) (lit≤ tt)),
+    once_each (Loose.text Ws.none Value.null_word (Last.unended Ws.none (comment CBeginLine.slashes (letters " single-line comment") tt)) (lit≤ tt)),
     (
-      once-each (Loose.text (Ws.block (block (letters " block comment ") tt) Ws.none) Value.null_word (Last.ended Ws.none) (lit≤ tt)),
+      once_each (Loose.text (Ws.block (block (letters " block comment ") tt) Ws.none) Value.null_word (Last.ended Ws.none) (lit≤ tt)),
       (
-        plain (Value.array Room.falls (Rest.item (Ws.blank Blank.space (Ws.line (comment C-begin-line.hash (letters " 1") tt) Line-end.line-feed Ws.none))
+        plain (Value.array Room.falls (Rest.item (Ws.blank Blank.space (Ws.line (comment CBeginLine.hash (letters " 1") tt) LineEnd.line_feed Ws.none))
             (element (ch "2") (number (ch "2") [] 2 0 tt tt refl tt tt tt)) (After.end Ws.none Closes.bracket))) tt refl,
         -- 42.
         (
@@ -277,67 +277,67 @@ derived = (
                             plain (Value.number (number (ch "1") (letters "00000") 1 5 tt tt refl tt tt tt)) tt refl,
                             -- strings
                             (
-                              plain (Value.string (Concat.part (in-quotes (the (letters "Add ") tt
+                              plain (Value.string (Concat.part (in_quotes (the (letters "Add ") tt
                                   (Chars.escaped (Escape.short Short.nul) (the (letters " or ") tt
                                   (Chars.escaped (Escape.short Short.vtab) (the (letters ", even ") tt
-                                  (Chars.escaped (Escape.short Short.single-quote) (the (letters " is allowed in a string.") tt Chars.none)))))))))) tt refl,
+                                  (Chars.escaped (Escape.short Short.single_quote) (the (letters " is allowed in a string.") tt Chars.none)))))))))) tt refl,
                               (
-                                plain (Value.string (Concat.plus (in-quotes (Chars.escaped
+                                plain (Value.string (Concat.plus (in_quotes (Chars.escaped
                                     (Escape.braced (hexes (letters "1D11E") tt) (record { top = lit≤ tt; whole = inr (lit< tt) }))
                                     (the (letters " was my first love ") tt Chars.none))) sp sp
-                                    (Concat.part (in-quotes (the (letters "and it will be my last.") tt Chars.none))))) tt refl,
+                                    (Concat.part (in_quotes (the (letters "and it will be my last.") tt Chars.none))))) tt refl,
                                 (
-                                  plain (Value.string (Concat.part (String-part.multiline double
-                                      (m-chars (letters "String with a \\ and ") tt
-                                      (Many.more (M-char.m-char Up-to-two.one-quote (among (source double) (ch " ") tt))
-                                      (m-chars (letters "characters - no escape sequences,\nmay contain line breaks") tt Many.none)))
-                                      (No-newline.other_byte (λ e. omega arith) (λ e. omega arith))))) tt refl,
+                                  plain (Value.string (Concat.part (StringPart.multiline double
+                                      (m_chars (letters "String with a \\ and ") tt
+                                      (Many.more (MChar.m_char UpToTwo.one_quote (among (source double) (ch " ") tt))
+                                      (m_chars (letters "characters - no escape sequences,\nmay contain line breaks") tt Many.none)))
+                                      (NoNewline.other_byte (λ e. omega arith) (λ e. omega arith))))) tt refl,
                                   (
-                                    plain (Value.string (Concat.part (in-quotes (Chars.escaped
+                                    plain (Value.string (Concat.part (in_quotes (Chars.escaped
                                         (Escape.pair (hexes (letters "d834") tt) (within _ _ 0xD834 tt) (hexes (letters "dd1e") tt) (within _ _ 0xDD1E tt))
                                         Chars.none)))) tt refl,
                                     (
-                                      plain (Value.string (Concat.part (String-part.multiline double Many.none No-newline.empty))) tt refl,
+                                      plain (Value.string (Concat.part (StringPart.multiline double Many.none NoNewline.empty))) tt refl,
                                       -- times
                                       (
-                                        plain (Value.time-value (Time-value.local-date leap-day)) tt refl,
+                                        plain (Value.time_value (TimeValue.local_date leap_day)) tt refl,
                                         (
-                                          plain (Value.time-value (Time-value.local-time clock)) tt refl,
+                                          plain (Value.time_value (TimeValue.local_time clock)) tt refl,
                                           (
-                                            plain (Value.time-value (Time-value.local-date-time september Separator.space clock)) tt refl,
+                                            plain (Value.time_value (TimeValue.local_date_time september Separator.space clock)) tt refl,
                                             (
-                                              plain (Value.time-value (Time-value.offset-date-time september Separator.letter clock
-                                                  (Time-offset.numoffset Plus-minus.plus (hour (letters "02") (decimals _ 0 tt) tt)
+                                              plain (Value.time_value (TimeValue.offset_date_time september Separator.letter clock
+                                                  (TimeOffset.numoffset PlusMinus.plus (hour (letters "02") (decimals _ 0 tt) tt)
                                                   (minute (letters "00") (decimals _ 0 tt) tt)))) tt refl,
                                               (
-                                                plain (Value.time-value (Time-value.local-time noon)) tt refl,
+                                                plain (Value.time_value (TimeValue.local_time noon)) tt refl,
                                                 -- binary
                                                 (
                                                   plain (Value.binary (Concat.part
-                                                      (B-value.string (Quoted.quoted double
-                                                      (chars (lies_in b-unescaped) b-char (letters "Hello, ") tt
-                                                      (Chars.escaped (B-escape.byte (pair (letters "77") tt refl))
-                                                      (chars (lies_in b-unescaped) b-char (letters "orld!") tt Chars.none))))))) tt refl,
+                                                      (BValue.string (Quoted.quoted double
+                                                      (chars (lies_in b_unescaped) b_char (letters "Hello, ") tt
+                                                      (Chars.escaped (BEscape.byte (pair (letters "77") tt refl))
+                                                      (chars (lies_in b_unescaped) b_char (letters "orld!") tt Chars.none))))))) tt refl,
                                                   (
                                                     plain (Value.binary (Concat.part
-                                                        (B-value.direct (B-direct.dotted
-                                                        (B-part.more (pair (letters "48") tt refl)
-                                                        (B-part.more (pair (letters "65") tt refl)
-                                                        (B-part.more (pair (letters "6c") tt refl)
-                                                        (B-part.more (pair (letters "6c") tt refl) (B-part.last (pair (letters "6f") tt refl))))))
-                                                        (B-direct.dotted (B-part.more (pair (letters "2c") tt refl) (B-part.last (pair (letters "20") tt refl)))
-                                                        (B-direct.dotted (B-part.more (pair (letters "77") tt refl)
-                                                        (B-part.more (pair (letters "6f") tt refl)
-                                                        (B-part.more (pair (letters "72") tt refl)
-                                                        (B-part.more (pair (letters "6c") tt refl) (B-part.last (pair (letters "64") tt refl))))))
-                                                        (B-direct.part (B-part.last (pair (letters "21") tt refl))))))))) tt refl,
+                                                        (BValue.direct (BDirect.dotted
+                                                        (BPart.more (pair (letters "48") tt refl)
+                                                        (BPart.more (pair (letters "65") tt refl)
+                                                        (BPart.more (pair (letters "6c") tt refl)
+                                                        (BPart.more (pair (letters "6c") tt refl) (BPart.last (pair (letters "6f") tt refl))))))
+                                                        (BDirect.dotted (BPart.more (pair (letters "2c") tt refl) (BPart.last (pair (letters "20") tt refl)))
+                                                        (BDirect.dotted (BPart.more (pair (letters "77") tt refl)
+                                                        (BPart.more (pair (letters "6f") tt refl)
+                                                        (BPart.more (pair (letters "72") tt refl)
+                                                        (BPart.more (pair (letters "6c") tt refl) (BPart.last (pair (letters "64") tt refl))))))
+                                                        (BDirect.part (BPart.last (pair (letters "21") tt refl))))))))) tt refl,
                                                     (
-                                                      plain (Value.binary (Concat.part B-value.empty)) tt refl,
+                                                      plain (Value.binary (Concat.part BValue.empty)) tt refl,
                                                       -- keys and commas
                                                       (
                                                         plain (Value.object Room.falls
                                                             (Rest.item sp (Item.member (identifier (ch "f") (letters "oo") tt tt) Ws.none sp
-                                                            (Value.string (Concat.part (in-quotes hello))))
+                                                            (Value.string (Concat.part (in_quotes hello))))
                                                             (After.comma Ws.none
                                                             (Rest.item sp (Item.member (identifier (ch "b") (letters "ar") tt tt) Ws.none sp
                                                             (Value.number (number (ch "4") (letters "2") 42 0 tt tt refl tt tt tt)))

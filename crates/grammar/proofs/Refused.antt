@@ -5,15 +5,15 @@ use mathlib.Core.List.{List}
 use native.Mathlib.Omega.{arith}
 use Rattle.meaning.specs.declared.Refusal.{Refusal}
 use Rattle.meaning.specs.declared.Refusal.TheVariants.{NotGrammar}
-use Rattle.grammar.specs.Refused.{Item-fault, Refused}
+use Rattle.grammar.specs.Refused.{ItemFault, Refused}
 
-pub fault-no-three : {t : List ℕ} {r : Refusal} → Item-fault t r → (q : ℕ) → r ≡ NotGrammar q → ⊥
-fault-no-three (Item-fault.escape r x y z n) q e = let z : ◌≡◌ {A = ℕ} 0 1 = cc in omega arith
-fault-no-three (Item-fault.time x y n h) q e = let z : ◌≡◌ {A = ℕ} 0 1 = cc in omega arith
-fault-no-three (Item-fault.number x y n h) q e = let z : ◌≡◌ {A = ℕ} 0 1 = cc in omega arith
-fault-no-three (Item-fault.depth r x y) q e = let z : ◌≡◌ {A = ℕ} 0 1 = cc in omega arith
+pub fault_no_three : {t : List ℕ} {r : Refusal} → ItemFault t r → (q : ℕ) → r ≡ NotGrammar q → ⊥
+fault_no_three (ItemFault.escape r x y z n) q e = let z : ◌≡◌ {A = ℕ} 0 1 = cc in omega arith
+fault_no_three (ItemFault.time x y n h) q e = let z : ◌≡◌ {A = ℕ} 0 1 = cc in omega arith
+fault_no_three (ItemFault.number x y n h) q e = let z : ◌≡◌ {A = ℕ} 0 1 = cc in omega arith
+fault_no_three (ItemFault.depth r x y) q e = let z : ◌≡◌ {A = ℕ} 0 1 = cc in omega arith
 
 -- left to right: a fault comes before any 3
-pub fault-first : {t : List ℕ} {r s : Refusal} → Item-fault t r → Refused t s → (q : ℕ) → s ≡ NotGrammar q → ⊥
-fault-first f (Refused.fault g) q e = fault-no-three g q e
-fault-first {r = r} f (Refused.grammar n s) q e = n r f
+pub fault_first : {t : List ℕ} {r s : Refusal} → ItemFault t r → Refused t s → (q : ℕ) → s ≡ NotGrammar q → ⊥
+fault_first f (Refused.fault g) q e = fault_no_three g q e
+fault_first {r = r} f (Refused.grammar n s) q e = n r f

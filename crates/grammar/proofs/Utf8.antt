@@ -14,19 +14,19 @@ use Rattle.meaning.specs.declared.Date.{Date as DateMeant}
 use Rattle.meaning.specs.declared.Time.{Time as TimeMeant}
 use Rattle.meaning.specs.Meaning.{Meaning}
 use Rattle.grammar.specs.Characters.{Range, ◌to◌, Of, Among, Ascii, Many, Digit, Hexdig, Digits, Decimal, Hexadecimal}
-use Rattle.grammar.specs.Comments.{C-begin-line, C-line, Stars, C-inner, C-block, Blank, Line-end, Ws, Last}
+use Rattle.grammar.specs.Comments.{CBeginLine, CLine, Stars, CInner, CBlock, Blank, LineEnd, Ws, Last}
 use Rattle.grammar.specs.Numbers.{Sign, Int, Frac0, Frac1, E, Exp, Dec, X, Unsigned, Number}
-use Rattle.grammar.specs.Strings.{Quote, double, single, mark as mark_of, other, three, Chars, Quoted, Short, Escape, Up-to-two, M-char, Newline}
-use Rattle.grammar.specs.Strings.{String-part, Concat, String}
-use Rattle.grammar.specs.Times.{Fraction, Time-secfrac, Time-hour, Time-minute, Local-time, Local-date, Separator, Zulu, Plus-minus, Time-offset}
-use Rattle.grammar.specs.Times.{Time-value}
-use Rattle.grammar.specs.Binary.{B-escape, B-part, B-direct, B-value, Binary}
+use Rattle.grammar.specs.Strings.{Quote, double, single, mark as mark_of, other, three, Chars, Quoted, Short, Escape, UpToTwo, MChar, Newline}
+use Rattle.grammar.specs.Strings.{StringPart, Concat, String}
+use Rattle.grammar.specs.Times.{Fraction, TimeSecfrac, TimeHour, TimeMinute, LocalTime, LocalDate, Separator, Zulu, PlusMinus, TimeOffset}
+use Rattle.grammar.specs.Times.{TimeValue}
+use Rattle.grammar.specs.Binary.{BEscape, BPart, BDirect, BValue, Binary}
 use Rattle.grammar.specs.Keys.{Identifier, Key}
 use Rattle.grammar.specs.Values.{Inside, Closes, Value, Rest, After, Item, Loose}
 
 -- an ASCII byte before UTF-8
 pub ascii : {b : ℕ} {a : List ℕ} → b ≤ 0x7F → Octets a → Octets (b ∷ a)
-ascii {b} {a} h x = Octets.more {c = b ∷ []} {t = a} (Char.utf8-1 {a = b} (omega arith)) x
+ascii {b} {a} h x = Octets.more {c = b ∷ []} {t = a} (Char.utf8_1 {a = b} (omega arith)) x
 
 -- a literal of ASCII characters
 abbrev pub low : List ℕ → Bool
@@ -56,8 +56,8 @@ below [] h n x = absurd x
 below ((lo to hi) ∷ r) h n (inl x) = let w = both (leb hi 0x7F) (under r) h in omega (arith, leb→le hi 0x7F w.0)
 below ((lo to hi) ∷ r) h n (inr x) = let w = both (leb hi 0x7F) (under r) h in below r w.1 n x
 
-pub ascii-octets : {r : List Range} {c : List ℕ} → T (under r) → Ascii r c → Octets c
-ascii-octets {r} h (Ascii.byte {b = b} x) = ascii (below r h b x) Octets.none
+pub ascii_octets : {r : List Range} {c : List ℕ} → T (under r) → Ascii r c → Octets c
+ascii_octets {r} h (Ascii.byte {b = b} x) = ascii (below r h b x) Octets.none
 
 pub many : {X : List ℕ → Type 0} {a : List ℕ} → ((c : List ℕ) → X c → Octets c) → Many X a → Octets a
 many f Many.none = Octets.none
@@ -83,35 +83,35 @@ hexadecimal d = digits (λ b x. hexdig) d
 
 -- ---- Comments
 
-line : {a : List ℕ} → C-line a → Octets a
-line (C-line.c-line C-begin-line.hash m) = ascii (lit≤ tt) (many (λ c. among) m)
-line (C-line.c-line C-begin-line.slashes m) = ascii (lit≤ tt) (ascii (lit≤ tt) (many (λ c. among) m))
+line : {a : List ℕ} → CLine a → Octets a
+line (CLine.c_line CBeginLine.hash m) = ascii (lit≤ tt) (many (λ c. among) m)
+line (CLine.c_line CBeginLine.slashes m) = ascii (lit≤ tt) (ascii (lit≤ tt) (many (λ c. among) m))
 
 stars : {a : List ℕ} → Stars a → Octets a
 stars Stars.one = ascii (lit≤ tt) Octets.none
 stars (Stars.more s) = ascii (lit≤ tt) (stars s)
 
-inner : {a : List ℕ} → C-inner a → Octets a
-inner (C-inner.no-star c) = among c
-inner (C-inner.stars s c) = join (stars s) (among c)
+inner : {a : List ℕ} → CInner a → Octets a
+inner (CInner.no_star c) = among c
+inner (CInner.stars s c) = join (stars s) (among c)
 
-block : {a : List ℕ} → C-block a → Octets a
-block (C-block.c-block m s) = ascii (lit≤ tt) (ascii (lit≤ tt) (join (many (λ c. inner) m) (join (stars s) (ascii (lit≤ tt) Octets.none))))
+block : {a : List ℕ} → CBlock a → Octets a
+block (CBlock.c_block m s) = ascii (lit≤ tt) (ascii (lit≤ tt) (join (many (λ c. inner) m) (join (stars s) (ascii (lit≤ tt) Octets.none))))
 
 blank : {b : ℕ} → Blank b → b ≤ 0x7F
 blank Blank.space = lit≤ tt
 blank Blank.tab = lit≤ tt
-blank Blank.line-feed = lit≤ tt
-blank Blank.carriage-return = lit≤ tt
+blank Blank.line_feed = lit≤ tt
+blank Blank.carriage_return = lit≤ tt
 
-line-end : {b : ℕ} → Line-end b → b ≤ 0x7F
-line-end Line-end.line-feed = lit≤ tt
-line-end Line-end.carriage-return = lit≤ tt
+line_end_lem : {b : ℕ} → LineEnd b → b ≤ 0x7F
+line_end_lem LineEnd.line_feed = lit≤ tt
+line_end_lem LineEnd.carriage_return = lit≤ tt
 
 pub ws : {a : List ℕ} → Ws a → Octets a
 ws Ws.none = Octets.none
 ws (Ws.blank b w) = ascii (blank b) (ws w)
-ws (Ws.line c e w) = join (line c) (ascii (line-end e) (ws w))
+ws (Ws.line c e w) = join (line c) (ascii (line_end_lem e) (ws w))
 ws (Ws.block c w) = join (block c) (ws w)
 
 pub last : {a : List ℕ} → Last a → Octets a
@@ -126,7 +126,7 @@ sign Sign.plus = literal _ tt
 sign Sign.minus = literal _ tt
 
 int : {a : List ℕ} {v : ℕ} → Int a v → Octets a
-int Int.zero-digit = literal _ tt
+int Int.zero_digit = literal _ tt
 int (Int.positive i d) = ascii (omega arith) (decimal d)
 
 frac0 : {v w n : ℕ} {a : List ℕ} → Frac0 v a w n → Octets a
@@ -148,19 +148,19 @@ dec : {a : List ℕ} {m up dn : ℕ} → Dec a m up dn → Octets a
 dec (Dec.whole i f x) = join (int i) (join (frac0 f) (exp x))
 dec (Dec.part f x) = join (frac1 f) (exp x)
 
-x-letter : {b : ℕ} → X b → b ≤ 0x7F
-x-letter X.small = lit≤ tt
-x-letter X.capital = lit≤ tt
+x_letter : {b : ℕ} → X b → b ≤ 0x7F
+x_letter X.small = lit≤ tt
+x_letter X.capital = lit≤ tt
 
 module _ {k : Bool} where
   unsigned : {g : Bool} {a : List ℕ} {m : NumberMeant} → Unsigned k g a m → Octets a
   unsigned Unsigned.nan = literal _ tt
   unsigned Unsigned.inf = literal _ tt
-  unsigned (Unsigned.hex x d h f) = ascii (lit≤ tt) (ascii (x-letter x) (hexadecimal d))
+  unsigned (Unsigned.hex x d h f) = ascii (lit≤ tt) (ascii (x_letter x) (hexadecimal d))
   unsigned (Unsigned.dec d f) = dec d
 
-  pub number-octets : {a : List ℕ} {m : NumberMeant} → Number k a m → Octets a
-  number-octets (Number.number s u) = join (sign s) (unsigned u)
+  pub number_octets : {a : List ℕ} {m : NumberMeant} → Number k a m → Octets a
+  number_octets (Number.number s u) = join (sign s) (unsigned u)
 
 -- ---- Strings
 
@@ -168,65 +168,65 @@ mark : (q : Quote) → mark_of q ≤ 0x7F
 mark double = lit≤ tt
 mark single = lit≤ tt
 
-pub three-quotes : (q : Quote) → Octets (three q)
-three-quotes q = ascii (mark q) (ascii (mark q) (ascii (mark q) Octets.none))
+pub three_quotes : (q : Quote) → Octets (three q)
+three_quotes q = ascii (mark q) (ascii (mark q) (ascii (mark q) Octets.none))
 
 chars : {P : List ℕ → Type 0} {E : List ℕ → List ℕ → Type 0} {q : Quote} {a u : List ℕ} → ((c : List ℕ) → P c → Octets c) → ((c v : List ℕ) → E c v → Octets c)
     → Chars P E q a u → Octets a
 chars f g Chars.none = Octets.none
 chars f g (Chars.plain c r) = join (f _ c) (chars f g r)
 chars f g (Chars.escaped x r) = ascii (lit≤ tt) (join (g _ _ x) (chars f g r))
-chars {q = q} f g (Chars.other-quote r) = ascii (mark (other q)) (chars f g r)
+chars {q = q} f g (Chars.other_quote r) = ascii (mark (other q)) (chars f g r)
 
 quoted : {P : List ℕ → Type 0} {E : List ℕ → List ℕ → Type 0} {a u : List ℕ} → ((c : List ℕ) → P c → Octets c) → ((c v : List ℕ) → E c v → Octets c)
     → Quoted P E a u → Octets a
 quoted f g (Quoted.quoted q r) = ascii (mark q) (join (chars f g r) (ascii (mark q) Octets.none))
 
 short : {b c : ℕ} → Short b c → b ≤ 0x7F
-short Short.double-quote = lit≤ tt
-short Short.single-quote = lit≤ tt
-short Short.reverse-solidus = lit≤ tt
+short Short.double_quote = lit≤ tt
+short Short.single_quote = lit≤ tt
+short Short.reverse_solidus = lit≤ tt
 short Short.solidus = lit≤ tt
 short Short.nul = lit≤ tt
 short Short.backspace = lit≤ tt
-short Short.form-feed = lit≤ tt
-short Short.line-feed = lit≤ tt
-short Short.carriage-return = lit≤ tt
+short Short.form_feed = lit≤ tt
+short Short.line_feed = lit≤ tt
+short Short.carriage_return = lit≤ tt
 short Short.tab = lit≤ tt
 short Short.vtab = lit≤ tt
 
-pub escape-octets : {k : Bool} {a u : List ℕ} → Escape k a u → Octets a
-escape-octets (Escape.short s) = ascii (short s) Octets.none
-escape-octets (Escape.unit d h) = ascii (lit≤ tt) (hexadecimal d)
-escape-octets (Escape.pair c i d j) = ascii (lit≤ tt) (join (hexadecimal c) (ascii (lit≤ tt) (ascii (lit≤ tt) (hexadecimal d))))
-escape-octets (Escape.braced d h) = ascii (lit≤ tt) (ascii (lit≤ tt) (join (hexadecimal d) (ascii (lit≤ tt) Octets.none)))
+pub escape_octets : {k : Bool} {a u : List ℕ} → Escape k a u → Octets a
+escape_octets (Escape.short s) = ascii (short s) Octets.none
+escape_octets (Escape.unit d h) = ascii (lit≤ tt) (hexadecimal d)
+escape_octets (Escape.pair c i d j) = ascii (lit≤ tt) (join (hexadecimal c) (ascii (lit≤ tt) (ascii (lit≤ tt) (hexadecimal d))))
+escape_octets (Escape.braced d h) = ascii (lit≤ tt) (ascii (lit≤ tt) (join (hexadecimal d) (ascii (lit≤ tt) Octets.none)))
 
-up-to-two : {q : Quote} {a : List ℕ} → Up-to-two q a → Octets a
-up-to-two Up-to-two.no-quote = Octets.none
-up-to-two {q} Up-to-two.one-quote = ascii (mark q) Octets.none
-up-to-two {q} Up-to-two.two-quotes = ascii (mark q) (ascii (mark q) Octets.none)
+up_to_two : {q : Quote} {a : List ℕ} → UpToTwo q a → Octets a
+up_to_two UpToTwo.no_quote = Octets.none
+up_to_two {q} UpToTwo.one_quote = ascii (mark q) Octets.none
+up_to_two {q} UpToTwo.two_quotes = ascii (mark q) (ascii (mark q) Octets.none)
 
-m-char : {q : Quote} {a : List ℕ} → M-char q a → Octets a
-m-char (M-char.m-char s c) = join (up-to-two s) (among c)
+m_char : {q : Quote} {a : List ℕ} → MChar q a → Octets a
+m_char (MChar.m_char s c) = join (up_to_two s) (among c)
 
 newline : {a : List ℕ} → Newline a → Octets a
-newline Newline.line-feed = literal _ tt
-newline Newline.return-line-feed = literal _ tt
+newline Newline.line_feed = literal _ tt
+newline Newline.return_line_feed = literal _ tt
 
-pub m-chars : {q : Quote} {a : List ℕ} → Many (M-char q) a → Octets a
-m-chars m = many (λ c. m-char) m
+pub m_chars : {q : Quote} {a : List ℕ} → Many (MChar q) a → Octets a
+m_chars m = many (λ c. m_char) m
 
-string-part : {k : Bool} {a u : List ℕ} → String-part k a u → Octets a
-string-part (String-part.one_line r) = quoted (λ c. among) (λ c v. escape-octets) r
-string-part (String-part.multiline q m h) = join (three-quotes q) (join (m-chars m) (three-quotes q))
-string-part (String-part.trimmed q n m) = join (three-quotes q) (join (newline n) (join (m-chars m) (three-quotes q)))
+string_part : {k : Bool} {a u : List ℕ} → StringPart k a u → Octets a
+string_part (StringPart.one_line r) = quoted (λ c. among) (λ c v. escape_octets) r
+string_part (StringPart.multiline q m h) = join (three_quotes q) (join (m_chars m) (three_quotes q))
+string_part (StringPart.trimmed q n m) = join (three_quotes q) (join (newline n) (join (m_chars m) (three_quotes q)))
 
 concat : {P : List ℕ → List ℕ → Type 0} {a u : List ℕ} → ((c v : List ℕ) → P c v → Octets c) → Concat P a u → Octets a
 concat f (Concat.part p) = f _ _ p
 concat f (Concat.plus p v w r) = join (f _ _ p) (join (ws v) (ascii (lit≤ tt) (join (ws w) (concat f r))))
 
-pub string-octets : {k : Bool} {a u : List ℕ} → String k a u → Octets a
-string-octets s = concat (λ c v. string-part) s
+pub string_octets : {k : Bool} {a u : List ℕ} → String k a u → Octets a
+string_octets s = concat (λ c v. string_part) s
 
 -- ---- Date / Time
 
@@ -235,76 +235,76 @@ fraction Fraction.over = Octets.none
 fraction (Fraction.counts d r) = ascii (digit d) (fraction r)
 fraction (Fraction.cut d r) = ascii (digit d) (fraction r)
 
-secfrac : {n : ℕ} {a : List ℕ} → Time-secfrac a n → Octets a
-secfrac Time-secfrac.absent = Octets.none
-secfrac (Time-secfrac.given f) = ascii (lit≤ tt) (fraction f)
+secfrac : {n : ℕ} {a : List ℕ} → TimeSecfrac a n → Octets a
+secfrac TimeSecfrac.absent = Octets.none
+secfrac (TimeSecfrac.given f) = ascii (lit≤ tt) (fraction f)
 
 separator : {b : ℕ} → Separator b → b ≤ 0x7F
 separator Separator.letter = lit≤ tt
-separator Separator.small-letter = lit≤ tt
+separator Separator.small_letter = lit≤ tt
 separator Separator.space = lit≤ tt
 
 zulu : {b : ℕ} → Zulu b → b ≤ 0x7F
 zulu Zulu.letter = lit≤ tt
-zulu Zulu.small-letter = lit≤ tt
+zulu Zulu.small_letter = lit≤ tt
 
-plus-minus : {b : ℕ} {g : Bool} → Plus-minus b g → b ≤ 0x7F
-plus-minus Plus-minus.plus = lit≤ tt
-plus-minus Plus-minus.minus = lit≤ tt
+plus_minus : {b : ℕ} {g : Bool} → PlusMinus b g → b ≤ 0x7F
+plus_minus PlusMinus.plus = lit≤ tt
+plus_minus PlusMinus.minus = lit≤ tt
 
 module _ {k : Bool} where
-  hour : {a : List ℕ} {h : ℕ} → Time-hour k a h → Octets a
-  hour (Time-hour.hour d h) = decimal d
+  hour : {a : List ℕ} {h : ℕ} → TimeHour k a h → Octets a
+  hour (TimeHour.hour d h) = decimal d
 
-  minute : {a : List ℕ} {m : ℕ} → Time-minute k a m → Octets a
-  minute (Time-minute.sixtieth d h) = decimal d
+  minute : {a : List ℕ} {m : ℕ} → TimeMinute k a m → Octets a
+  minute (TimeMinute.sixtieth d h) = decimal d
 
-  local-time : {a : List ℕ} {n : ℕ} → Local-time k a n → Octets a
-  local-time (Local-time.local-time h m s f) = join (hour h) (ascii (lit≤ tt) (join (minute m) (ascii (lit≤ tt) (join (minute s) (secfrac f)))))
+  local_time : {a : List ℕ} {n : ℕ} → LocalTime k a n → Octets a
+  local_time (LocalTime.local_time h m s f) = join (hour h) (ascii (lit≤ tt) (join (minute m) (ascii (lit≤ tt) (join (minute s) (secfrac f)))))
 
-  local-date : {a : List ℕ} {d : DateMeant} → Local-date k a d → Octets a
-  local-date (Local-date.local-date y m d h) = join (decimal y) (ascii (lit≤ tt) (join (decimal m) (ascii (lit≤ tt) (decimal d))))
+  local_date : {a : List ℕ} {d : DateMeant} → LocalDate k a d → Octets a
+  local_date (LocalDate.local_date y m d h) = join (decimal y) (ascii (lit≤ tt) (join (decimal m) (ascii (lit≤ tt) (decimal d))))
 
-  offset : {a : List ℕ} {o : ℤ} → Time-offset k a o → Octets a
-  offset (Time-offset.zulu z) = ascii (zulu z) Octets.none
-  offset (Time-offset.numoffset x h m) = ascii (plus-minus x) (join (hour h) (ascii (lit≤ tt) (minute m)))
+  offset : {a : List ℕ} {o : ℤ} → TimeOffset k a o → Octets a
+  offset (TimeOffset.zulu z) = ascii (zulu z) Octets.none
+  offset (TimeOffset.numoffset x h m) = ascii (plus_minus x) (join (hour h) (ascii (lit≤ tt) (minute m)))
 
-  pub time-octets : {a : List ℕ} {t : TimeMeant} → Time-value k a t → Octets a
-  time-octets (Time-value.local-date d) = local-date d
-  time-octets (Time-value.local-time t) = local-time t
-  time-octets (Time-value.local-date-time d s t) = join (local-date d) (ascii (separator s) (local-time t))
-  time-octets (Time-value.offset-date-time d s t o) = join (local-date d) (ascii (separator s) (join (local-time t) (offset o)))
+  pub time_octets : {a : List ℕ} {t : TimeMeant} → TimeValue k a t → Octets a
+  time_octets (TimeValue.local_date d) = local_date d
+  time_octets (TimeValue.local_time t) = local_time t
+  time_octets (TimeValue.local_date_time d s t) = join (local_date d) (ascii (separator s) (local_time t))
+  time_octets (TimeValue.offset_date_time d s t o) = join (local_date d) (ascii (separator s) (join (local_time t) (offset o)))
 
 -- ---- Binary Data
 
-b-escape : {a u : List ℕ} → B-escape a u → Octets a
-b-escape (B-escape.short s) = ascii (short s) Octets.none
-b-escape (B-escape.byte d) = ascii (lit≤ tt) (hexadecimal d)
+b_escape : {a u : List ℕ} → BEscape a u → Octets a
+b_escape (BEscape.short s) = ascii (short s) Octets.none
+b_escape (BEscape.byte d) = ascii (lit≤ tt) (hexadecimal d)
 
-b-part : {a u : List ℕ} → B-part a u → Octets a
-b-part (B-part.last d) = hexadecimal d
-b-part (B-part.more d r) = join (hexadecimal d) (b-part r)
+b_part : {a u : List ℕ} → BPart a u → Octets a
+b_part (BPart.last d) = hexadecimal d
+b_part (BPart.more d r) = join (hexadecimal d) (b_part r)
 
-b-direct : {a u : List ℕ} → B-direct a u → Octets a
-b-direct (B-direct.part p) = b-part p
-b-direct (B-direct.dotted p r) = join (b-part p) (ascii (lit≤ tt) (b-direct r))
+b_direct : {a u : List ℕ} → BDirect a u → Octets a
+b_direct (BDirect.part p) = b_part p
+b_direct (BDirect.dotted p r) = join (b_part p) (ascii (lit≤ tt) (b_direct r))
 
-b-value : {a u : List ℕ} → B-value a u → Octets a
-b-value B-value.empty = literal _ tt
-b-value (B-value.string s) = ascii (lit≤ tt) (quoted (λ c. ascii-octets tt) (λ c v. b-escape) s)
-b-value (B-value.direct d) = ascii (lit≤ tt) (b-direct d)
+b_value : {a u : List ℕ} → BValue a u → Octets a
+b_value BValue.empty = literal _ tt
+b_value (BValue.string s) = ascii (lit≤ tt) (quoted (λ c. ascii_octets tt) (λ c v. b_escape) s)
+b_value (BValue.direct d) = ascii (lit≤ tt) (b_direct d)
 
-pub binary-octets : {a u : List ℕ} → Binary a u → Octets a
-binary-octets b = concat (λ c v. b-value) b
+pub binary_octets : {a u : List ℕ} → Binary a u → Octets a
+binary_octets b = concat (λ c v. b_value) b
 
 -- ---- Unquoted Object Keys
 
-pub identifier-octets : {a : List ℕ} → Identifier a → Octets a
-identifier-octets (Identifier.identifier c m) = join (ascii-octets tt c) (many (λ a. ascii-octets tt) m)
+pub identifier_octets : {a : List ℕ} → Identifier a → Octets a
+identifier_octets (Identifier.identifier c m) = join (ascii_octets tt c) (many (λ a. ascii_octets tt) m)
 
-pub key-octets : {k : Bool} {a u : List ℕ} → Key k a u → Octets a
-key-octets (Key.string s) = string-octets s
-key-octets (Key.identifier i) = identifier-octets i
+pub key_octets : {k : Bool} {a u : List ℕ} → Key k a u → Octets a
+key_octets (Key.string s) = string_octets s
+key_octets (Key.identifier i) = identifier_octets i
 
 -- ---- Values and the text
 
@@ -312,16 +312,16 @@ closes : {x : Inside} {b : ℕ} → Closes x b → b ≤ 0x7F
 closes Closes.bracket = lit≤ tt
 closes Closes.brace = lit≤ tt
 
-pub value-octets : {k : Bool} {d : ℕ} {a : List ℕ} {m : Meaning} → Value k d a m → Octets a
-value-octets v =
+pub value_octets : {k : Bool} {d : ℕ} {a : List ℕ} {m : Meaning} → Value k d a m → Octets a
+value_octets v =
     elim v as (λ d a m v. Octets a) (λ d x a y r. Octets a) (λ d x a y r. Octets a) (λ d x a y r. Octets a) [
       | Value.null_word ↦ literal _ tt
-      | Value.true-word ↦ literal _ tt
-      | Value.false-word ↦ literal _ tt
-      | Value.number n ↦ number-octets n
-      | Value.string s ↦ string-octets s
-      | Value.binary b ↦ binary-octets b
-      | Value.time-value t ↦ time-octets t
+      | Value.true_word ↦ literal _ tt
+      | Value.false_word ↦ literal _ tt
+      | Value.number n ↦ number_octets n
+      | Value.string s ↦ string_octets s
+      | Value.binary b ↦ binary_octets b
+      | Value.time_value t ↦ time_octets t
       | Value.array r (x → h) ↦ ascii (lit≤ tt) h
       | Value.object r (x → h) ↦ ascii (lit≤ tt) h
       | Rest.close w c ↦ join (ws w) (ascii (closes c) Octets.none)
@@ -329,8 +329,8 @@ value-octets v =
       | After.end w c ↦ join (ws w) (ascii (closes c) Octets.none)
       | After.comma w (r → h) ↦ join (ws w) (ascii (lit≤ tt) h)
       | Item.element (v → h) ↦ h
-      | Item.member c v w (m → h) ↦ join (key-octets c) (join (ws v) (ascii (lit≤ tt) (join (ws w) h)))
+      | Item.member c v w (m → h) ↦ join (key_octets c) (join (ws v) (ascii (lit≤ tt) (join (ws w) h)))
     ]
 
-pub text-octets : {k : Bool} {t : List ℕ} {m : Meaning} → Loose k t m → Octets t
-text-octets (Loose.text w v l h) = join (ws w) (join (value-octets v) (last l))
+pub text_octets : {k : Bool} {t : List ℕ} {m : Meaning} → Loose k t m → Octets t
+text_octets (Loose.text w v l h) = join (ws w) (join (value_octets v) (last l))

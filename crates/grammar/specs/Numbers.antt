@@ -3,7 +3,7 @@ use Rattle.std.specs.Prelude.{ℕ, zero, suc, ◌+◌, ◌*◌, ◌-◌, ◌≤�
 use Rattle.rules.specs.Rfc3629.{In}
 use Rattle.meaning.specs.declared.Number as M
 use Rattle.meaning.specs.declared.Number.TheVariants.{NotANumber, Infinite, Finite as FiniteNumber}
-use Rattle.meaning.specs.Limits.{coefficientLimit, powerLimit}
+use Rattle.meaning.specs.Limits.{coefficient_limit, power_limit}
 use Rattle.meaning.specs.Letters.{letters, ch}
 use Rattle.grammar.specs.Checks.{Checked}
 use Rattle.grammar.specs.Characters.{Digit, Decimal, Hexadecimal}
@@ -12,10 +12,10 @@ use Rattle.grammar.specs.Characters.{Digit, Decimal, Hexadecimal}
 -- rounded; zero has coefficient 0 and power 0. The coefficient is below 2^64; the power lies from -9,999 to 9,999.
 pub data Finite (k minus : Bool) (m up dn : ℕ) : M.Number → Type 0 where
   nought : m ≡ 0 → Finite k minus m up dn (FiniteNumber minus 0 (pos 0))
-  whole : {c n : ℕ} → m * 10 ^ up ≡ c * 10 ^ n * 10 ^ dn → (c % 10 ≡ 0 → ⊥) → Checked k (c < coefficientLimit)
-      → Checked k (n ≤ powerLimit) → Finite k minus m up dn (FiniteNumber minus c (pos n))
-  part : {c n : ℕ} → m * 10 ^ up * 10 ^ suc n ≡ c * 10 ^ dn → (c % 10 ≡ 0 → ⊥) → Checked k (c < coefficientLimit)
-      → Checked k (suc n ≤ powerLimit) → Finite k minus m up dn (FiniteNumber minus c (negsuc n))
+  whole : {c n : ℕ} → m * 10 ^ up ≡ c * 10 ^ n * 10 ^ dn → (c % 10 ≡ 0 → ⊥) → Checked k (c < coefficient_limit)
+      → Checked k (n ≤ power_limit) → Finite k minus m up dn (FiniteNumber minus c (pos n))
+  part : {c n : ℕ} → m * 10 ^ up * 10 ^ suc n ≡ c * 10 ^ dn → (c % 10 ≡ 0 → ⊥) → Checked k (c < coefficient_limit)
+      → Checked k (suc n ≤ power_limit) → Finite k minus m up dn (FiniteNumber minus c (negsuc n))
 
 -- [ plus / minus ]
 pub data Sign : List ℕ → Bool → Type 0 where
@@ -25,7 +25,7 @@ pub data Sign : List ℕ → Bool → Type 0 where
 
 -- int = zero / ( digit1-9 *DIGIT )
 pub data Int : List ℕ → ℕ → Type 0 where
-  zero-digit : Int (letters "0") 0
+  zero_digit : Int (letters "0") 0
   positive : {n b w : ℕ} {a : List ℕ} → In (ch "1") (ch "9") b → Decimal n (b - ch "0") a w → Int (b ∷ a) w
 
 -- [ frac0 ], after the value v: the value with its n digits
@@ -76,7 +76,7 @@ pub data X : ℕ → Type 0 where
 pub data Unsigned (k minus : Bool) : List ℕ → M.Number → Type 0 where
   nan : Unsigned k minus (letters "NaN") NotANumber
   inf : Unsigned k minus (letters "Infinity") (Infinite minus)
-  hex : {x n v : ℕ} {a : List ℕ} {m : M.Number} → X x → Hexadecimal (suc n) a v → Checked k (v < coefficientLimit)
+  hex : {x n v : ℕ} {a : List ℕ} {m : M.Number} → X x → Hexadecimal (suc n) a v → Checked k (v < coefficient_limit)
       → Finite k minus v 0 0 m → Unsigned k minus (ch "0" ∷ x ∷ a) m
   dec : {a : List ℕ} {v up dn : ℕ} {m : M.Number} → Dec a v up dn → Finite k minus v up dn m → Unsigned k minus a m
 

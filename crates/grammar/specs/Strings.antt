@@ -30,22 +30,22 @@ pub data Chars (P : List ℕ → Type 0) (E : List ℕ → List ℕ → Type 0) 
   none : Chars P E q [] []
   plain : {c a u : List ℕ} → P c → Chars P E q a u → Chars P E q (c ++ a) (c ++ u)
   escaped : {e v a u : List ℕ} → E e v → Chars P E q a u → Chars P E q (ch "\\" ∷ (e ++ a)) (v ++ u)
-  other-quote : {a u : List ℕ} → Chars P E q a u → Chars P E q (mark (other q) ∷ a) (mark (other q) ∷ u)
+  other_quote : {a u : List ℕ} → Chars P E q a u → Chars P E q (mark (other q) ∷ a) (mark (other q) ∷ u)
 
 pub data Quoted (P : List ℕ → Type 0) (E : List ℕ → List ℕ → Type 0) : List ℕ → List ℕ → Type 0 where
   quoted : {a u : List ℕ} (q : Quote) → Chars P E q a u → Quoted P E (mark q ∷ (a ++ (mark q ∷ []))) u
 
 -- the escapes of one byte that strings and binary share
 pub data Short : ℕ → ℕ → Type 0 where
-  double-quote : Short (ch "\"") 0x22
-  single-quote : Short (ch "'") 0x27
-  reverse-solidus : Short (ch "\\") 0x5C
+  double_quote : Short (ch "\"") 0x22
+  single_quote : Short (ch "'") 0x27
+  reverse_solidus : Short (ch "\\") 0x5C
   solidus : Short (ch "/") 0x2F
   nul : Short (ch "0") 0x00
   backspace : Short (ch "b") 0x08
-  form-feed : Short (ch "f") 0x0C
-  line-feed : Short (ch "n") 0x0A
-  carriage-return : Short (ch "r") 0x0D
+  form_feed : Short (ch "f") 0x0C
+  line_feed : Short (ch "n") 0x0A
+  carriage_return : Short (ch "r") 0x0D
   tab : Short (ch "t") 0x09
   vtab : Short (ch "v") 0x0B
 
@@ -70,10 +70,10 @@ abbrev pub unescaped : List Range
 unescaped = 0x20 to 0x21 ∷ 0x23 to 0x26 ∷ 0x28 to 0x5B ∷ 0x5D to 0x10FFFF ∷ []
 
 -- *2d-quote, *2s-quote
-pub data Up-to-two (q : Quote) : List ℕ → Type 0 where
-  no-quote : Up-to-two q []
-  one-quote : Up-to-two q (mark q ∷ [])
-  two-quotes : Up-to-two q (mark q ∷ mark q ∷ [])
+pub data UpToTwo (q : Quote) : List ℕ → Type 0 where
+  no_quote : UpToTwo q []
+  one_quote : UpToTwo q (mark q ∷ [])
+  two_quotes : UpToTwo q (mark q ∷ mark q ∷ [])
 
 -- %x09 / %x0A / %x0D / %x20-21 / %x23-10FFFF and %x09 / %x0A / %x0D / %x20-26 / %x28-10FFFF
 abbrev pub source : Quote → List Range
@@ -82,29 +82,29 @@ source single = 0x09 to 0x09 ∷ 0x0A to 0x0A ∷ 0x0D to 0x0D ∷ 0x20 to 0x26 
 
 -- m-d-char = *2d-quote ( %x09 / %x0A / %x0D / %x20-21 / %x23-10FFFF )
 -- m-s-char = *2s-quote ( %x09 / %x0A / %x0D / %x20-26 / %x28-10FFFF )
-pub data M-char (q : Quote) : List ℕ → Type 0 where
-  m-char : {s c : List ℕ} → Up-to-two q s → Among (source q) c → M-char q (s ++ c)
+pub data MChar (q : Quote) : List ℕ → Type 0 where
+  m_char : {s c : List ℕ} → UpToTwo q s → Among (source q) c → MChar q (s ++ c)
 
 -- the newline that a multiline part loses right after its opening: one LF, or one CR LF
 pub data Newline : List ℕ → Type 0 where
-  line-feed : Newline (letters "\n")
-  return-line-feed : Newline (letters "\r\n")
+  line_feed : Newline (letters "\n")
+  return_line_feed : Newline (letters "\r\n")
 
 -- no such newline begins these bytes
-pub data No-newline : List ℕ → Type 0 where
-  empty : No-newline []
-  other_byte : {b : ℕ} {a : List ℕ} → (b ≡ ch "\n" → ⊥) → (b ≡ ch "\r" → ⊥) → No-newline (b ∷ a)
-  lone-return : No-newline (letters "\r")
-  return-before : {b : ℕ} {a : List ℕ} → (b ≡ ch "\n" → ⊥) → No-newline (ch "\r" ∷ b ∷ a)
+pub data NoNewline : List ℕ → Type 0 where
+  empty : NoNewline []
+  other_byte : {b : ℕ} {a : List ℕ} → (b ≡ ch "\n" → ⊥) → (b ≡ ch "\r" → ⊥) → NoNewline (b ∷ a)
+  lone_return : NoNewline (letters "\r")
+  return_before : {b : ℕ} {a : List ℕ} → (b ≡ ch "\n" → ⊥) → NoNewline (ch "\r" ∷ b ∷ a)
 
 -- string-part = m-d-string / m-s-string / d-string / s-string
 -- m-d-string = 3d-quote *( m-d-char ) 3d-quote
 -- m-s-string = 3s-quote *( m-s-char ) 3s-quote
-pub data String-part (k : Bool) : List ℕ → List ℕ → Type 0 where
-  one_line : {a u : List ℕ} → Quoted (Among unescaped) (Escape k) a u → String-part k a u
-  multiline : {a : List ℕ} (q : Quote) → Many (M-char q) a → No-newline a → String-part k (three q ++ (a ++ three q)) a
-  trimmed : {n a : List ℕ} (q : Quote) → Newline n → Many (M-char q) a
-      → String-part k (three q ++ (n ++ (a ++ three q))) a
+pub data StringPart (k : Bool) : List ℕ → List ℕ → Type 0 where
+  one_line : {a u : List ℕ} → Quoted (Among unescaped) (Escape k) a u → StringPart k a u
+  multiline : {a : List ℕ} (q : Quote) → Many (MChar q) a → NoNewline a → StringPart k (three q ++ (a ++ three q)) a
+  trimmed : {n a : List ℕ} (q : Quote) → Newline n → Many (MChar q) a
+      → StringPart k (three q ++ (n ++ (a ++ three q))) a
 
 -- P *( value-concat P ); value-concat is `+` with layout allowed on both sides
 pub data Concat (P : List ℕ → List ℕ → Type 0) : List ℕ → List ℕ → Type 0 where
@@ -114,4 +114,4 @@ pub data Concat (P : List ℕ → List ℕ → Type 0) : List ℕ → List ℕ �
 
 -- string = string-part *( value-concat string-part )
 abbrev pub String : Bool → List ℕ → List ℕ → Type 0
-String k a u = Concat (String-part k) a u
+String k a u = Concat (StringPart k) a u

@@ -4,13 +4,13 @@ use Rattle.meaning.specs.declared.Number as N
 use Rattle.meaning.specs.declared.Time as T
 use Rattle.meaning.specs.Meaning.{Meaning, Meanings, Members}
 use Rattle.meaning.specs.Once.{once}
-use Rattle.meaning.specs.Limits.{depthLimit, textLimit}
+use Rattle.meaning.specs.Limits.{depth_limit, text_limit}
 use Rattle.meaning.specs.Letters.{letters, ch}
 use Rattle.grammar.specs.Checks.{Checked, Room}
 use Rattle.grammar.specs.Comments.{Ws, Last}
 use Rattle.grammar.specs.Numbers.{Number}
 use Rattle.grammar.specs.Strings.{String}
-use Rattle.grammar.specs.Times.{Time-value}
+use Rattle.grammar.specs.Times.{TimeValue}
 use Rattle.grammar.specs.Binary.{Binary}
 use Rattle.grammar.specs.Keys.{Key}
 
@@ -39,12 +39,12 @@ mutual
   -- object = begin-object [ member *( value-separator member ) value-sep-opt ] end-object
   pub data Value (k : Bool) : ℕ → List ℕ → Meaning → Type 0 where
     null_word : {d : ℕ} → Value k d (letters "null") Meaning.null
-    true-word : {d : ℕ} → Value k d (letters "true") (Meaning.bool true)
-    false-word : {d : ℕ} → Value k d (letters "false") (Meaning.bool false)
+    true_word : {d : ℕ} → Value k d (letters "true") (Meaning.bool true)
+    false_word : {d : ℕ} → Value k d (letters "false") (Meaning.bool false)
     number : {d : ℕ} {a : List ℕ} {n : N.Number} → Number k a n → Value k d a (Meaning.number n)
     string : {d : ℕ} {a u : List ℕ} → String k a u → Value k d a (Meaning.string u)
     binary : {d : ℕ} {a u : List ℕ} → Binary a u → Value k d a (Meaning.binary u)
-    time-value : {d : ℕ} {a : List ℕ} {t : T.Time} → Time-value k a t → Value k d a (Meaning.time t)
+    time_value : {d : ℕ} {a : List ℕ} {t : T.Time} → TimeValue k a t → Value k d a (Meaning.time t)
     array : {d e : ℕ} {a : List ℕ} {x : Meanings} → Room k d e → Rest k e (elements Meanings.none) a (elements x)
         → Value k d (ch "[" ∷ a) (Meaning.array x)
     object : {d e : ℕ} {a : List ℕ} {x : Members} → Room k d e → Rest k e (members Members.bare) a (members x)
@@ -72,8 +72,8 @@ mutual
 
 -- Layout, one value, layout; at most 16,777,216 bytes, and at most 64 arrays and objects open. Keys may repeat.
 pub data Loose (k : Bool) : List ℕ → Meaning → Type 0 where
-  text : {w a v : List ℕ} {m : Meaning} → Ws w → Value k depthLimit a m → Last v
-      → Checked k (length (w ++ (a ++ v)) ≤ textLimit) → Loose k (w ++ (a ++ v)) m
+  text : {w a v : List ℕ} {m : Meaning} → Ws w → Value k depth_limit a m → Last v
+      → Checked k (length (w ++ (a ++ v)) ≤ text_limit) → Loose k (w ++ (a ++ v)) m
 
 -- A text is all of this, and no object in it holds two equal keys.
 pub record Text (t : List ℕ) (m : Meaning) : Type 0 where

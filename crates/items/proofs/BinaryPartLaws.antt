@@ -12,131 +12,131 @@ use borrow.Author.Tests.{lt-ltb, le-ltb, le-leb, lt-leb, eq-eqb, ne_eqb}
 use Rattle.meaning.specs.declared.Refusal.TheVariants.{NotGrammar}
 use Rattle.meaning.specs.Letters.{ch}
 use Rattle.machine.specs.Scan.{Out, takes, stops, breaks, over, Ran, ended, broke, ran}
-use Rattle.machine.specs.Strings.{hexOf, noDigit, short_of, noShort}
-use Rattle.machine.specs.Binaries.{St, start, dollar, text, esc, hex, hexLow, low, pairs, dot, done, begin, onDigit, onShort, onText, scan}
-use Rattle.items.specs.Between.Places.{digitAt, Runs}
+use Rattle.machine.specs.Strings.{hex_of, no_digit, short_of, no_short}
+use Rattle.machine.specs.Binaries.{St, start, dollar, text, esc, hex, hex_low, low, pairs, dot, done, begin, on_digit, on_short, on_text, scan}
+use Rattle.items.specs.Between.Places.{digit_at, Runs}
 use Rattle.items.specs.Between.BinaryPart.{PairSays, Escaped, EscapeSays, OneByte, OneByteSays, Closing, StateSays, PairsSays, TextSays, PieceSays}
 use Rattle.items.specs.declared.binary_part.Pair.{Pair}
 use Rattle.items.specs.declared.binary_part.Octet.{Octet}
 use Rattle.items.specs.declared.binary_part.Piece.{Piece}
-use Rattle.items.proofs.PlacesLaws.{byte-in, byte-out, run_take, run-stop, run-break, end-stop, end-break}
-use Rattle.items.proofs.StoreLaws.{sets-app}
+use Rattle.items.proofs.PlacesLaws.{byte_in, byte_out, run_take, run_stop, run_break, end_stop, end_break}
+use Rattle.items.proofs.StoreLaws.{sets_app}
 
 -- ---- digits
 
 module _ (s : List ℕ) (p : ℕ) where
-  pub digit-is : p < length s → digitAt s p ≡ hexOf (get_or s p 0)
-  digit-is h = ap hexOf (byte-in s p h)
+  pub digit_is : p < length s → digit_at s p ≡ hex_of (get_or s p 0)
+  digit_is h = ap hex_of (byte_in s p h)
 
-  pub digit-none : length s ≤ p → digitAt s p ≡ noDigit
-  unfolding hexOf
-  digit-none h = rw (byte-out s p h)
+  pub digit_none : length s ≤ p → digit_at s p ≡ no_digit
+  unfolding hex_of
+  digit_none h = rw (byte_out s p h)
 
-  pub digit-in : digitAt s p < noDigit → p < length s
-  digit-in h = by (dec_lt p (length s))
+  pub digit_in : digit_at s p < no_digit → p < length s
+  digit_in h = by (dec_lt p (length s))
     where
       by : Dec (p < length s) → p < length s
       by (Dec.yes g) = g
-      by (Dec.no g) = absurd (omega (arith, digit-none (omega arith)))
+      by (Dec.no g) = absurd (omega (arith, digit_none (omega arith)))
 
   module _ (c : St) (next : ℕ → St) (instead : Out St (List ℕ)) where
-    pub digit-goes : scan p c (get_or s p 0) ≡ onDigit (hexOf (get_or s p 0)) next instead → digitAt s p < noDigit → Runs scan s c p (next (digitAt s p)) (p + 1)
-    unfolding onDigit
-    digit-goes e h =
-        let i = digit-in h in
-        let d = digit-is i in
-        let g : hexOf (get_or s p 0) < noDigit = omega arith in
-        run_take scan s p c (next (digitAt s p)) i (e ∙ rw (lt-ltb _ _ g) (ap (λ (x : ℕ). takes (next x)) (sym d)))
+    pub digit_goes : scan p c (get_or s p 0) ≡ on_digit (hex_of (get_or s p 0)) next instead → digit_at s p < no_digit → Runs scan s c p (next (digit_at s p)) (p + 1)
+    unfolding on_digit
+    digit_goes e h =
+        let i = digit_in h in
+        let d = digit_is i in
+        let g : hex_of (get_or s p 0) < no_digit = omega arith in
+        run_take scan s p c (next (digit_at s p)) i (e ∙ rw (lt-ltb _ _ g) (ap (λ (x : ℕ). takes (next x)) (sym d)))
 
-    pub digit_not : p < length s → noDigit ≤ digitAt s p → onDigit (hexOf (get_or s p 0)) next instead ≡ instead
-    unfolding onDigit
-    digit_not i h = let d = digit-is i in let g : noDigit ≤ hexOf (get_or s p 0) = omega arith in rw (le-ltb _ _ g)
+    pub digit_not : p < length s → no_digit ≤ digit_at s p → on_digit (hex_of (get_or s p 0)) next instead ≡ instead
+    unfolding on_digit
+    digit_not i h = let d = digit_is i in let g : no_digit ≤ hex_of (get_or s p 0) = omega arith in rw (le-ltb _ _ g)
 
-  pub digit-breaks : (c : St) (next : ℕ → St) → ((b : ℕ) → scan p c b ≡ onDigit (hexOf b) next (breaks (NotGrammar p))) → noDigit ≤ digitAt s p
+  pub digit_breaks : (c : St) (next : ℕ → St) → ((b : ℕ) → scan p c b ≡ on_digit (hex_of b) next (breaks (NotGrammar p))) → no_digit ≤ digit_at s p
       → ran scan p c (drop p s) ≡ broke (NotGrammar p)
-  unfolding onDigit hexOf
-  digit-breaks c next e h = by (dec_lt p (length s))
+  unfolding on_digit hex_of
+  digit_breaks c next e h = by (dec_lt p (length s))
     where
       by : Dec (p < length s) → ran scan p c (drop p s) ≡ broke (NotGrammar p)
-      by (Dec.yes g) = run-break scan s p c (NotGrammar p) g (e (get_or s p 0) ∙ digit_not c next (breaks (NotGrammar p)) g h)
-      by (Dec.no g) = end-break scan s p c (NotGrammar p) (omega arith) (e over)
+      by (Dec.yes g) = run_break scan s p c (NotGrammar p) g (e (get_or s p 0) ∙ digit_not c next (breaks (NotGrammar p)) g h)
+      by (Dec.no g) = end_break scan s p c (NotGrammar p) (omega arith) (e over)
 
 -- ---- after a pair
 
 module _ (s : List ℕ) (p : ℕ) where
-  pub pair-over : length s ≤ p → PairSays s p (Pair.End p)
-  unfolding scan onDigit hexOf
-  pair-over h = ((λ a. end-stop scan s p (pairs a) a h refl), refl)
+  pub pair_over : length s ≤ p → PairSays s p (Pair.End p)
+  unfolding scan on_digit hex_of
+  pair_over h = ((λ a. end_stop scan s p (pairs a) a h refl), refl)
 
   dotted : p < length s → get_or s p 0 ≡ ch "." → (a : List ℕ) → Runs scan s (pairs a) p (dot a) (p + 1)
   unfolding scan
   dotted h e a = run_take scan s p (pairs a) (dot a) h (rw e)
 
-  pub pair-dot : p < length s → get_or s p 0 ≡ ch "." → digitAt s (p + 1) < noDigit → PairSays s p (Pair.Digit (p + 1))
+  pub pair_dot : p < length s → get_or s p 0 ≡ ch "." → digit_at s (p + 1) < no_digit → PairSays s p (Pair.Digit (p + 1))
   unfolding scan
-  pair-dot h e d = ((λ a. dotted h e a ∙ digit-goes s (p + 1) (dot a) (low a) (breaks (NotGrammar (p + 1))) refl d), digit-in s (p + 1) d, omega arith, d)
+  pair_dot h e d = ((λ a. dotted h e a ∙ digit_goes s (p + 1) (dot a) (low a) (breaks (NotGrammar (p + 1))) refl d), digit_in s (p + 1) d, omega arith, d)
 
-  pub pair-wrong : p < length s → get_or s p 0 ≡ ch "." → noDigit ≤ digitAt s (p + 1) → PairSays s p (Pair.NotGrammar (p + 1))
+  pub pair_wrong : p < length s → get_or s p 0 ≡ ch "." → no_digit ≤ digit_at s (p + 1) → PairSays s p (Pair.NotGrammar (p + 1))
   unfolding scan
-  pair-wrong h e d = λ a. dotted h e a ∙ digit-breaks s (p + 1) (dot a) (low a) (λ b. refl) d
+  pair_wrong h e d = λ a. dotted h e a ∙ digit_breaks s (p + 1) (dot a) (low a) (λ b. refl) d
 
-  pub pair-digit : p < length s → (get_or s p 0 ≡ ch "." → ⊥) → digitAt s p < noDigit → PairSays s p (Pair.Digit p)
+  pub pair_digit : p < length s → (get_or s p 0 ≡ ch "." → ⊥) → digit_at s p < no_digit → PairSays s p (Pair.Digit p)
   unfolding scan
-  pair-digit h n d = ((λ a. digit-goes s p (pairs a) (low a) (stops a) (rw (ne_eqb _ _ n)) d), h, omega arith, d)
+  pair_digit h n d = ((λ a. digit_goes s p (pairs a) (low a) (stops a) (rw (ne_eqb _ _ n)) d), h, omega arith, d)
 
-  pub pair_end : p < length s → (get_or s p 0 ≡ ch "." → ⊥) → noDigit ≤ digitAt s p → PairSays s p (Pair.End p)
+  pub pair_end : p < length s → (get_or s p 0 ≡ ch "." → ⊥) → no_digit ≤ digit_at s p → PairSays s p (Pair.End p)
   unfolding scan
-  pair_end h n d = ((λ a. run-stop scan s p (pairs a) a h (rw (ne_eqb _ _ n) (digit_not s p (pairs a) (low a) (stops a) h d))), refl)
+  pair_end h n d = ((λ a. run_stop scan s p (pairs a) a h (rw (ne_eqb _ _ n) (digit_not s p (pairs a) (low a) (stops a) h d))), refl)
 
 -- ---- an escape of the quoted form, after its backslash
 
 module _ (s : List ℕ) (p : ℕ) where
-  pub escape-over : length s ≤ p → EscapeSays s p (Octet.NotGrammar p)
-  unfolding scan onShort short_of
-  escape-over h = λ c a. end-break scan s p (esc c a) (NotGrammar p) h refl
+  pub escape_over : length s ≤ p → EscapeSays s p (Octet.NotGrammar p)
+  unfolding scan on_short short_of
+  escape_over h = λ c a. end_break scan s p (esc c a) (NotGrammar p) h refl
 
   module _ (h : p < length s) where
-    pub escape-wrong : (get_or s p 0 ≡ ch "x" → ⊥) → noShort ≤ short_of (get_or s p 0) → EscapeSays s p (Octet.NotGrammar p)
-    unfolding scan onShort
-    escape-wrong n g = λ c a. run-break scan s p (esc c a) (NotGrammar p) h (rw (ne_eqb _ _ n, le-ltb _ _ g))
+    pub escape_wrong : (get_or s p 0 ≡ ch "x" → ⊥) → no_short ≤ short_of (get_or s p 0) → EscapeSays s p (Octet.NotGrammar p)
+    unfolding scan on_short
+    escape_wrong n g = λ c a. run_break scan s p (esc c a) (NotGrammar p) h (rw (ne_eqb _ _ n, le-ltb _ _ g))
 
-    pub escape-short : (get_or s p 0 ≡ ch "x" → ⊥) → short_of (get_or s p 0) < noShort → EscapeSays s p (Octet.Byte (short_of (get_or s p 0)) (p + 1))
-    unfolding scan onShort
-    escape-short n g = record {
+    pub escape_short : (get_or s p 0 ≡ ch "x" → ⊥) → short_of (get_or s p 0) < no_short → EscapeSays s p (Octet.Byte (short_of (get_or s p 0)) (p + 1))
+    unfolding scan on_short
+    escape_short n g = record {
       runs = λ c a. run_take scan s p (esc c a) (text c (a ++ (short_of (get_or s p 0) ∷ []))) h (rw (ne_eqb _ _ n, lt-ltb _ _ g));
       past = omega arith;
       within = omega arith;
     }
 
     module _ (e : get_or s p 0 ≡ ch "x") where
-      after-x : (c : ℕ) (a : List ℕ) → Runs scan s (esc c a) p (hex c a) (p + 1)
+      after_x : (c : ℕ) (a : List ℕ) → Runs scan s (esc c a) p (hex c a) (p + 1)
       unfolding scan
-      after-x c a = run_take scan s p (esc c a) (hex c a) h (rw e)
+      after_x c a = run_take scan s p (esc c a) (hex c a) h (rw e)
 
-      pub escape-high : noDigit ≤ digitAt s (p + 1) → EscapeSays s p (Octet.NotGrammar (p + 1))
+      pub escape_high : no_digit ≤ digit_at s (p + 1) → EscapeSays s p (Octet.NotGrammar (p + 1))
       unfolding scan
-      escape-high g = λ c a. after-x c a ∙ digit-breaks s (p + 1) (hex c a) (hexLow c a) (λ b. refl) g
+      escape_high g = λ c a. after_x c a ∙ digit_breaks s (p + 1) (hex c a) (hex_low c a) (λ b. refl) g
 
-      module _ (g : digitAt s (p + 1) < noDigit) where
-        after-high : (c : ℕ) (a : List ℕ) → Runs scan s (esc c a) p (hexLow c a (digitAt s (p + 1))) (p + 2)
+      module _ (g : digit_at s (p + 1) < no_digit) where
+        after_high : (c : ℕ) (a : List ℕ) → Runs scan s (esc c a) p (hex_low c a (digit_at s (p + 1))) (p + 2)
         unfolding scan
-        after-high c a = after-x c a ∙ digit-goes s (p + 1) (hex c a) (hexLow c a) (breaks (NotGrammar (p + 1))) refl g
-            ∙ (let n : p + 1 + 1 ≡ p + 2 = omega arith in ap (λ (j : ℕ). ran scan j (hexLow c a (digitAt s (p + 1))) (drop j s)) n)
+        after_high c a = after_x c a ∙ digit_goes s (p + 1) (hex c a) (hex_low c a) (breaks (NotGrammar (p + 1))) refl g
+            ∙ (let n : p + 1 + 1 ≡ p + 2 = omega arith in ap (λ (j : ℕ). ran scan j (hex_low c a (digit_at s (p + 1))) (drop j s)) n)
 
-        pub escape-low : noDigit ≤ digitAt s (p + 2) → EscapeSays s p (Octet.NotGrammar (p + 2))
+        pub escape_low : no_digit ≤ digit_at s (p + 2) → EscapeSays s p (Octet.NotGrammar (p + 2))
         unfolding scan
-        escape-low l = λ c a. after-high c a ∙ digit-breaks s (p + 2) (hexLow c a (digitAt s (p + 1))) (λ x. text c (a ++ ((16 * digitAt s (p + 1) + x) ∷ [])))
+        escape_low l = λ c a. after_high c a ∙ digit_breaks s (p + 2) (hex_low c a (digit_at s (p + 1))) (λ x. text c (a ++ ((16 * digit_at s (p + 1) + x) ∷ [])))
             (λ b. refl) l
 
-        pub escape-hex : digitAt s (p + 2) < noDigit → EscapeSays s p (Octet.Byte (16 * digitAt s (p + 1) + digitAt s (p + 2)) (p + 3))
+        pub escape_hex : digit_at s (p + 2) < no_digit → EscapeSays s p (Octet.Byte (16 * digit_at s (p + 1) + digit_at s (p + 2)) (p + 3))
         unfolding scan
-        escape-hex l = record {
-          runs = λ c a. after-high c a ∙ digit-goes s (p + 2) (hexLow c a (digitAt s (p + 1))) (λ x. text c (a ++ ((16 * digitAt s (p + 1) + x) ∷ [])))
+        escape_hex l = record {
+          runs = λ c a. after_high c a ∙ digit_goes s (p + 2) (hex_low c a (digit_at s (p + 1))) (λ x. text c (a ++ ((16 * digit_at s (p + 1) + x) ∷ [])))
               (breaks (NotGrammar (p + 2))) refl l
-              ∙ (let n : p + 2 + 1 ≡ p + 3 = omega arith in ap (λ (j : ℕ). ran scan j (text c (a ++ ((16 * digitAt s (p + 1) + digitAt s (p + 2)) ∷ [])))
+              ∙ (let n : p + 2 + 1 ≡ p + 3 = omega arith in ap (λ (j : ℕ). ran scan j (text c (a ++ ((16 * digit_at s (p + 1) + digit_at s (p + 2)) ∷ [])))
               (drop j s)) n);
           past = omega arith;
-          within = omega (arith, digit-in s (p + 2) l);
+          within = omega (arith, digit_in s (p + 2) l);
         }
 
 -- ---- the loops: the bytes so far, in the state of that many
@@ -144,7 +144,7 @@ module _ (s : List ℕ) (p : ℕ) where
 -- one byte more
 pub byte_more : (entry store u : List ℕ) (from out v : ℕ) → store ≡ sets entry from u → out ≡ from + length u → set store out v
     ≡ sets entry from (u ++ (v ∷ []))
-byte_more entry store u from out v e h = rw (sets-app, ← e, ← h)
+byte_more entry store u from out v e h = rw (sets_app, ← e, ← h)
 
 pub record Filling (s : List ℕ) (c : St) (p : ℕ) (state : List ℕ → ℕ → St) (place : ℕ → ℕ) (from first : ℕ) (entry store : List ℕ) (i out : ℕ) : Type 0 where
   pub u : List ℕ
@@ -172,12 +172,12 @@ module _ {s : List ℕ} {c : St} {p : ℕ} {state : List ℕ → ℕ → St} {pl
     within = h;
   }
 
-  pub fill-wrong : (q : ℕ) → ran scan (place i) (state v.u i) (drop (place i) s) ≡ broke (NotGrammar q) → ran scan p c (drop p s) ≡ broke (NotGrammar q)
-  fill-wrong q e = v.runs ∙ e
+  pub fill_wrong : (q : ℕ) → ran scan (place i) (state v.u i) (drop (place i) s) ≡ broke (NotGrammar q) → ran scan p c (drop p s) ≡ broke (NotGrammar q)
+  fill_wrong q e = v.runs ∙ e
 
-  pub fill-closed : (q n : ℕ) → ran scan (place i) (state v.u i) (drop (place i) s) ≡ ended v.u q → i < q → q ≤ length s → n + first ≡ out
+  pub fill_closed : (q n : ℕ) → ran scan (place i) (state v.u i) (drop (place i) s) ≡ ended v.u q → i < q → q ≤ length s → n + first ≡ out
       → Closing s c from p first entry store q n
-  fill-closed q n e l h o = record {
+  fill_closed q n e l h o = record {
     u = v.u;
     runs = v.runs ∙ e;
     meant = record { counted = omega (arith, v.placed); filled = v.filled; room = omega (arith, v.room); past = omega (arith, v.room) };
@@ -185,9 +185,9 @@ module _ {s : List ℕ} {c : St} {p : ℕ} {state : List ℕ → ℕ → St} {pl
   }
 
   -- the last byte b, and the part's end
-  pub fill-last : (b q n : ℕ) → ran scan (place i) (state v.u i) (drop (place i) s) ≡ ended (v.u ++ (b ∷ [])) q → i < q → q ≤ length s → n + first ≡ out + 1
+  pub fill_last : (b q n : ℕ) → ran scan (place i) (state v.u i) (drop (place i) s) ≡ ended (v.u ++ (b ∷ [])) q → i < q → q ≤ length s → n + first ≡ out + 1
       → Closing s c from p first entry (set store out b) q n
-  fill-last b q n e l h o = record {
+  fill_last b q n e l h o = record {
     u = v.u ++ (b ∷ []);
     runs = v.runs ∙ e;
     meant = record {
@@ -205,103 +205,103 @@ abbrev pub texting : ℕ → List ℕ → ℕ → St
 texting q u i = text q u
 
 module _ (s : List ℕ) (q i : ℕ) (u : List ℕ) where
-  pub text-over : q < 256 → length s ≤ i → ran scan i (text q u) (drop i s) ≡ broke (NotGrammar i)
-  unfolding scan onText
-  text-over l h = end-break scan s i (text q u) (NotGrammar i) h (let n : eqb over q ≡ false = ne_eqb over q (omega arith) in rw n)
+  pub text_over : q < 256 → length s ≤ i → ran scan i (text q u) (drop i s) ≡ broke (NotGrammar i)
+  unfolding scan on_text
+  text_over l h = end_break scan s i (text q u) (NotGrammar i) h (let n : eqb over q ≡ false = ne_eqb over q (omega arith) in rw n)
 
   module _ (h : i < length s) where
-    text-escape : get_or s i 0 ≡ ch "\\" → Runs scan s (text q u) i (esc q u) (i + 1)
-    unfolding scan onText
-    text-escape e = run_take scan s i (text q u) (esc q u) h (rw e)
+    text_escape : get_or s i 0 ≡ ch "\\" → Runs scan s (text q u) i (esc q u) (i + 1)
+    unfolding scan on_text
+    text_escape e = run_take scan s i (text q u) (esc q u) h (rw e)
 
-    pub text-escaped : (j v : ℕ) → get_or s i 0 ≡ ch "\\" → Escaped s (i + 1) j v → Runs scan s (text q u) i (text q (u ++ (v ∷ []))) j
-    text-escaped j v e w = text-escape e ∙ w.runs q u
+    pub text_escaped : (j v : ℕ) → get_or s i 0 ≡ ch "\\" → Escaped s (i + 1) j v → Runs scan s (text q u) i (text q (u ++ (v ∷ []))) j
+    text_escaped j v e w = text_escape e ∙ w.runs q u
 
-    pub text-unescaped : (r : ℕ) → get_or s i 0 ≡ ch "\\" → EscapeSays s (i + 1) (Octet.NotGrammar r) → ran scan i (text q u) (drop i s) ≡ broke (NotGrammar r)
-    text-unescaped r e w = text-escape e ∙ w q u
+    pub text_unescaped : (r : ℕ) → get_or s i 0 ≡ ch "\\" → EscapeSays s (i + 1) (Octet.NotGrammar r) → ran scan i (text q u) (drop i s) ≡ broke (NotGrammar r)
+    text_unescaped r e w = text_escape e ∙ w q u
 
     module _ (n : get_or s i 0 ≡ ch "\\" → ⊥) where
-      pub text-closes : get_or s i 0 ≡ q → ran scan i (text q u) (drop i s) ≡ ended u (i + 1)
-      unfolding scan onText
-      text-closes e = run_take scan s i (text q u) (done u) h (rw (ne_eqb _ _ n, eq-eqb _ _ e)) ∙ closed (dec_lt (i + 1) (length s))
+      pub text_closes : get_or s i 0 ≡ q → ran scan i (text q u) (drop i s) ≡ ended u (i + 1)
+      unfolding scan on_text
+      text_closes e = run_take scan s i (text q u) (done u) h (rw (ne_eqb _ _ n, eq-eqb _ _ e)) ∙ closed (dec_lt (i + 1) (length s))
         where
           closed : Dec (i + 1 < length s) → ran scan (i + 1) (done u) (drop (i + 1) s) ≡ ended u (i + 1)
-          closed (Dec.yes g) = run-stop scan s (i + 1) (done u) u g refl
-          closed (Dec.no g) = end-stop scan s (i + 1) (done u) u (omega arith) refl
+          closed (Dec.yes g) = run_stop scan s (i + 1) (done u) u g refl
+          closed (Dec.no g) = end_stop scan s (i + 1) (done u) u (omega arith) refl
 
       module _ (m : get_or s i 0 ≡ q → ⊥) where
-        pub text-low : get_or s i 0 < 0x20 → ran scan i (text q u) (drop i s) ≡ broke (NotGrammar i)
-        unfolding scan onText
-        text-low l = run-break scan s i (text q u) (NotGrammar i) h (rw (ne_eqb _ _ n, ne_eqb _ _ m, lt-ltb _ _ l))
+        pub text_low : get_or s i 0 < 0x20 → ran scan i (text q u) (drop i s) ≡ broke (NotGrammar i)
+        unfolding scan on_text
+        text_low l = run_break scan s i (text q u) (NotGrammar i) h (rw (ne_eqb _ _ n, ne_eqb _ _ m, lt-ltb _ _ l))
 
-        pub text-high : 0x7E < get_or s i 0 → ran scan i (text q u) (drop i s) ≡ broke (NotGrammar i)
-        unfolding scan onText
-        text-high l = run-break scan s i (text q u) (NotGrammar i) h (let k : 0x20 ≤ get_or s i 0 = omega arith in
+        pub text_high : 0x7E < get_or s i 0 → ran scan i (text q u) (drop i s) ≡ broke (NotGrammar i)
+        unfolding scan on_text
+        text_high l = run_break scan s i (text q u) (NotGrammar i) h (let k : 0x20 ≤ get_or s i 0 = omega arith in
             rw (ne_eqb _ _ n, ne_eqb _ _ m, le-ltb _ _ k, lt-leb _ _ l))
 
-        pub text-plain : 0x20 ≤ get_or s i 0 → get_or s i 0 ≤ 0x7E → Runs scan s (text q u) i (text q (u ++ (get_or s i 0 ∷ []))) (i + 1)
-        unfolding scan onText
-        text-plain k l = run_take scan s i (text q u) (text q (u ++ (get_or s i 0 ∷ []))) h (rw (ne_eqb _ _ n, ne_eqb _ _ m, le-ltb _ _ k, le-leb _ _ l))
+        pub text_plain : 0x20 ≤ get_or s i 0 → get_or s i 0 ≤ 0x7E → Runs scan s (text q u) i (text q (u ++ (get_or s i 0 ∷ []))) (i + 1)
+        unfolding scan on_text
+        text_plain k l = run_take scan s i (text q u) (text q (u ++ (get_or s i 0 ∷ []))) h (rw (ne_eqb _ _ n, ne_eqb _ _ m, le-ltb _ _ k, le-leb _ _ l))
 
 -- one byte of it, where no quote closes it
 module _ (s : List ℕ) (i : ℕ) (h : i < length s) where
-  pub one-escaped : get_or s i 0 ≡ ch "\\" → (r : Octet) → EscapeSays s (i + 1) r → OneByteSays s i r
-  one-escaped e (Octet.Byte v j) w = record { runs = λ c a m. text-escaped s c i a h j v e w; past = omega (arith, w.past); within = w.within }
-  one-escaped e (Octet.NotGrammar j) w = λ c a m. text-unescaped s c i a h j e w
+  pub one_escaped : get_or s i 0 ≡ ch "\\" → (r : Octet) → EscapeSays s (i + 1) r → OneByteSays s i r
+  one_escaped e (Octet.Byte v j) w = record { runs = λ c a m. text_escaped s c i a h j v e w; past = omega (arith, w.past); within = w.within }
+  one_escaped e (Octet.NotGrammar j) w = λ c a m. text_unescaped s c i a h j e w
 
   module _ (n : get_or s i 0 ≡ ch "\\" → ⊥) where
-    pub one-low : get_or s i 0 < 0x20 → OneByteSays s i (Octet.NotGrammar i)
-    one-low l = λ c a m. text-low s c i a h n m l
+    pub one_low : get_or s i 0 < 0x20 → OneByteSays s i (Octet.NotGrammar i)
+    one_low l = λ c a m. text_low s c i a h n m l
 
-    pub one-high : 0x7E < get_or s i 0 → OneByteSays s i (Octet.NotGrammar i)
-    one-high l = λ c a m. text-high s c i a h n m l
+    pub one_high : 0x7E < get_or s i 0 → OneByteSays s i (Octet.NotGrammar i)
+    one_high l = λ c a m. text_high s c i a h n m l
 
     pub one_plain : 0x20 ≤ get_or s i 0 → get_or s i 0 ≤ 0x7E → OneByteSays s i (Octet.Byte (get_or s i 0) (i + 1))
-    one_plain k l = record { runs = λ c a m. text-plain s c i a h n m k l; past = omega arith; within = omega arith }
+    one_plain k l = record { runs = λ c a m. text_plain s c i a h n m k l; past = omega arith; within = omega arith }
 
 -- ---- hex pairs
 
 -- after the first digit of a pair, at its place
 abbrev pub pairing : List ℕ → List ℕ → ℕ → St
-pairing s u i = low u (digitAt s i)
+pairing s u i = low u (digit_at s i)
 
 abbrev pub next_place : ℕ → ℕ
 next_place i = i + 1
 
 module _ (s : List ℕ) (i : ℕ) (u : List ℕ) where
-  pub pair-open : noDigit ≤ digitAt s (i + 1) → ran scan (i + 1) (pairing s u i) (drop (i + 1) s) ≡ broke (NotGrammar (i + 1))
+  pub pair_open : no_digit ≤ digit_at s (i + 1) → ran scan (i + 1) (pairing s u i) (drop (i + 1) s) ≡ broke (NotGrammar (i + 1))
   unfolding scan
-  pair-open g = digit-breaks s (i + 1) (pairing s u i) (λ x. pairs (u ++ ((16 * digitAt s i + x) ∷ []))) (λ b. refl) g
+  pair_open g = digit_breaks s (i + 1) (pairing s u i) (λ x. pairs (u ++ ((16 * digit_at s i + x) ∷ []))) (λ b. refl) g
 
-  abbrev one-pair : List ℕ
-  one-pair = u ++ ((16 * digitAt s i + digitAt s (i + 1)) ∷ [])
+  abbrev one_pair : List ℕ
+  one_pair = u ++ ((16 * digit_at s i + digit_at s (i + 1)) ∷ [])
 
-  module _ (g : digitAt s (i + 1) < noDigit) where
-    whole_pair : Runs scan s (pairing s u i) (i + 1) (pairs one-pair) (i + 2)
+  module _ (g : digit_at s (i + 1) < no_digit) where
+    whole_pair : Runs scan s (pairing s u i) (i + 1) (pairs one_pair) (i + 2)
     unfolding scan
-    whole_pair = digit-goes s (i + 1) (pairing s u i) (λ x. pairs (u ++ ((16 * digitAt s i + x) ∷ []))) (breaks (NotGrammar (i + 1))) refl g
-        ∙ (let n : i + 1 + 1 ≡ i + 2 = omega arith in ap (λ (j : ℕ). ran scan j (pairs one-pair) (drop j s)) n)
+    whole_pair = digit_goes s (i + 1) (pairing s u i) (λ x. pairs (u ++ ((16 * digit_at s i + x) ∷ []))) (breaks (NotGrammar (i + 1))) refl g
+        ∙ (let n : i + 1 + 1 ≡ i + 2 = omega arith in ap (λ (j : ℕ). ran scan j (pairs one_pair) (drop j s)) n)
 
-    pub pair-more : (j : ℕ) → PairSays s (i + 2) (Pair.Digit j) → Runs scan s (pairing s u i) (i + 1) (pairing s one-pair j) (j + 1)
-    pair-more j w = whole_pair ∙ w.0 one-pair
+    pub pair_more : (j : ℕ) → PairSays s (i + 2) (Pair.Digit j) → Runs scan s (pairing s u i) (i + 1) (pairing s one_pair j) (j + 1)
+    pair_more j w = whole_pair ∙ w.0 one_pair
 
-    pub pair-wrongs : (j : ℕ) → PairSays s (i + 2) (Pair.NotGrammar j) → ran scan (i + 1) (pairing s u i) (drop (i + 1) s) ≡ broke (NotGrammar j)
-    pair-wrongs j w = whole_pair ∙ w one-pair
+    pub pair_wrongs : (j : ℕ) → PairSays s (i + 2) (Pair.NotGrammar j) → ran scan (i + 1) (pairing s u i) (drop (i + 1) s) ≡ broke (NotGrammar j)
+    pair_wrongs j w = whole_pair ∙ w one_pair
 
-    pub pair_ends : (j : ℕ) → PairSays s (i + 2) (Pair.End j) → ran scan (i + 1) (pairing s u i) (drop (i + 1) s) ≡ ended one-pair j
-    pair_ends j w = whole_pair ∙ w.0 one-pair
+    pub pair_ends : (j : ℕ) → PairSays s (i + 2) (Pair.End j) → ran scan (i + 1) (pairing s u i) (drop (i + 1) s) ≡ ended one_pair j
+    pair_ends j w = whole_pair ∙ w.0 one_pair
 
 -- ---- a whole part
 
 module _ (s : List ℕ) (p first : ℕ) (entry : List ℕ) where
-  pub part-over : length s ≤ p → PieceSays s p first entry entry (Piece.NotGrammar p)
+  pub part_over : length s ≤ p → PieceSays s p first entry entry (Piece.NotGrammar p)
   unfolding scan
-  part-over h = end-break scan s p begin (NotGrammar p) h refl
+  part_over h = end_break scan s p begin (NotGrammar p) h refl
 
   module _ (h : p < length s) where
     pub part_none : (get_or s p 0 ≡ ch "$" → ⊥) → PieceSays s p first entry entry (Piece.NotGrammar p)
     unfolding scan
-    part_none n = run-break scan s p begin (NotGrammar p) h (rw (ne_eqb _ _ n))
+    part_none n = run_break scan s p begin (NotGrammar p) h (rw (ne_eqb _ _ n))
 
     module _ (e : get_or s p 0 ≡ ch "$") where
       opened : Runs scan s begin p dollar (p + 1)
@@ -317,34 +317,34 @@ module _ (s : List ℕ) (p first : ℕ) (entry : List ℕ) where
       }
 
       pub part_end : length s ≤ p + 1 → PieceSays s p first entry entry (Piece.Closed 0 (p + 1))
-      unfolding scan onDigit hexOf
-      part_end g = empty (end-stop scan s (p + 1) dollar [] g refl)
+      unfolding scan on_digit hex_of
+      part_end g = empty (end_stop scan s (p + 1) dollar [] g refl)
 
       -- what a reader of the rest says, from the state c at i on
-      pub part-rest : (c : St) (from i : ℕ) → p < from → Runs scan s dollar (p + 1) c i → (exit : List ℕ) (r : Piece) → StateSays s c from i first entry exit r
+      pub part_rest : (c : St) (from i : ℕ) → p < from → Runs scan s dollar (p + 1) c i → (exit : List ℕ) (r : Piece) → StateSays s c from i first entry exit r
           → PieceSays s p first entry exit r
-      part-rest c from i l t exit (Piece.Closed n q) w = record {
+      part_rest c from i l t exit (Piece.Closed n q) w = record {
         u = w.u;
         runs = opened ∙ t ∙ w.runs;
         meant = record { counted = w.meant.counted; filled = w.meant.filled; room = omega (arith, w.meant.room); past = omega (arith, w.meant.past) };
         within = w.within;
       }
-      part-rest c from i l t exit (Piece.NotGrammar q) w = opened ∙ t ∙ w
+      part_rest c from i l t exit (Piece.NotGrammar q) w = opened ∙ t ∙ w
 
       module _ (g : p + 1 < length s) where
-        pub part-double : get_or s (p + 1) 0 ≡ ch "\"" → Runs scan s dollar (p + 1) (text (ch "\"") []) (p + 1 + 1)
+        pub part_double : get_or s (p + 1) 0 ≡ ch "\"" → Runs scan s dollar (p + 1) (text (ch "\"") []) (p + 1 + 1)
         unfolding scan
-        part-double x = run_take scan s (p + 1) dollar (text (ch "\"") []) g (rw x)
+        part_double x = run_take scan s (p + 1) dollar (text (ch "\"") []) g (rw x)
 
-        pub part-single : get_or s (p + 1) 0 ≡ ch "'" → Runs scan s dollar (p + 1) (text (ch "'") []) (p + 1 + 1)
+        pub part_single : get_or s (p + 1) 0 ≡ ch "'" → Runs scan s dollar (p + 1) (text (ch "'") []) (p + 1 + 1)
         unfolding scan
-        part-single x = run_take scan s (p + 1) dollar (text (ch "'") []) g (rw x)
+        part_single x = run_take scan s (p + 1) dollar (text (ch "'") []) g (rw x)
 
         module _ (n : get_or s (p + 1) 0 ≡ ch "\"" → ⊥) (m : get_or s (p + 1) 0 ≡ ch "'" → ⊥) where
-          pub part-pairs : digitAt s (p + 1) < noDigit → Runs scan s dollar (p + 1) (low [] (digitAt s (p + 1))) (p + 1 + 1)
+          pub part_pairs : digit_at s (p + 1) < no_digit → Runs scan s dollar (p + 1) (low [] (digit_at s (p + 1))) (p + 1 + 1)
           unfolding scan
-          part-pairs d = digit-goes s (p + 1) dollar (low []) (stops []) (rw (ne_eqb _ _ n, ne_eqb _ _ m)) d
+          part_pairs d = digit_goes s (p + 1) dollar (low []) (stops []) (rw (ne_eqb _ _ n, ne_eqb _ _ m)) d
 
-          pub part-bare : noDigit ≤ digitAt s (p + 1) → PieceSays s p first entry entry (Piece.Closed 0 (p + 1))
+          pub part_bare : no_digit ≤ digit_at s (p + 1) → PieceSays s p first entry entry (Piece.Closed 0 (p + 1))
           unfolding scan
-          part-bare d = empty (run-stop scan s (p + 1) dollar [] g (rw (ne_eqb _ _ n, ne_eqb _ _ m) (digit_not s (p + 1) dollar (low []) (stops []) g d)))
+          part_bare d = empty (run_stop scan s (p + 1) dollar [] g (rw (ne_eqb _ _ n, ne_eqb _ _ m) (digit_not s (p + 1) dollar (low []) (stops []) g d)))

@@ -6,7 +6,7 @@ use native.Mathlib.Omega.{arith}
 use lib.ListN.{length, take, drop, get_or, length-drop}
 use lib.Seq.{take-suc, get_or-drop}
 use Rattle.machine.specs.Scan.{takes, ran}
-use Rattle.machine.specs.Names.{St, name, scan, onName, onStart, Class, class_of, letter, figure, neither}
+use Rattle.machine.specs.Names.{St, name, scan, on_name, on_start, Class, class_of, letter, figure, neither}
 use Rattle.items.specs.Between.Places.{Onward}
 use Rattle.items.specs.Between.Identifier.{NameEnds}
 use Rattle.items.proofs.PlacesLaws.{run_take, here, further}
@@ -28,23 +28,23 @@ pub naming : (text : List ℕ) (p : ℕ) → p ≤ length text → Naming text p
 naming text p h = record { goes = λ a. (let z : p - p ≡ 0 = omega arith in rw (z, append-nil)); onward = here text p h }
 
 module _ {text : List ℕ} {p q : ℕ} (v : Naming text p q) where
-  name-on : q < length text → ((a : List ℕ) → scan q (name a) (get_or text q 0) ≡ takes (name (a ++ (get_or text q 0 ∷ [])))) → Naming text p (q + 1)
-  name-on h e = record {
+  name_on : q < length text → ((a : List ℕ) → scan q (name a) (get_or text q 0) ≡ takes (name (a ++ (get_or text q 0 ∷ [])))) → Naming text p (q + 1)
+  name_on h e = record {
     goes = λ a. v.goes a ∙ run_take scan text q (name (a ++ take (q - p) (drop p text))) (name (a ++ take (q + 1 - p) (drop p text))) h
         (rw (take_more text p q v.onward.behind h, ← append_assoc) (e (a ++ take (q - p) (drop p text))));
     onward = further v.onward h;
   }
 
-  pub name-letter : q < length text → class_of (get_or text q 0) ≡ letter → Naming text p (q + 1)
-  unfolding scan onName
-  name-letter h e = name-on h (λ a. rw e)
+  pub name_letter : q < length text → class_of (get_or text q 0) ≡ letter → Naming text p (q + 1)
+  unfolding scan on_name
+  name_letter h e = name_on h (λ a. rw e)
 
-  pub name-figure : q < length text → class_of (get_or text q 0) ≡ figure → Naming text p (q + 1)
-  unfolding scan onName
-  name-figure h e = name-on h (λ a. rw e)
+  pub name_figure : q < length text → class_of (get_or text q 0) ≡ figure → Naming text p (q + 1)
+  unfolding scan on_name
+  name_figure h e = name_on h (λ a. rw e)
 
-  pub name-stops : class_of (get_or text q 0) ≡ neither → NameEnds text p q
-  name-stops e = record { goes = v.goes; onward = v.onward; stopped = λ h. e }
+  pub name_stops : class_of (get_or text q 0) ≡ neither → NameEnds text p q
+  name_stops e = record { goes = v.goes; onward = v.onward; stopped = λ h. e }
 
-  pub name-over : length text ≤ q → NameEnds text p q
-  name-over h = record { goes = v.goes; onward = v.onward; stopped = λ g. absurd (omega arith) }
+  pub name_over : length text ≤ q → NameEnds text p q
+  name_over h = record { goes = v.goes; onward = v.onward; stopped = λ g. absurd (omega arith) }

@@ -6,7 +6,7 @@ use native.Mathlib.Omega.{arith}
 use lib.ListN.{length, drop, length-drop}
 use Rattle.meaning.specs.declared.Refusal.{Refusal}
 use Rattle.meaning.specs.Meaning.{Meaning}
-use Rattle.machine.specs.Scan.{takes, stops, breaks, Ran, ended, broke, unended, goesOn, ran, over as textEnd}
+use Rattle.machine.specs.Scan.{takes, stops, breaks, Ran, ended, broke, unended, goes_on, ran, over as textEnd}
 use Rattle.machine.specs.Numeric as S
 use Rattle.machine.specs.Numeric.{St, Res, begin, scan}
 use Rattle.items.specs.Between.NumberOrTime.{Means, NumericSays, Tells, Reads}
@@ -15,55 +15,55 @@ use Rattle.items.specs.declared.Scanned.{Scanned}
 use Rattle.items.specs.declared.Scanned.TheVariants.{Item, Refused}
 
 -- an item ends within the text
-pub ran-within : (t : List ℕ) (p : ℕ) (st : St) (m : Meaning) (q : ℕ) → ran scan p st t ≡ ended m q → (p ≤ q) × (q ≤ p + length t)
+pub ran_within : (t : List ℕ) (p : ℕ) (st : St) (m : Meaning) (q : ℕ) → ran scan p st t ≡ ended m q → (p ≤ q) × (q ≤ p + length t)
 unfolding ran
-ran-within [] p st m q e = go (scan p st textEnd) e
+ran_within [] p st m q e = go (scan p st textEnd) e
   where
-    go : (o : Res) → goesOn scan p (λ s. unended) o ≡ ended m q → (p ≤ q) × (q ≤ p + 0)
+    go : (o : Res) → goes_on scan p (λ s. unended) o ≡ ended m q → (p ≤ q) × (q ≤ p + 0)
     go (takes s) f = let z : ◌≡◌ {A = ℕ} 0 1 = cc in absurd (omega arith)
     go (stops v) f = let z : p ≡ q = cc in (omega arith, omega arith)
     go (breaks r) f = let z : ◌≡◌ {A = ℕ} 0 1 = cc in absurd (omega arith)
-ran-within (b ∷ t) p st m q e = go (λ s f. ran-within t (suc p) s m q f) (scan p st b) e
+ran_within (b ∷ t) p st m q e = go (λ s f. ran_within t (suc p) s m q f) (scan p st b) e
   where
-    go : ((s : St) → ran scan (suc p) s t ≡ ended m q → (suc p ≤ q) × (q ≤ suc p + length t)) → (o : Res) → goesOn scan p (λ s. ran scan (suc p) s t) o
+    go : ((s : St) → ran scan (suc p) s t ≡ ended m q → (suc p ≤ q) × (q ≤ suc p + length t)) → (o : Res) → goes_on scan p (λ s. ran scan (suc p) s t) o
         ≡ ended m q → (p ≤ q) × (q ≤ p + suc (length t))
     go k (takes s) f = let r = k s f in (omega (arith, r.0), omega (arith, r.1))
     go k (stops v) f = let z : p ≡ q = cc in (omega arith, omega arith)
     go k (breaks r) f = let z : ◌≡◌ {A = ℕ} 0 1 = cc in absurd (omega arith)
 
 -- and has a byte
-begin-past : (t : List ℕ) (p : ℕ) (m : Meaning) (q : ℕ) → ran scan p begin t ≡ ended m q → p < q
+begin_past : (t : List ℕ) (p : ℕ) (m : Meaning) (q : ℕ) → ran scan p begin t ≡ ended m q → p < q
 unfolding ran
-begin-past [] p m q e = let z : ◌≡◌ {A = ℕ} 0 1 = cc in absurd (omega arith)
-begin-past (b ∷ t) p m q e = go (S.fst_of b) e
+begin_past [] p m q e = let z : ◌≡◌ {A = ℕ} 0 1 = cc in absurd (omega arith)
+begin_past (b ∷ t) p m q e = go (S.fst_of b) e
   where
     later : (s : St) → ran scan (suc p) s t ≡ ended m q → p < q
-    later s f = (ran-within t (suc p) s m q f).0
+    later s f = (ran_within t (suc p) s m q f).0
 
-    go : (c : S.Fst) → goesOn scan p (λ s. ran scan (suc p) s t) (S.onBegin p b c) ≡ ended m q → p < q
-    go S.digitF f = later _ f
-    go S.noughtF f = later _ f
-    go S.plusF f = later _ f
-    go S.minusF f = later _ f
-    go S.pointF f = later _ f
-    go S.nF f = later _ f
-    go S.iF f = later _ f
-    go S.otherF f = let z : ◌≡◌ {A = ℕ} 0 1 = cc in absurd (omega arith)
+    go : (c : S.Fst) → goes_on scan p (λ s. ran scan (suc p) s t) (S.on_begin p b c) ≡ ended m q → p < q
+    go S.digit_f f = later _ f
+    go S.nought_f f = later _ f
+    go S.plus_f f = later _ f
+    go S.minus_f f = later _ f
+    go S.point_f f = later _ f
+    go S.n_f f = later _ f
+    go S.i_f f = later _ f
+    go S.other_f f = let z : ◌≡◌ {A = ℕ} 0 1 = cc in absurd (omega arith)
 
-tells-refused : {x : Ran Meaning} {e : Refusal} → Tells x (Refused e) → x ≡ broke e
-tells-refused Tells.refused = refl
+tells_refused : {x : Ran Meaning} {e : Refusal} → Tells x (Refused e) → x ≡ broke e
+tells_refused Tells.refused = refl
 
-tells-item : {x : Ran Meaning} {i : ItemOf.Item} {at : ℕ} → Tells x (Item i at) → (m : Meaning) × Means i m × (x ≡ ended m at)
-tells-item (Tells.item {m = m} k) = (m, k, refl)
+tells_item : {x : Ran Meaning} {i : ItemOf.Item} {at : ℕ} → Tells x (Item i at) → (m : Meaning) × Means i m × (x ≡ ended m at)
+tells_item (Tells.item {m = m} k) = (m, k, refl)
 
-pub numeric-says : (s : List ℕ) (p : ℕ) → p < length s → (r : Scanned) → Reads s p begin r → NumericSays s p r
-numeric-says s p h (Item i q) k =
-    let e = tells-item k.tells in
+pub numeric_says : (s : List ℕ) (p : ℕ) → p < length s → (r : Scanned) → Reads s p begin r → NumericSays s p r
+numeric_says s p h (Item i q) k =
+    let e = tells_item k.tells in
     record {
       m = e.0;
       means = e.1;
       runs = e.2;
-      past = begin-past (drop p s) p e.0 q e.2;
-      within = omega (arith, (ran-within (drop p s) p begin e.0 q e.2).1, length-drop p s);
+      past = begin_past (drop p s) p e.0 q e.2;
+      within = omega (arith, (ran_within (drop p s) p begin e.0 q e.2).1, length-drop p s);
     }
-numeric-says s p h (Refused e) k = tells-refused k.tells
+numeric_says s p h (Refused e) k = tells_refused k.tells

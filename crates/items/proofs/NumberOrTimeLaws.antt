@@ -13,13 +13,13 @@ use borrow.Author.Tests.{ltb-true, ltb-false, leb-true, leb-false}
 use Rattle.meaning.specs.Letters.{ch}
 use Rattle.meaning.specs.Meaning.{Meaning}
 use Rattle.meaning.specs.declared.Refusal.{Refusal}
-use Rattle.machine.specs.Scan.{takes, stops, breaks, Ran, unended, goesOn, ran, over as textEnd}
+use Rattle.machine.specs.Scan.{takes, stops, breaks, Ran, unended, goes_on, ran, over as textEnd}
 use Rattle.machine.specs.Numeric.{St, Res, scan}
 use Rattle.machine.proofs.Runs.{NoDigit}
 use Rattle.items.specs.declared.Scanned.{Scanned}
 use Rattle.items.specs.declared.Scanned.TheVariants.{Refused}
 use Rattle.items.specs.Between.Places.{byte_at}
-use Rattle.items.proofs.PlacesLaws.{byte-in, byte-out}
+use Rattle.items.proofs.PlacesLaws.{byte_in, byte_out}
 use Rattle.items.specs.Between.NumberOrTime.{Tells, Reads, Closes, IsDigit, Edge}
 
 -- ---- the byte at a place
@@ -27,18 +27,18 @@ use Rattle.items.specs.Between.NumberOrTime.{Tells, Reads, Closes, IsDigit, Edge
 pub edge_none : {s : List ℕ} {i : ℕ} → Edge s i → NoDigit (byte_at s i)
 edge_none {s} {i} e = go (ltb i (length s)) refl
   where
-    in-text : i < length s → Edge s i → NoDigit (byte_at s i)
-    in-text h (Edge.ends l) = absurd (omega arith)
-    in-text h (Edge.under l) = rw (byte-in s i h) (NoDigit.under l)
-    in-text h (Edge.past l) = rw (byte-in s i h) (NoDigit.past l)
+    in_text : i < length s → Edge s i → NoDigit (byte_at s i)
+    in_text h (Edge.ends l) = absurd (omega arith)
+    in_text h (Edge.under l) = rw (byte_in s i h) (NoDigit.under l)
+    in_text h (Edge.past l) = rw (byte_in s i h) (NoDigit.past l)
 
     go : (x : Bool) → ltb i (length s) ≡ x → NoDigit (byte_at s i)
-    go true k = in-text (ltb-true i (length s) k) e
-    go false k = rw (byte-out s i (ltb-false i (length s) k)) (NoDigit.past {b = textEnd} (omega arith))
+    go true k = in_text (ltb-true i (length s) k) e
+    go false k = rw (byte_out s i (ltb-false i (length s) k)) (NoDigit.past {b = textEnd} (omega arith))
 
-pub no_digit : {b : ℕ} → NoDigit b → IsDigit b → ⊥
-no_digit (NoDigit.under h) i = omega arith
-no_digit (NoDigit.past h) i = omega arith
+pub no_digit_lem : {b : ℕ} → NoDigit b → IsDigit b → ⊥
+no_digit_lem (NoDigit.under h) i = omega arith
+no_digit_lem (NoDigit.past h) i = omega arith
 
 pub digit? : (b : ℕ) → IsDigit b ⊎ NoDigit b
 digit? b = go (ltb b (ch "0")) refl (leb b (ch "9")) refl
@@ -50,26 +50,26 @@ digit? b = go (ltb b (ch "0")) refl (leb b (ch "9")) refl
 
 -- ---- one byte
 
-ran-end : (s : List ℕ) (i : ℕ) (st : St) → length s ≤ i → ran scan i st (drop i s) ≡ goesOn scan i (λ t. unended) (scan i st textEnd)
+ran_end : (s : List ℕ) (i : ℕ) (st : St) → length s ≤ i → ran scan i st (drop i s) ≡ goes_on scan i (λ t. unended) (scan i st textEnd)
 unfolding ran
-ran-end s i st h = rw (drop_of_length-le s h)
+ran_end s i st h = rw (drop_of_length-le s h)
 
-ran-at : (s : List ℕ) (i : ℕ) (st : St) → i < length s → ran scan i st (drop i s)
-    ≡ goesOn scan i (λ t. ran scan (suc i) t (drop (suc i) s)) (scan i st (get_or s i 0))
+ran_at_lem : (s : List ℕ) (i : ℕ) (st : St) → i < length s → ran scan i st (drop i s)
+    ≡ goes_on scan i (λ t. ran scan (suc i) t (drop (suc i) s)) (scan i st (get_or s i 0))
 unfolding ran
-ran-at s i st h = rw (drop-cons s i 0)
+ran_at_lem s i st h = rw (drop-cons s i 0)
 
 -- what the byte at i, or the text's end, does
-goes_at : (s : List ℕ) (i : ℕ) (st : St) → (f : St → Ran Meaning) × (ran scan i st (drop i s) ≡ goesOn scan i f (scan i st (byte_at s i)))
+goes_at : (s : List ℕ) (i : ℕ) (st : St) → (f : St → Ran Meaning) × (ran scan i st (drop i s) ≡ goes_on scan i f (scan i st (byte_at s i)))
 goes_at s i st = go (ltb i (length s)) refl
   where
-    go : (x : Bool) → ltb i (length s) ≡ x → (f : St → Ran Meaning) × (ran scan i st (drop i s) ≡ goesOn scan i f (scan i st (byte_at s i)))
-    go true k = let h = ltb-true i (length s) k in ((λ t. ran scan (suc i) t (drop (suc i) s)), rw (byte-in s i h) (ran-at s i st h))
-    go false k = let h = ltb-false i (length s) k in ((λ t. unended), rw (byte-out s i h) (ran-end s i st h))
+    go : (x : Bool) → ltb i (length s) ≡ x → (f : St → Ran Meaning) × (ran scan i st (drop i s) ≡ goes_on scan i f (scan i st (byte_at s i)))
+    go true k = let h = ltb-true i (length s) k in ((λ t. ran scan (suc i) t (drop (suc i) s)), rw (byte_in s i h) (ran_at_lem s i st h))
+    go false k = let h = ltb-false i (length s) k in ((λ t. unended), rw (byte_out s i h) (ran_end s i st h))
 
 -- the byte is taken
 pub took : {s : List ℕ} {i : ℕ} {st : St} {r : Scanned} (t : St) → i < length s → scan i st (get_or s i 0) ≡ takes t → Reads s (i + 1) t r → Reads s i st r
-took {s} {i} {st} {r} t h e k = record { tells = rw (ran-at s i st h, e) (subst (λ (j : ℕ). Tells (ran scan j t (drop j s)) r) (add-one i) k.tells) }
+took {s} {i} {st} {r} t h e k = record { tells = rw (ran_at_lem s i st h, e) (subst (λ (j : ℕ). Tells (ran scan j t (drop j s)) r) (add-one i) k.tells) }
 
 -- no answer tells of an item that does not end
 never : {x : Ran Meaning} {r : Scanned} → Tells x r → x ≡ unended → ⊥
@@ -83,13 +83,13 @@ halts {s} {i} {st} {r} o e k = record { tells = rw ((goes_at s i st).1, e) (go o
     f : St → Ran Meaning
     f = (goes_at s i st).0
 
-    go : (o : Res) → Tells (goesOn scan i (λ t. unended) o) r → Tells (goesOn scan i f o) r
+    go : (o : Res) → Tells (goes_on scan i (λ t. unended) o) r → Tells (goes_on scan i f o) r
     go (takes t) x = absurd (never x refl)
     go (stops v) x = x
     go (breaks v) x = x
 
-pub breaks-at : {s : List ℕ} {i : ℕ} {st : St} {e : Refusal} → scan i st (byte_at s i) ≡ breaks e → Reads s i st (Refused e)
-breaks-at {e = e} h = halts (breaks e) h (record { tells = Tells.refused })
+pub breaks_at : {s : List ℕ} {i : ℕ} {st : St} {e : Refusal} → scan i st (byte_at s i) ≡ breaks e → Reads s i st (Refused e)
+breaks_at {e = e} h = halts (breaks e) h (record { tells = Tells.refused })
 
 -- two states that do the same with the byte, or at the end
 pub same : {s : List ℕ} {i : ℕ} {st : St} {r : Scanned} (t : St) → scan i st (byte_at s i) ≡ scan i t (byte_at s i) → Reads s i t r → Reads s i st r
@@ -98,12 +98,12 @@ same {s} {i} {st} {r} t e k = record { tells = go (ltb i (length s)) refl }
     go : (x : Bool) → ltb i (length s) ≡ x → Tells (ran scan i st (drop i s)) r
     go true x =
         let h = ltb-true i (length s) x in
-        let f : scan i st (get_or s i 0) ≡ scan i t (get_or s i 0) = rw (byte-in s i h) at e in
-        rw (ran-at s i st h, f, ← ran-at s i t h) k.tells
+        let f : scan i st (get_or s i 0) ≡ scan i t (get_or s i 0) = rw (byte_in s i h) at e in
+        rw (ran_at_lem s i st h, f, ← ran_at_lem s i t h) k.tells
     go false x =
         let h = ltb-false i (length s) x in
-        let f : scan i st textEnd ≡ scan i t textEnd = rw (byte-out s i h) at e in
-        rw (ran-end s i st h, f, ← ran-end s i t h) k.tells
+        let f : scan i st textEnd ≡ scan i t textEnd = rw (byte_out s i h) at e in
+        rw (ran_end s i st h, f, ← ran_end s i t h) k.tells
 
 pub closes_by : {i : ℕ} {r : Scanned} (o p : Res) → o ≡ p → Closes i p r → Closes i o r
 closes_by {i} {r} o p e k = rw e k

@@ -11,14 +11,14 @@ use lib.Dec.{eqb, ltb}
 use lib.ListN.{length, get_or}
 use borrow.Author.Tests.{eq-eqb, ne_eqb, eqb-true, eqb-false, ltb-true, ltb-false}
 use Rattle.meaning.specs.Letters.{ch}
-use Rattle.meaning.specs.Limits.{textLimit}
+use Rattle.meaning.specs.Limits.{text_limit}
 use Rattle.meaning.specs.declared.Refusal.TheVariants.{NotGrammar}
 use Rattle.grammar.specs.Numbers as G
 use Rattle.machine.specs.Scan.{takes, breaks}
 use Rattle.machine.specs.Numeric as S
-use Rattle.machine.specs.Numeric.{St, scan, dig, begin, int, both, field, hexMark, month, minute, alone, Len, d1, d2, d3, d4, num_of}
+use Rattle.machine.specs.Numeric.{St, scan, dig, begin, int, both, field, hex_mark, month, minute, alone, Len, d1, d2, d3, d4, num_of}
 use Rattle.machine.proofs.Runs.{NoDigit}
-use Rattle.machine.proofs.Numeric.Rows.{NumIs, num-class, num-digit, fst-digit}
+use Rattle.machine.proofs.Numeric.Rows.{NumIs, num_class, num_digit, fst_digit}
 use Rattle.items.specs.Between.Places.{byte_at}
 use Rattle.items.specs.Between.NumberOrTime.{Reads, IsDigit, Edge, Holds, Span, PlainSays, TimelySays, Ready, Onto, len_of, First, FewSays, LeadSays}
 use Rattle.items.specs.Between.NumberOrTime.{Marks, Plainly}
@@ -31,9 +31,9 @@ use Rattle.items.specs.declared.number_or_time.Mark as MarkOf
 use Rattle.items.specs.declared.number_or_time.Mark.TheVariants as Mark
 use Rattle.items.specs.declared.Scanned.{Scanned}
 use Rattle.items.specs.declared.Scanned.TheVariants.{Refused}
-use Rattle.items.proofs.PlacesLaws.{byte-in, byte-out}
-use Rattle.items.proofs.NumberOrTimeLaws.{edge_none, no_digit, took, breaks-at, same}
-use Rattle.items.proofs.NumberDecimalLaws.{span-low}
+use Rattle.items.proofs.PlacesLaws.{byte_in, byte_out}
+use Rattle.items.proofs.NumberOrTimeLaws.{edge_none, no_digit_lem, took, breaks_at, same}
+use Rattle.items.proofs.NumberDecimalLaws.{span_low}
 use Rattle.items.proofs.NumberPlainLaws.{span_small}
 
 -- ---- the first digits
@@ -49,16 +49,16 @@ pub record Among (s : List ℕ) (q : ℕ) (x : Acc) (v n i : ℕ) : Type 0 where
   pub first : First s q n v i
   pub holds : Holds v x
 
-begin-digit : (q b : ℕ) → IsDigit b → scan q begin b ≡ takes (both q d1 (eqb b (ch "0")) (b - ch "0"))
-begin-digit q b i = go (eqb b (ch "0")) refl
+begin_digit : (q b : ℕ) → IsDigit b → scan q begin b ≡ takes (both q d1 (eqb b (ch "0")) (b - ch "0"))
+begin_digit q b i = go (eqb b (ch "0")) refl
   where
     go : (z : Bool) → eqb b (ch "0") ≡ z → scan q begin b ≡ takes (both q d1 z (b - ch "0"))
     go true e = let f : b ≡ ch "0" = eqb-true b (ch "0") e in rw f
-    go false e = let f = eqb-false b (ch "0") e in rw (fst-digit b (omega arith)) (ap (λ (x : ℕ). takes (both q d1 false x)) (zero-add (b - ch "0")))
+    go false e = let f = eqb-false b (ch "0") e in rw (fst_digit b (omega arith)) (ap (λ (x : ℕ). takes (both q d1 false x)) (zero-add (b - ch "0")))
 
-pub among-start : (s : List ℕ) (q : ℕ) (a x : Acc) → q < length s → IsDigit (get_or s q 0) → a.z ≡ 0 → x.z ≤ a.z + 1 → Holds 0 a
+pub among_start : (s : List ℕ) (q : ℕ) (a x : Acc) → q < length s → IsDigit (get_or s q 0) → a.z ≡ 0 → x.z ≤ a.z + 1 → Holds 0 a
     → ((m : ℕ) → Holds m a → Holds (dig m (get_or s q 0)) x) → Among s q x (get_or s q 0 - ch "0") 1 (q + 1)
-among-start s q a x h i zero-z z o f = record {
+among_start s q a x h i zero-z z o f = record {
   some = omega arith;
   most = omega arith;
   place = refl;
@@ -66,21 +66,21 @@ among-start s q a x h i zero-z z o f = record {
   low = omega arith;
   none = λ e k. omega arith;
   zeros = omega arith;
-  first = λ r k. took (both q d1 (eqb (get_or s q 0) (ch "0")) (get_or s q 0 - ch "0")) h (begin-digit q (get_or s q 0) i) k;
+  first = λ r k. took (both q d1 (eqb (get_or s q 0) (ch "0")) (get_or s q 0 - ch "0")) h (begin_digit q (get_or s q 0) i) k;
   holds = subst (λ (y : ℕ). Holds y x) (zero-add (get_or s q 0 - ch "0")) (f 0 o);
 }
 
 room : (n v : ℕ) → n < 4 → v < 10 ^ n → v < 1000
 room n v h l = omega (arith, pow-le-pow_right {n = 10} (omega arith) {i = n} {j = 3} (omega arith))
 
-pub among-room : {s : List ℕ} {q : ℕ} {x : Acc} {v n i : ℕ} → Among s q x v n i → n < 4 → v < 1000
-among-room {v = v} {n = n} a h = room n v h a.low
+pub among_room : {s : List ℕ} {q : ℕ} {x : Acc} {v n i : ℕ} → Among s q x v n i → n < 4 → v < 1000
+among_room {v = v} {n = n} a h = room n v h a.low
 
 step : (n : ℕ) → 1 ≤ n → n < 4 → (p q : ℕ) (z : Bool) (v b : ℕ) → IsDigit b → scan p (both q (len_of n) z v) b ≡ takes (both q (len_of (suc n)) z (dig v b))
 step zero k h p q z v b i = absurd (omega arith)
-step (suc zero) k h p q z v b i = rw (num-digit b i)
-step (suc (suc zero)) k h p q z v b i = rw (num-digit b i)
-step (suc (suc (suc zero))) k h p q z v b i = rw (num-digit b i)
+step (suc zero) k h p q z v b i = rw (num_digit b i)
+step (suc (suc zero)) k h p q z v b i = rw (num_digit b i)
+step (suc (suc (suc zero))) k h p q z v b i = rw (num_digit b i)
 step (suc (suc (suc (suc n)))) k h p q z v b i = absurd (omega arith)
 
 pub among_next : (s : List ℕ) (q : ℕ) (x y : Acc) (v n i : ℕ) → Among s q x v n i → n < 4 → i < length s → ch "0" ≤ get_or s i 0 → get_or s i 0 ≤ ch "9"
@@ -100,8 +100,8 @@ among_next s q x y v n i a h k l u z f = record {
   holds = f v a.holds;
 }
 
-pub among-says : (s : List ℕ) (q : ℕ) (x : Acc) (v n i : ℕ) → Among s q x v n i → (n ≡ 4) ⊎ Edge s i → FewSays s q (record { n = n; v = v; acc = x; at = i })
-among-says s q x v n i a e = record {
+pub among_says : (s : List ℕ) (q : ℕ) (x : Acc) (v n i : ℕ) → Among s q x v n i → (n ≡ 4) ⊎ Edge s i → FewSays s q (record { n = n; v = v; acc = x; at = i })
+among_says s q x v n i a e = record {
   some = a.some;
   most = a.most;
   place = a.place;
@@ -122,59 +122,59 @@ record Apart (k : Len) (b : ℕ) : Type 0 where
   colon : k ≡ d2 → b ≡ ch ":" → ⊥
   dash : k ≡ d4 → b ≡ ch "-" → ⊥
 
-d1-4 : d1 ≡ d4 → ⊥
-d1-4 e = let z : ◌≡◌ {A = ℕ} 0 1 = cc in omega arith
+d1_4 : d1 ≡ d4 → ⊥
+d1_4 e = let z : ◌≡◌ {A = ℕ} 0 1 = cc in omega arith
 
-d2-4 : d2 ≡ d4 → ⊥
-d2-4 e = let z : ◌≡◌ {A = ℕ} 0 1 = cc in omega arith
+d2_4 : d2 ≡ d4 → ⊥
+d2_4 e = let z : ◌≡◌ {A = ℕ} 0 1 = cc in omega arith
 
-d3-4 : d3 ≡ d4 → ⊥
-d3-4 e = let z : ◌≡◌ {A = ℕ} 0 1 = cc in omega arith
+d3_4 : d3 ≡ d4 → ⊥
+d3_4 e = let z : ◌≡◌ {A = ℕ} 0 1 = cc in omega arith
 
-as-number : (k : Len) (z : Bool) (p q v : ℕ) {b : ℕ} {c : S.Num} → NumIs b c → Apart k b → S.onBoth p q k z v b c ≡ S.as_number p q k z v b c
-as-number d1 z p q v (NumIs.digit i) a = absurd (no_digit (a.digit d1-4) i)
-as-number d2 z p q v (NumIs.digit i) a = absurd (no_digit (a.digit d2-4) i)
-as-number d3 z p q v (NumIs.digit i) a = absurd (no_digit (a.digit d3-4) i)
-as-number d4 z p q v (NumIs.digit i) a = refl
-as-number k z p q v NumIs.point a = refl
-as-number k z p q v (NumIs.eIs e) a = refl
-as-number k z p q v (NumIs.xIs e) a = refl
-as-number d1 z p q v NumIs.colon a = refl
-as-number d2 z p q v NumIs.colon a = absurd (a.colon refl refl)
-as-number d3 z p q v NumIs.colon a = refl
-as-number d4 z p q v NumIs.colon a = refl
-as-number d1 z p q v NumIs.minus a = refl
-as-number d2 z p q v NumIs.minus a = refl
-as-number d3 z p q v NumIs.minus a = refl
-as-number d4 z p q v NumIs.minus a = absurd (a.dash refl refl)
-as-number k z p q v NumIs.other a = refl
+as_number_lem : (k : Len) (z : Bool) (p q v : ℕ) {b : ℕ} {c : S.Num} → NumIs b c → Apart k b → S.on_both p q k z v b c ≡ S.as_number p q k z v b c
+as_number_lem d1 z p q v (NumIs.digit i) a = absurd (no_digit_lem (a.digit d1_4) i)
+as_number_lem d2 z p q v (NumIs.digit i) a = absurd (no_digit_lem (a.digit d2_4) i)
+as_number_lem d3 z p q v (NumIs.digit i) a = absurd (no_digit_lem (a.digit d3_4) i)
+as_number_lem d4 z p q v (NumIs.digit i) a = refl
+as_number_lem k z p q v NumIs.point a = refl
+as_number_lem k z p q v (NumIs.e_is e) a = refl
+as_number_lem k z p q v (NumIs.x_is e) a = refl
+as_number_lem d1 z p q v NumIs.colon a = refl
+as_number_lem d2 z p q v NumIs.colon a = absurd (a.colon refl refl)
+as_number_lem d3 z p q v NumIs.colon a = refl
+as_number_lem d4 z p q v NumIs.colon a = refl
+as_number_lem d1 z p q v NumIs.minus a = refl
+as_number_lem d2 z p q v NumIs.minus a = refl
+as_number_lem d3 z p q v NumIs.minus a = refl
+as_number_lem d4 z p q v NumIs.minus a = absurd (a.dash refl refl)
+as_number_lem k z p q v NumIs.other a = refl
 
-as-nought : (q : ℕ) {b : ℕ} {c : S.Num} → NumIs b c → NoDigit b → (b ≡ ch "x" → ⊥) → (b ≡ ch "X" → ⊥) → S.onNought q false c ≡ S.onInt q false 0 b c
-as-nought q (NumIs.digit i) n x y = absurd (no_digit n i)
-as-nought q NumIs.point n x y = refl
-as-nought q (NumIs.eIs e) n x y = refl
-as-nought q (NumIs.xIs G.X.small) n x y = absurd (x refl)
-as-nought q (NumIs.xIs G.X.capital) n x y = absurd (y refl)
-as-nought q NumIs.colon n x y = refl
-as-nought q NumIs.minus n x y = refl
-as-nought q NumIs.other n x y = refl
+as_nought : (q : ℕ) {b : ℕ} {c : S.Num} → NumIs b c → NoDigit b → (b ≡ ch "x" → ⊥) → (b ≡ ch "X" → ⊥) → S.on_nought q false c ≡ S.on_int q false 0 b c
+as_nought q (NumIs.digit i) n x y = absurd (no_digit_lem n i)
+as_nought q NumIs.point n x y = refl
+as_nought q (NumIs.e_is e) n x y = refl
+as_nought q (NumIs.x_is G.X.small) n x y = absurd (x refl)
+as_nought q (NumIs.x_is G.X.capital) n x y = absurd (y refl)
+as_nought q NumIs.colon n x y = refl
+as_nought q NumIs.minus n x y = refl
+as_nought q NumIs.other n x y = refl
 
-ended-run : (n b : ℕ) → n < 4 → (n ≡ 4) ⊎ NoDigit b → NoDigit b
-ended-run n b h (inl i) = absurd (omega arith)
-ended-run n b h (inr i) = i
+ended_run : (n b : ℕ) → n < 4 → (n ≡ 4) ⊎ NoDigit b → NoDigit b
+ended_run n b h (inl i) = absurd (omega arith)
+ended_run n b h (inr i) = i
 
 apart : (n b : ℕ) → 1 ≤ n → n ≤ 4 → (n ≡ 4) ⊎ NoDigit b → (n ≡ 2 → b ≡ ch ":" → ⊥) → (n ≡ 4 → b ≡ ch "-" → ⊥) → Apart (len_of n) b
 apart zero b l u e x y = absurd (omega arith)
 apart (suc zero) b l u e x y = record {
-  digit = λ k. ended-run 1 b (omega arith) e;
+  digit = λ k. ended_run 1 b (omega arith) e;
   colon = λ k. let z : ◌≡◌ {A = ℕ} 0 1 = cc in absurd (omega arith);
-  dash = λ k. absurd (d1-4 k);
+  dash = λ k. absurd (d1_4 k);
 }
-apart (suc (suc zero)) b l u e x y = record { digit = λ k. ended-run 2 b (omega arith) e; colon = λ k. x refl; dash = λ k. absurd (d2-4 k) }
+apart (suc (suc zero)) b l u e x y = record { digit = λ k. ended_run 2 b (omega arith) e; colon = λ k. x refl; dash = λ k. absurd (d2_4 k) }
 apart (suc (suc (suc zero))) b l u e x y = record {
-  digit = λ k. ended-run 3 b (omega arith) e;
+  digit = λ k. ended_run 3 b (omega arith) e;
   colon = λ k. let z : ◌≡◌ {A = ℕ} 0 1 = cc in absurd (omega arith);
-  dash = λ k. absurd (d3-4 k);
+  dash = λ k. absurd (d3_4 k);
 }
 apart (suc (suc (suc (suc n)))) b l u e x y = record {
   digit = λ k. absurd (k refl);
@@ -182,19 +182,19 @@ apart (suc (suc (suc (suc n)))) b l u e x y = record {
   dash = λ k. y (omega arith);
 }
 
-not-number : (n : ℕ) → 1 < n → (p q v b : ℕ) (c : S.Num) → S.as_number p q (len_of n) true v b c ≡ breaks (NotGrammar p)
-not-number zero h p q v b c = absurd (omega arith)
-not-number (suc zero) h p q v b c = absurd (omega arith)
-not-number (suc (suc zero)) h p q v b c = refl
-not-number (suc (suc (suc zero))) h p q v b c = refl
-not-number (suc (suc (suc (suc n)))) h p q v b c = refl
+not_number : (n : ℕ) → 1 < n → (p q v b : ℕ) (c : S.Num) → S.as_number p q (len_of n) true v b c ≡ breaks (NotGrammar p)
+not_number zero h p q v b c = absurd (omega arith)
+not_number (suc zero) h p q v b c = absurd (omega arith)
+not_number (suc (suc zero)) h p q v b c = refl
+not_number (suc (suc (suc zero))) h p q v b c = refl
+not_number (suc (suc (suc (suc n)))) h p q v b c = refl
 
 -- what is known of the byte after the digits, or of the text's end
 pub record Follows (s : List ℕ) (q n i : ℕ) : Type 0 where
   pub colon : n ≡ 2 → byte_at s i ≡ ch ":" → ⊥
   pub dash : n ≡ 4 → byte_at s i ≡ ch "-" → ⊥
-  pub small-x : n ≡ 1 → get_or s q 0 ≡ ch "0" → byte_at s i ≡ ch "x" → ⊥
-  pub large-x : n ≡ 1 → get_or s q 0 ≡ ch "0" → byte_at s i ≡ ch "X" → ⊥
+  pub small_x : n ≡ 1 → get_or s q 0 ≡ ch "0" → byte_at s i ≡ ch "x" → ⊥
+  pub large_x : n ≡ 1 → get_or s q 0 ≡ ch "0" → byte_at s i ≡ ch "X" → ⊥
 
 module _ (s : List ℕ) (q : ℕ) (w : Few) (f : FewSays s q w) (o : Follows s q w.n w.at) where
   edged : (w.n ≡ 4) ⊎ NoDigit (byte_at s w.at)
@@ -208,7 +208,7 @@ module _ (s : List ℕ) (q : ℕ) (w : Few) (f : FewSays s q w) (o : Follows s q
   off = apart w.n (byte_at s w.at) f.some f.most edged o.colon o.dash
 
   whole : eqb (get_or s q 0) (ch "0") ≡ false → Onto s q begin w.at (int q false w.v)
-  whole e = λ r k. f.first r (rw e (same (int q false w.v) (as-number (len_of w.n) false w.at q w.v (num-class (byte_at s w.at)) off ∙ plain
+  whole e = λ r k. f.first r (rw e (same (int q false w.v) (as_number_lem (len_of w.n) false w.at q w.v (num_class (byte_at s w.at)) off ∙ plain
       (len_of w.n)) k))
     where
       plain : (k : Len) → S.as_number w.at q k false w.v (byte_at s w.at) (num_of (byte_at s w.at))
@@ -223,17 +223,17 @@ module _ (s : List ℕ) (q : ℕ) (w : Few) (f : FewSays s q w) (o : Follows s q
       let v : w.v ≡ 0 = f.none e d in
       let j : Apart d1 (byte_at s w.at) = subst (λ (n : ℕ). Apart (len_of n) (byte_at s w.at)) e off in
       f.first r (rw (eq-eqb (get_or s q 0) (ch "0") d, e)
-      (same (int q false w.v) (as-number d1 true w.at q w.v (num-class (byte_at s w.at)) j
-      ∙ as-nought q (num-class (byte_at s w.at)) (j.digit d1-4) (o.small-x e d) (o.large-x e d)
-      ∙ ap (λ (x : ℕ). S.onInt q false x (byte_at s w.at) (num_of (byte_at s w.at))) (sym v)) k))
+      (same (int q false w.v) (as_number_lem d1 true w.at q w.v (num_class (byte_at s w.at)) j
+      ∙ as_nought q (num_class (byte_at s w.at)) (j.digit d1_4) (o.small_x e d) (o.large_x e d)
+      ∙ ap (λ (x : ℕ). S.on_int q false x (byte_at s w.at) (num_of (byte_at s w.at))) (sym v)) k))
 
   nothing : get_or s q 0 ≡ ch "0" → 1 < w.n → Reads s q begin (Refused (NotGrammar w.at))
   nothing d h =
       f.first _ (rw (eq-eqb (get_or s q 0) (ch "0") d)
-      (breaks-at (as-number (len_of w.n) true w.at q w.v (num-class (byte_at s w.at)) off
-      ∙ not-number w.n h w.at q w.v (byte_at s w.at) (num_of (byte_at s w.at)))))
+      (breaks_at (as_number_lem (len_of w.n) true w.at q w.v (num_class (byte_at s w.at)) off
+      ∙ not_number w.n h w.at q w.v (byte_at s w.at) (num_of (byte_at s w.at)))))
 
-  module _ (short : length s ≤ textLimit) where
+  module _ (short : length s ≤ text_limit) where
     ready : Ready s w.acc 0 w.at
     ready = record { within = f.within; short = short; zeros = f.zeros; places = omega arith }
 
@@ -248,25 +248,25 @@ module _ (s : List ℕ) (q : ℕ) (w : Few) (f : FewSays s q w) (o : Follows s q
     lead_plain r (Plainly.number k) = (ready, (w.v, f.holds, number k))
     lead_plain r (Plainly.nothing d h) = nothing d h
 
-pub at-end : (s : List ℕ) (q n i : ℕ) → length s ≤ i → Follows s q n i
-at-end s q n i h =
-    let e = byte-out s i h in
-    record { colon = λ a b. omega arith; dash = λ a b. omega arith; small-x = λ a b d. omega arith; large-x = λ a b d. omega arith }
+pub at_end : (s : List ℕ) (q n i : ℕ) → length s ≤ i → Follows s q n i
+at_end s q n i h =
+    let e = byte_out s i h in
+    record { colon = λ a b. omega arith; dash = λ a b. omega arith; small_x = λ a b d. omega arith; large_x = λ a b d. omega arith }
 
 pub at_other : (s : List ℕ) (q n i : ℕ) → i < length s → (r : MarkOf.Mark) → Marks n (get_or s q 0) (get_or s i 0) r → r ≡ Mark.Other → Follows s q n i
 at_other s q n i h r (Marks.colon a b) e = let z : ◌≡◌ {A = ℕ} 0 1 = cc in absurd (omega arith)
 at_other s q n i h r (Marks.dash a b) e = let z : ◌≡◌ {A = ℕ} 0 1 = cc in absurd (omega arith)
 at_other s q n i h r (Marks.letter a b c) e = let z : ◌≡◌ {A = ℕ} 0 1 = cc in absurd (omega arith)
 at_other s q n i h r (Marks.other a b c d) e =
-    let p = byte-in s i h in
-    record { colon = λ x y. a x (sym p ∙ y); dash = λ x y. b x (sym p ∙ y); small-x = λ x y z. c x y (sym p ∙ z); large-x = λ x y z. d x y (sym p ∙ z) }
+    let p = byte_in s i h in
+    record { colon = λ x y. a x (sym p ∙ y); dash = λ x y. b x (sym p ∙ y); small_x = λ x y z. c x y (sym p ∙ z); large_x = λ x y z. d x y (sym p ∙ z) }
 
 module _ (s : List ℕ) (q : ℕ) (w : Few) (f : FewSays s q w) (h : w.at < length s) (r : MarkOf.Mark) (m : Marks w.n (get_or s q 0) (get_or s w.at 0) r) where
   from : (n : ℕ) → w.n ≡ n → Onto s q begin w.at (both q (len_of n) (eqb (get_or s q 0) (ch "0")) w.v)
   from n e = λ r k. f.first r (rw e k)
 
-  pub colon-small : r ≡ Mark.Colon → w.v < 100
-  colon-small e = go m e
+  pub colon_small : r ≡ Mark.Colon → w.v < 100
+  colon_small e = go m e
     where
       go : {r : MarkOf.Mark} → Marks w.n (get_or s q 0) (get_or s w.at 0) r → r ≡ Mark.Colon → w.v < 100
       go (Marks.colon a b) e = let l : w.v < 10 ^ 2 = rw a at f.small in omega arith
@@ -274,8 +274,8 @@ module _ (s : List ℕ) (q : ℕ) (w : Few) (f : FewSays s q w) (h : w.at < leng
       go (Marks.letter a b c) e = let z : ◌≡◌ {A = ℕ} 0 1 = cc in absurd (omega arith)
       go (Marks.other a b c d) e = let z : ◌≡◌ {A = ℕ} 0 1 = cc in absurd (omega arith)
 
-  pub lead-colon : r ≡ Mark.Colon → LeadSays s q (Lead.Hour w.v (w.at + 1))
-  lead-colon e = (omega arith, colon-small e, go m e)
+  pub lead_colon : r ≡ Mark.Colon → LeadSays s q (Lead.Hour w.v (w.at + 1))
+  lead_colon e = (omega arith, colon_small e, go m e)
     where
       go : {r : MarkOf.Mark} → Marks w.n (get_or s q 0) (get_or s w.at 0) r → r ≡ Mark.Colon → Onto s q begin (w.at + 1) (field q (minute alone w.v) 2 0)
       go (Marks.colon a b) e = λ r k. from 2 a r (took (field q (minute alone w.v) 2 0) h (rw b) k)
@@ -283,8 +283,8 @@ module _ (s : List ℕ) (q : ℕ) (w : Few) (f : FewSays s q w) (h : w.at < leng
       go (Marks.letter a b c) e = let z : ◌≡◌ {A = ℕ} 0 1 = cc in absurd (omega arith)
       go (Marks.other a b c d) e = let z : ◌≡◌ {A = ℕ} 0 1 = cc in absurd (omega arith)
 
-  pub lead-dash : r ≡ Mark.Dash → LeadSays s q (Lead.Year w.v (w.at + 1))
-  lead-dash e = let g = go m e in (omega arith, g.0, g.1)
+  pub lead_dash : r ≡ Mark.Dash → LeadSays s q (Lead.Year w.v (w.at + 1))
+  lead_dash e = let g = go m e in (omega arith, g.0, g.1)
     where
       go : {r : MarkOf.Mark} → Marks w.n (get_or s q 0) (get_or s w.at 0) r → r ≡ Mark.Dash → (w.v < 10000) × Onto s q begin
           (w.at + 1) (field q (month w.v) 2 0)
@@ -293,17 +293,17 @@ module _ (s : List ℕ) (q : ℕ) (w : Few) (f : FewSays s q w) (h : w.at < leng
       go (Marks.letter a b c) e = let z : ◌≡◌ {A = ℕ} 0 1 = cc in absurd (omega arith)
       go (Marks.other a b c d) e = let z : ◌≡◌ {A = ℕ} 0 1 = cc in absurd (omega arith)
 
-  x-took : (b : ℕ) → (b ≡ ch "x") ⊎ (b ≡ ch "X") → scan w.at (both q d1 true w.v) b ≡ takes (hexMark q false)
-  x-took b (inl e) = rw e
-  x-took b (inr e) = rw e
+  x_took : (b : ℕ) → (b ≡ ch "x") ⊎ (b ≡ ch "X") → scan w.at (both q d1 true w.v) b ≡ takes (hex_mark q false)
+  x_took b (inl e) = rw e
+  x_took b (inr e) = rw e
 
-  pub lead-x : r ≡ Mark.X → LeadSays s q (Lead.Hex (w.at + 1))
-  lead-x e = (omega arith, go m e)
+  pub lead_x : r ≡ Mark.X → LeadSays s q (Lead.Hex (w.at + 1))
+  lead_x e = (omega arith, go m e)
     where
-      go : {r : MarkOf.Mark} → Marks w.n (get_or s q 0) (get_or s w.at 0) r → r ≡ Mark.X → Onto s q begin (w.at + 1) (hexMark q false)
+      go : {r : MarkOf.Mark} → Marks w.n (get_or s q 0) (get_or s w.at 0) r → r ≡ Mark.X → Onto s q begin (w.at + 1) (hex_mark q false)
       go (Marks.colon a b) e = let z : ◌≡◌ {A = ℕ} 0 1 = cc in absurd (omega arith)
       go (Marks.dash a b) e = let z : ◌≡◌ {A = ℕ} 0 1 = cc in absurd (omega arith)
-      go (Marks.letter a b c) e = λ r k. from 1 a r (rw (eq-eqb (get_or s q 0) (ch "0") b) (took (hexMark q false) h (x-took (get_or s w.at 0) c) k))
+      go (Marks.letter a b c) e = λ r k. from 1 a r (rw (eq-eqb (get_or s q 0) (ch "0") b) (took (hex_mark q false) h (x_took (get_or s w.at 0) c) k))
       go (Marks.other a b c d) e = let z : ◌≡◌ {A = ℕ} 0 1 = cc in absurd (omega arith)
 
 -- a lead that is known
@@ -326,22 +326,22 @@ grows : (n p q w b : ℕ) → IsDigit b → (n ≡ 0 → (b ≡ ch "0" → ⊥) 
 grows zero p q w b i f =
     let g = f refl in
     let z : 10 * w + (b - ch "0") ≡ b - ch "0" = omega (arith, g.2) in
-    rw (g.1, z) (begin-digit q b i ∙ ap (λ (x : Bool). takes (both q d1 x (b - ch "0"))) (ne_eqb b (ch "0") g.0))
-grows (suc zero) p q w b i f = rw (num-digit b i)
-grows (suc (suc zero)) p q w b i f = rw (num-digit b i)
-grows (suc (suc (suc zero))) p q w b i f = rw (num-digit b i)
-grows (suc (suc (suc (suc zero)))) p q w b i f = rw (num-digit b i)
-grows (suc (suc (suc (suc (suc n))))) p q w b i f = rw (num-digit b i)
+    rw (g.1, z) (begin_digit q b i ∙ ap (λ (x : Bool). takes (both q d1 x (b - ch "0"))) (ne_eqb b (ch "0") g.0))
+grows (suc zero) p q w b i f = rw (num_digit b i)
+grows (suc (suc zero)) p q w b i f = rw (num_digit b i)
+grows (suc (suc (suc zero))) p q w b i f = rw (num_digit b i)
+grows (suc (suc (suc (suc zero)))) p q w b i f = rw (num_digit b i)
+grows (suc (suc (suc (suc (suc n))))) p q w b i f = rw (num_digit b i)
 
 span_none : {s : List ℕ} {i m j w : ℕ} → Span s i m j w → j ≡ i → w ≡ m
 span_none Span.here e = refl
-span_none (Span.next h l d) e = absurd (omega (arith, span-low h, e))
+span_none (Span.next h l d) e = absurd (omega (arith, span_low h, e))
 
 module _ (s : List ℕ) (q : ℕ) (n0 : get_or s q 0 ≡ ch "0" → ⊥) where
   reaches : {j w : ℕ} → Span s q 0 j w → (n : ℕ) → j ≡ q + n → Onto s q begin j (after n q w)
   reaches Span.here zero e = λ r k. k
   reaches Span.here (suc n) e = absurd (omega arith)
-  reaches (Span.next h l d) zero e = absurd (omega (arith, span-low h))
+  reaches (Span.next h l d) zero e = absurd (omega (arith, span_low h))
   reaches (Span.next {j = j} {w = w} h l d) (suc n) e = λ r k.
       let f : j ≡ q + n = omega arith in
       reaches h n f r (took (after (suc n) q (dig w (get_or s j 0))) l (grows n j q w (get_or s j 0) d
@@ -360,7 +360,7 @@ module _ (s : List ℕ) (q : ℕ) (n0 : get_or s q 0 ≡ ch "0" → ⊥) where
         go x true e = ltb-true q w.at e
         go (inl x) false e =
             let f : w.at ≡ q = omega (arith, ltb-false q w.at e, p.low) in
-            absurd (no_digit (edge_none (subst (Edge s) f x)) (rw (byte-in s q m) d))
+            absurd (no_digit_lem (edge_none (subst (Edge s) f x)) (rw (byte_in s q m) d))
         go (inr x) false e = let f : w.at ≡ q = omega (arith, ltb-false q w.at e, p.low) in absurd (omega (arith, none f))
 
     small : (n : ℕ) → w.at ≡ q + n → n ≤ 4 → w.v < 10 ^ 4
@@ -380,7 +380,7 @@ module _ (s : List ℕ) (q : ℕ) (n0 : get_or s q 0 ≡ ch "0" → ⊥) where
     turned : (n : ℕ) → w.at ≡ q + n → 1 ≤ n → n ≤ 4 → (r : Scanned) → Reads s w.at (int q false w.v) r
         → Reads s w.at (both q (len_of n) false w.v) r
     turned n e l h r k =
-        same (int q false w.v) (as-number (len_of n) false w.at q w.v (num-class (byte_at s w.at))
+        same (int q false w.v) (as_number_lem (len_of n) false w.at q w.v (num_class (byte_at s w.at))
         (apart n (byte_at s w.at) l h (inr (ended n e h)) (λ x y. t.0 y) (λ x y. t.1 y)) ∙ plain (len_of n)) k
       where
         plain : (k : Len) → S.as_number w.at q k false w.v (byte_at s w.at) (num_of (byte_at s w.at))
@@ -390,8 +390,8 @@ module _ (s : List ℕ) (q : ℕ) (n0 : get_or s q 0 ≡ ch "0" → ⊥) where
         plain d3 = refl
         plain d4 = refl
 
-    pub plain-leads : Onto s q begin w.at (int q false w.v)
-    plain-leads = λ r k. let e : w.at ≡ q + (w.at - q) = omega (arith, p.low) in
+    pub plain_leads : Onto s q begin w.at (int q false w.v)
+    plain_leads = λ r k. let e : w.at ≡ q + (w.at - q) = omega (arith, p.low) in
         reaches p.span (w.at - q) e r (go (w.at - q) e (omega (arith, some)) r k)
       where
         go : (n : ℕ) → w.at ≡ q + n → 1 ≤ n → (r : Scanned) → Reads s w.at (int q false w.v) r → Reads s w.at (after n q w.v) r
@@ -402,16 +402,16 @@ module _ (s : List ℕ) (q : ℕ) (n0 : get_or s q 0 ≡ ch "0" → ⊥) where
         go (suc (suc (suc (suc zero)))) e h r k = turned 4 e (omega arith) (omega arith) r k
         go (suc (suc (suc (suc (suc n))))) e h r k = k
 
-    pub plain-small : w.v < 10 ^ w.at
-    plain-small = omega (
+    pub plain_small : w.v < 10 ^ w.at
+    plain_small = omega (
       arith,
       span_small 0 p.span (omega arith),
       pow-le-pow_right {n = 10} (omega arith) {i = 0 + (w.at - q)} {j = w.at}
           (omega (arith, p.low)),
     )
 
-pub timely-over : (s : List ℕ) (at : ℕ) → length s ≤ at → TimelySays s at false
-timely-over s at h = let e = byte-out s at h in ((λ f. omega arith), (λ f. omega arith))
+pub timely_over : (s : List ℕ) (at : ℕ) → length s ≤ at → TimelySays s at false
+timely_over s at h = let e = byte_out s at h in ((λ f. omega arith), (λ f. omega arith))
 
-pub timely-none : (s : List ℕ) (at : ℕ) → at < length s → (get_or s at 0 ≡ ch ":" → ⊥) → (get_or s at 0 ≡ ch "-" → ⊥) → TimelySays s at false
-timely-none s at h x y = let e = byte-in s at h in ((λ f. x (sym e ∙ f)), (λ f. y (sym e ∙ f)))
+pub timely_none : (s : List ℕ) (at : ℕ) → at < length s → (get_or s at 0 ≡ ch ":" → ⊥) → (get_or s at 0 ≡ ch "-" → ⊥) → TimelySays s at false
+timely_none s at h x y = let e = byte_in s at h in ((λ f. x (sym e ∙ f)), (λ f. y (sym e ∙ f)))

@@ -14,22 +14,22 @@ use Rattle.meaning.specs.Letters.{ch}
 use Rattle.machine.specs.Scan.{takes}
 use Rattle.machine.specs.Numeric as S
 use Rattle.machine.specs.Numeric.{St, scan, dig, begin, both, int, frac, settle, d1, d2, d3, d4}
-use Rattle.machine.proofs.Numeric.Rows.{num-class, num-digit}
+use Rattle.machine.proofs.Numeric.Rows.{num_class, num_digit}
 use Rattle.items.specs.Between.Places.{byte_at}
 use Rattle.items.specs.Between.NumberOrTime.{Reads, IsDigit, Edge, Held, Holds, Span, Ended, PlainSays, Settles, Onto, len_of, From}
 use Rattle.items.specs.declared.number.Acc.{Acc}
 use Rattle.items.specs.declared.number.Plain.{Plain}
 use Rattle.items.specs.declared.Scanned.{Scanned}
-use Rattle.items.proofs.PlacesLaws.{byte-in, byte-out}
+use Rattle.items.proofs.PlacesLaws.{byte_in, byte_out}
 use Rattle.items.proofs.NumberOrTimeLaws.{edge_none, took, halts, same}
-use Rattle.items.proofs.NumberDigitLaws.{span-next}
-use Rattle.items.proofs.NumberDecimalLaws.{span-low, span-int, span-frac, frac-other, int-other}
+use Rattle.items.proofs.NumberDigitLaws.{span_next}
+use Rattle.items.proofs.NumberDecimalLaws.{span_low, span_int, span_frac, frac_other, int_other}
 
 -- ---- values
 
 -- a number with as many digits has no more zeros at its end
-pub zeros-few : (v c z k : ℕ) → 0 < c → v ≡ c * 10 ^ z → v < 10 ^ k → z ≤ k
-zeros-few v c z k h e l = go (leb z k) refl
+pub zeros_few : (v c z k : ℕ) → 0 < c → v ≡ c * 10 ^ z → v < 10 ^ k → z ≤ k
+zeros_few v c z k h e l = go (leb z k) refl
   where
     go : (x : Bool) → leb z k ≡ x → z ≤ k
     go true f = leb-true z k f
@@ -43,7 +43,7 @@ zeros-few v c z k h e l = go (leb z k) refl
 pub span_small : {s : List ℕ} {i m j w : ℕ} (n : ℕ) → Span s i m j w → m < 10 ^ n → w < 10 ^ (n + (j - i))
 span_small {i = i} n Span.here h = let e : n + (i - i) ≡ n = omega arith in rw e h
 span_small {i = i} n (Span.next {j = j} {w = w} x k d) h =
-    let o : i ≤ j = span-low x in
+    let o : i ≤ j = span_low x in
     let e : n + (suc j - i) ≡ suc (n + (j - i)) = omega arith in
     let l = span_small n x h in
     let p : 10 ^ suc (n + (j - i)) ≡ 10 ^ (n + (j - i)) * 10 = pow-suc 10 (n + (j - i)) in
@@ -51,42 +51,42 @@ span_small {i = i} n (Span.next {j = j} {w = w} x k d) h =
 
 -- ---- where a number ends
 
-pub ended-over : (s : List ℕ) (at : ℕ) → length s ≤ at → Ended s at
-ended-over s at h = let e = byte-out s at h in record { edge = Edge.ends h; point = λ f. omega arith; small-e = λ f. omega arith; large-e = λ f. omega arith }
+pub ended_over : (s : List ℕ) (at : ℕ) → length s ≤ at → Ended s at
+ended_over s at h = let e = byte_out s at h in record { edge = Edge.ends h; point = λ f. omega arith; small_e = λ f. omega arith; large_e = λ f. omega arith }
 
 module _ (s : List ℕ) (at : ℕ) (h : at < length s) where
-  pub ended-under : get_or s at 0 < ch "0" → (get_or s at 0 ≡ ch "." → ⊥) → Ended s at
-  ended-under l p = let e = byte-in s at h in record { edge = Edge.under l; point = λ f. p (sym e ∙ f); small-e = λ f. omega arith; large-e = λ f. omega arith }
+  pub ended_under : get_or s at 0 < ch "0" → (get_or s at 0 ≡ ch "." → ⊥) → Ended s at
+  ended_under l p = let e = byte_in s at h in record { edge = Edge.under l; point = λ f. p (sym e ∙ f); small_e = λ f. omega arith; large_e = λ f. omega arith }
 
-  pub ended-past : ch "9" < get_or s at 0 → (get_or s at 0 ≡ ch "e" → ⊥) → (get_or s at 0 ≡ ch "E" → ⊥) → Ended s at
-  ended-past l x y = let e = byte-in s at h in record {
+  pub ended_past : ch "9" < get_or s at 0 → (get_or s at 0 ≡ ch "e" → ⊥) → (get_or s at 0 ≡ ch "E" → ⊥) → Ended s at
+  ended_past l x y = let e = byte_in s at h in record {
     edge = Edge.past l;
     point = λ f. omega arith;
-    small-e = λ f. x (sym e ∙ f);
-    large-e = λ f. y (sym e ∙ f);
+    small_e = λ f. x (sym e ∙ f);
+    large_e = λ f. y (sym e ∙ f);
   }
 
 -- without the point it ends as one with no fraction digits
 module _ (s : List ℕ) (q : ℕ) (g : Bool) (a : Acc) (v : ℕ) (o : Holds v a) (r : Scanned) where
-  pub frac-ends : (at f : ℕ) → Ended s at → Settles q g a 0 f at r → Reads s at (frac q g v f) r
-  frac-ends at f e t = halts (settle q g v 0 f) (frac-other q g v f (num-class (byte_at s at)) (edge_none e.edge) e.small-e e.large-e) (t.closes v o)
+  pub frac_ends : (at f : ℕ) → Ended s at → Settles q g a 0 f at r → Reads s at (frac q g v f) r
+  frac_ends at f e t = halts (settle q g v 0 f) (frac_other q g v f (num_class (byte_at s at)) (edge_none e.edge) e.small_e e.large_e) (t.closes v o)
 
-  pub int-ends : (at : ℕ) → Ended s at → Settles q g a 0 0 at r → Reads s at (int q g v) r
-  int-ends at e t = same (frac q g v 0) (int-other q g v (num-class (byte_at s at)) (edge_none e.edge) e.point) (frac-ends at 0 e t)
+  pub int_ends : (at : ℕ) → Ended s at → Settles q g a 0 0 at r → Reads s at (int q g v) r
+  int_ends at e t = same (frac q g v 0) (int_other q g v (num_class (byte_at s at)) (edge_none e.edge) e.point) (frac_ends at 0 e t)
 
 -- a point, and the digits of a fraction
-pub point-ends : (s : List ℕ) (q : ℕ) (g : Bool) (a : Acc) (v at : ℕ) (w : Plain) (r : Scanned) → at < length s → get_or s at 0 ≡ ch "."
+pub point_ends : (s : List ℕ) (q : ℕ) (g : Bool) (a : Acc) (v at : ℕ) (w : Plain) (r : Scanned) → at < length s → get_or s at 0 ≡ ch "."
     → PlainSays s (at + 1) v w → Holds w.v a → Ended s w.at → Settles q g a 0 (w.at - (at + 1)) w.at r → Reads s at (int q g v) r
-point-ends s q g a v at w r h e p o d t =
+point_ends s q g a v at w r h e p o d t =
     took (frac q g v 0) h (rw e)
-    (span-frac q g 0 p.span r (subst (λ (x : ℕ). Reads s w.at (frac q g w.v x) r) (sym (zero-add (w.at - (at + 1))))
-    (frac-ends s q g a w.v o r w.at (w.at - (at + 1)) d t)))
+    (span_frac q g 0 p.span r (subst (λ (x : ℕ). Reads s w.at (frac q g w.v x) r) (sym (zero-add (w.at - (at + 1))))
+    (frac_ends s q g a w.v o r w.at (w.at - (at + 1)) d t)))
 
 -- ---- what the loop keeps
 
 pub span_more : (s : List ℕ) (from had i v b x : ℕ) → b ≡ get_or s i 0 → Span s from had i v → i < length s → ch "0" ≤ b → b ≤ ch "9" → x ≡ dig v b
     → Span s from had (i + 1) x
-span_more s from had i v b x e h k l u d = subst (λ (y : ℕ). Span s from had (i + 1) y) (sym d) (span-next s from had i v b e h k l u)
+span_more s from had i v b x e h k l u d = subst (λ (y : ℕ). Span s from had (i + 1) y) (sym d) (span_next s from had i v b e h k l u)
 
 pub held_none : (v : ℕ) → v ≡ 0 → Held v 0 false 0
 held_none v e = (omega arith, inl refl)
@@ -99,5 +99,5 @@ zeros_of v a k h o l = go a.over o
     more (suc n) e = omega arith
 
     go : (x : Bool) → Held v a.c x a.z → a.z ≤ k
-    go false t = zeros-few v a.c a.z k (more a.c t.0) t.0 l
-    go true t = zeros-few v t.0 a.z k (omega (arith, t.2)) t.1 l
+    go false t = zeros_few v a.c a.z k (more a.c t.0) t.0 l
+    go true t = zeros_few v t.0 a.z k (omega (arith, t.2)) t.1 l

@@ -13,12 +13,12 @@ use mir.ValLaws.{to_z-of_z}
 use borrow.Author.Tests.{lt-ltb, le-ltb, le-leb, lt-leb, ne_eqb}
 use Rattle.meaning.specs.declared.Number.TheVariants.{Finite}
 use Rattle.meaning.specs.declared.Refusal.TheVariants.{BadNumber}
-use Rattle.meaning.specs.Limits.{textLimit, coefficientLimit, powerLimit}
+use Rattle.meaning.specs.Limits.{text_limit, coefficient_limit, power_limit}
 use Rattle.grammar.specs.Numbers as G
 use Rattle.grammar.specs.Times.{signed}
 use Rattle.machine.specs.Scan.{breaks}
 use Rattle.machine.specs.Numeric.{Res, settle, strip, ranged, checked, finite}
-use Rattle.machine.proofs.Numeric.Value.{settle-to, only_one, positive, powers}
+use Rattle.machine.proofs.Numeric.Value.{settle_to, only_one, positive, powers}
 use Rattle.items.specs.Between.NumberOrTime.{Means, Tells, Held, Holds, Capped, Settles}
 use Rattle.items.specs.declared.number.Acc.{Acc}
 use Rattle.items.specs.declared.Item.TheVariants as Item
@@ -27,29 +27,29 @@ use Rattle.items.specs.declared.Scanned.TheVariants.{Item, Refused}
 
 -- ---- negation: -z, which the machine has as 0 - z
 
-neg-mag : (z : ℤ) → mag (neg_ℤ z) ≤ suc (mag z)
-neg-mag (pos zero) = omega arith
-neg-mag (pos (suc n)) = omega arith
-neg-mag (negsuc n) = omega arith
+neg_mag : (z : ℤ) → mag (neg_ℤ z) ≤ suc (mag z)
+neg_mag (pos zero) = omega arith
+neg_mag (pos (suc n)) = omega arith
+neg_mag (negsuc n) = omega arith
 
 module _ (w : Width) (z : ℤ) (f : suc (mag z) < 2 ^ hbits w) where
-  fits-z : SFits w z
-  fits-z = record { sfits = omega arith }
+  fits_z : SFits w z
+  fits_z = record { sfits = omega arith }
 
   pub fits_neg : SFits w (neg_ℤ z)
-  fits_neg = record { sfits = omega (arith, neg-mag z) }
+  fits_neg = record { sfits = omega (arith, neg_mag z) }
 
-  pub neg-fits : SFits w (pos 0 -ℤ to_z w (of_z w z))
-  neg-fits = subst (λ (y : ℤ). SFits w (pos 0 -ℤ y)) (sym (to_z-of_z w z fits-z)) (subst (SFits w) (sym (+ℤ_idl (neg_ℤ z))) fits_neg)
+  pub neg_fits : SFits w (pos 0 -ℤ to_z w (of_z w z))
+  neg_fits = subst (λ (y : ℤ). SFits w (pos 0 -ℤ y)) (sym (to_z-of_z w z fits_z)) (subst (SFits w) (sym (+ℤ_idl (neg_ℤ z))) fits_neg)
 
   pub neg_is : to_z w (of_z w (pos 0 -ℤ to_z w (of_z w z))) ≡ neg_ℤ z
   neg_is =
-      ap (λ (y : ℤ). to_z w (of_z w (pos 0 -ℤ y))) (to_z-of_z w z fits-z) ∙ ap (λ (y : ℤ). to_z w (of_z w y)) (+ℤ_idl (neg_ℤ z))
+      ap (λ (y : ℤ). to_z w (of_z w (pos 0 -ℤ y))) (to_z-of_z w z fits_z) ∙ ap (λ (y : ℤ). to_z w (of_z w y)) (+ℤ_idl (neg_ℤ z))
       ∙ to_z-of_z w (neg_ℤ z) fits_neg
 
-neg-suc : (n : ℕ) → 0 < n → neg_ℤ (pos n) ≡ negsuc (n - 1)
-neg-suc zero h = absurd (omega arith)
-neg-suc (suc n) h = ap negsuc (omega arith)
+neg_suc : (n : ℕ) → 0 < n → neg_ℤ (pos n) ≡ negsuc (n - 1)
+neg_suc zero h = absurd (omega arith)
+neg_suc (suc n) h = ap negsuc (omega arith)
 
 -- a signed number that was stored and read back
 pub back : (w : Width) (z : ℤ) (b : Bool) (n : ℕ) → suc n < 2 ^ hbits w → z ≡ signed b n → to_z w (of_z w z) ≡ signed b n
@@ -70,30 +70,30 @@ module _ (q : ℕ) (g : Bool) (m up dn : ℕ) where
       by_parts d (z + up) x (positive m up d (z + up) f n) o.0 o.1 h
 
   pub of_none : (c z : ℕ) → c ≡ 0 → Held m c false z → settle q g m up dn ≡ finite g 0 (pos 0)
-  of_none c z e h = settle-to (G.Finite.nought (h.0 ∙ ap (λ (y : ℕ). y * 10 ^ z) e ∙ zero-mul (10 ^ z))) q
+  of_none c z e h = settle_to (G.Finite.nought (h.0 ∙ ap (λ (y : ℕ). y * 10 ^ z) e ∙ zero-mul (10 ^ z))) q
 
-  pub of-over : (c z : ℕ) → Held m c true z → settle q g m up dn ≡ breaks (BadNumber q)
-  of-over c z h = by h.0 z _ h.1 h.3 (rw (le-ltb h.0 coefficientLimit h.2))
+  pub of_over : (c z : ℕ) → Held m c true z → settle q g m up dn ≡ breaks (BadNumber q)
+  of_over c z h = by h.0 z _ h.1 h.3 (rw (le-ltb h.0 coefficient_limit h.2))
 
-  pub of-fits : (c z : ℕ) → (c ≡ 0 → ⊥) → c < coefficientLimit → Held m c false z → settle q g m up dn ≡ ranged q g c (z + up) dn
-  of-fits c z n l h = go h.1
+  pub of_fits : (c z : ℕ) → (c ≡ 0 → ⊥) → c < coefficient_limit → Held m c false z → settle q g m up dn ≡ ranged q g c (z + up) dn
+  of_fits c z n l h = go h.1
     where
       go : (c ≡ 0) ⊎ (c % 10 ≡ 0 → ⊥) → settle q g m up dn ≡ ranged q g c (z + up) dn
       go (inl e) = absurd (n e)
-      go (inr k) = by c z _ h.0 k (rw (lt-ltb c coefficientLimit l))
+      go (inr k) = by c z _ h.0 k (rw (lt-ltb c coefficient_limit l))
 
 module _ (q : ℕ) (g : Bool) (c u dn : ℕ) where
-  pub in-up : dn ≤ u → u - dn ≤ powerLimit → ranged q g c u dn ≡ finite g c (pos (u - dn))
-  in-up h k = rw (le-leb dn u h, le-leb (u - dn) powerLimit k)
+  pub in_up : dn ≤ u → u - dn ≤ power_limit → ranged q g c u dn ≡ finite g c (pos (u - dn))
+  in_up h k = rw (le-leb dn u h, le-leb (u - dn) power_limit k)
 
-  pub out-up : dn ≤ u → powerLimit < u - dn → ranged q g c u dn ≡ breaks (BadNumber q)
-  out-up h k = rw (le-leb dn u h, lt-leb (u - dn) powerLimit k)
+  pub out_up : dn ≤ u → power_limit < u - dn → ranged q g c u dn ≡ breaks (BadNumber q)
+  out_up h k = rw (le-leb dn u h, lt-leb (u - dn) power_limit k)
 
-  pub in-dn : u < dn → dn - u ≤ powerLimit → ranged q g c u dn ≡ finite g c (negsuc (dn - u - 1))
-  in-dn h k = rw (lt-leb dn u h, le-leb (dn - u) powerLimit k)
+  pub in_dn : u < dn → dn - u ≤ power_limit → ranged q g c u dn ≡ finite g c (negsuc (dn - u - 1))
+  in_dn h k = rw (lt-leb dn u h, le-leb (dn - u) power_limit k)
 
-  pub out-dn : u < dn → powerLimit < dn - u → ranged q g c u dn ≡ breaks (BadNumber q)
-  out-dn h k = rw (lt-leb dn u h, lt-leb (dn - u) powerLimit k)
+  pub out_dn : u < dn → power_limit < dn - u → ranged q g c u dn ≡ breaks (BadNumber q)
+  out_dn h k = rw (lt-leb dn u h, lt-leb (dn - u) power_limit k)
 
 -- ---- what `settle` answers
 
@@ -105,62 +105,62 @@ module _ (q : ℕ) (g : Bool) (a : Acc) (up dn at : ℕ) where
       → Settles q g a up dn at r
   gives c p p' r i e f = record { closes = λ m k. rw (f m k, i, e) (record { tells = Tells.item Means.number }) }
 
-  pub settles-over : a.over ≡ true → Settles q g a up dn at (Refused (BadNumber q))
-  settles-over e = refuses (λ m k. of-over q g m up dn a.c a.z (subst (λ (x : Bool). Held m a.c x a.z) e k))
+  pub settles_over : a.over ≡ true → Settles q g a up dn at (Refused (BadNumber q))
+  settles_over e = refuses (λ m k. of_over q g m up dn a.c a.z (subst (λ (x : Bool). Held m a.c x a.z) e k))
 
   module _ (e : a.over ≡ false) where
     held : (m : ℕ) → Holds m a → Held m a.c false a.z
     held m k = subst (λ (x : Bool). Held m a.c x a.z) e k
 
-    pub settles-none : a.c ≡ 0 → (r : Scanned) → r ≡ Item (Item.Number (Finite g 0 (pos 0))) at → Settles q g a up dn at r
-    settles-none n r i = gives 0 (pos 0) (pos 0) r i refl (λ m k. of_none q g m up dn a.c a.z n (held m k))
+    pub settles_none : a.c ≡ 0 → (r : Scanned) → r ≡ Item (Item.Number (Finite g 0 (pos 0))) at → Settles q g a up dn at r
+    settles_none n r i = gives 0 (pos 0) (pos 0) r i refl (λ m k. of_none q g m up dn a.c a.z n (held m k))
 
-    module _ (n : a.c ≡ 0 → ⊥) (l : a.c < coefficientLimit) where
+    module _ (n : a.c ≡ 0 → ⊥) (l : a.c < coefficient_limit) where
       fits : (o : Res) → ranged q g a.c (a.z + up) dn ≡ o → (m : ℕ) → Holds m a → settle q g m up dn ≡ o
-      fits o h m k = of-fits q g m up dn a.c a.z n l (held m k) ∙ h
+      fits o h m k = of_fits q g m up dn a.c a.z n l (held m k) ∙ h
 
-      pub settles-up : (r : Scanned) (p : ℤ) → r ≡ Item (Item.Number (Finite g a.c p)) at → dn ≤ a.z + up → a.z + up - dn ≤ powerLimit → p
+      pub settles_up : (r : Scanned) (p : ℤ) → r ≡ Item (Item.Number (Finite g a.c p)) at → dn ≤ a.z + up → a.z + up - dn ≤ power_limit → p
           ≡ pos (a.z + up - dn) → Settles q g a up dn at r
-      settles-up r p i h k f = gives a.c (pos (a.z + up - dn)) p r i f (fits _ (in-up q g a.c (a.z + up) dn h k))
+      settles_up r p i h k f = gives a.c (pos (a.z + up - dn)) p r i f (fits _ (in_up q g a.c (a.z + up) dn h k))
 
-      pub settles-high : dn ≤ a.z + up → powerLimit < a.z + up - dn → Settles q g a up dn at (Refused (BadNumber q))
-      settles-high h k = refuses (fits _ (out-up q g a.c (a.z + up) dn h k))
+      pub settles_high : dn ≤ a.z + up → power_limit < a.z + up - dn → Settles q g a up dn at (Refused (BadNumber q))
+      settles_high h k = refuses (fits _ (out_up q g a.c (a.z + up) dn h k))
 
-      pub settles-dn : (r : Scanned) (p : ℤ) → r ≡ Item (Item.Number (Finite g a.c p)) at → a.z + up < dn → dn - (a.z + up) ≤ powerLimit → p
+      pub settles_dn : (r : Scanned) (p : ℤ) → r ≡ Item (Item.Number (Finite g a.c p)) at → a.z + up < dn → dn - (a.z + up) ≤ power_limit → p
           ≡ neg_ℤ (pos (dn - (a.z + up))) → Settles q g a up dn at r
-      settles-dn r p i h k f = gives a.c (negsuc (dn - (a.z + up) - 1)) p r i (f ∙ neg-suc (dn - (a.z + up)) (omega arith))
-          (fits _ (in-dn q g a.c (a.z + up) dn h k))
+      settles_dn r p i h k f = gives a.c (negsuc (dn - (a.z + up) - 1)) p r i (f ∙ neg_suc (dn - (a.z + up)) (omega arith))
+          (fits _ (in_dn q g a.c (a.z + up) dn h k))
 
-      pub settles-low : a.z + up < dn → powerLimit < dn - (a.z + up) → Settles q g a up dn at (Refused (BadNumber q))
-      settles-low h k = refuses (fits _ (out-dn q g a.c (a.z + up) dn h k))
+      pub settles_low : a.z + up < dn → power_limit < dn - (a.z + up) → Settles q g a up dn at (Refused (BadNumber q))
+      settles_low h k = refuses (fits _ (out_dn q g a.c (a.z + up) dn h k))
 
 -- ---- exponents that are too large anyway
 
-module _ (q : ℕ) (g : Bool) (m c z : ℕ) (l : c < coefficientLimit) (small : z ≤ textLimit) where
-  far-up : (o : Bool) (e w dn : ℕ) → Held m c o z → 1000000000 ≤ e → 1000000000 ≤ w → dn ≤ textLimit → settle q g m e dn ≡ settle q g m w dn
-  far-up true e w dn h i j k = of-over q g m e dn c z h ∙ sym (of-over q g m w dn c z h)
-  far-up false e w dn h i j k = go h.1
+module _ (q : ℕ) (g : Bool) (m c z : ℕ) (l : c < coefficient_limit) (small : z ≤ text_limit) where
+  far_up : (o : Bool) (e w dn : ℕ) → Held m c o z → 1000000000 ≤ e → 1000000000 ≤ w → dn ≤ text_limit → settle q g m e dn ≡ settle q g m w dn
+  far_up true e w dn h i j k = of_over q g m e dn c z h ∙ sym (of_over q g m w dn c z h)
+  far_up false e w dn h i j k = go h.1
     where
       go : (c ≡ 0) ⊎ (c % 10 ≡ 0 → ⊥) → settle q g m e dn ≡ settle q g m w dn
       go (inl n) = of_none q g m e dn c z n h ∙ sym (of_none q g m w dn c z n h)
       go (inr n) = let y : (c ≡ 0 → ⊥) = λ x. n (omega arith) in
-          of-fits q g m e dn c z y l h ∙ out-up q g c (z + e) dn (omega arith) (omega arith) ∙ sym (out-up q g c (z + w) dn (omega arith) (omega arith))
-          ∙ sym (of-fits q g m w dn c z y l h)
+          of_fits q g m e dn c z y l h ∙ out_up q g c (z + e) dn (omega arith) (omega arith) ∙ sym (out_up q g c (z + w) dn (omega arith) (omega arith))
+          ∙ sym (of_fits q g m w dn c z y l h)
 
-  far-dn : (o : Bool) (e w : ℕ) → Held m c o z → 1000000000 ≤ e → 1000000000 ≤ w → settle q g m 0 e ≡ settle q g m 0 w
-  far-dn true e w h i j = of-over q g m 0 e c z h ∙ sym (of-over q g m 0 w c z h)
-  far-dn false e w h i j = go h.1
+  far_dn : (o : Bool) (e w : ℕ) → Held m c o z → 1000000000 ≤ e → 1000000000 ≤ w → settle q g m 0 e ≡ settle q g m 0 w
+  far_dn true e w h i j = of_over q g m 0 e c z h ∙ sym (of_over q g m 0 w c z h)
+  far_dn false e w h i j = go h.1
     where
       go : (c ≡ 0) ⊎ (c % 10 ≡ 0 → ⊥) → settle q g m 0 e ≡ settle q g m 0 w
       go (inl n) = of_none q g m 0 e c z n h ∙ sym (of_none q g m 0 w c z n h)
       go (inr n) = let y : (c ≡ 0 → ⊥) = λ x. n (omega arith) in
-          of-fits q g m 0 e c z y l h ∙ out-dn q g c (z + 0) e (omega arith) (omega arith) ∙ sym (out-dn q g c (z + 0) w (omega arith) (omega arith))
-          ∙ sym (of-fits q g m 0 w c z y l h)
+          of_fits q g m 0 e c z y l h ∙ out_dn q g c (z + 0) e (omega arith) (omega arith) ∙ sym (out_dn q g c (z + 0) w (omega arith) (omega arith))
+          ∙ sym (of_fits q g m 0 w c z y l h)
 
-  pub capped-up : (o : Bool) (e w f : ℕ) → Held m c o z → Capped w e → f ≤ textLimit → settle q g m w f ≡ settle q g m e f
-  capped-up o e w f h (inl k) i = ap (λ (x : ℕ). settle q g m x f) (sym k)
-  capped-up o e w f h (inr k) i = far-up o w e f h k.1 k.0 i
+  pub capped_up : (o : Bool) (e w f : ℕ) → Held m c o z → Capped w e → f ≤ text_limit → settle q g m w f ≡ settle q g m e f
+  capped_up o e w f h (inl k) i = ap (λ (x : ℕ). settle q g m x f) (sym k)
+  capped_up o e w f h (inr k) i = far_up o w e f h k.1 k.0 i
 
-  pub capped-dn : (o : Bool) (e w f : ℕ) → Held m c o z → Capped w e → settle q g m 0 (f + w) ≡ settle q g m 0 (f + e)
-  capped-dn o e w f h (inl k) = ap (λ (x : ℕ). settle q g m 0 (f + x)) (sym k)
-  capped-dn o e w f h (inr k) = far-dn o (f + w) (f + e) h (omega arith) (omega arith)
+  pub capped_dn : (o : Bool) (e w f : ℕ) → Held m c o z → Capped w e → settle q g m 0 (f + w) ≡ settle q g m 0 (f + e)
+  capped_dn o e w f h (inl k) = ap (λ (x : ℕ). settle q g m 0 (f + x)) (sym k)
+  capped_dn o e w f h (inr k) = far_dn o (f + w) (f + e) h (omega arith) (omega arith)

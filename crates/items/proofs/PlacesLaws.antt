@@ -12,16 +12,16 @@ use native.Mathlib.Numerals.{add-one}
 use native.Mathlib.Nat.{add-suc, add-zero, zero-add}
 use borrow.Author.Tests.{ltb-true, ltb-false}
 use Rattle.meaning.specs.declared.Refusal.{Refusal}
-use Rattle.machine.specs.Scan.{Out, takes, stops, breaks, over, Ran, ended, broke, unended, goesOn, ran}
-use Rattle.items.specs.Between.Places.{byte_at, Onward, ranFrom, Goes, ranAt, Runs}
+use Rattle.machine.specs.Scan.{Out, takes, stops, breaks, over, Ran, ended, broke, unended, goes_on, ran}
+use Rattle.items.specs.Between.Places.{byte_at, Onward, ran_from, Goes, ran_at, Runs}
 
-pub byte-in : (s : List ℕ) (i : ℕ) → i < length s → byte_at s i ≡ get_or s i 0
-byte-in [] i h = absurd (omega arith)
-byte-in (b ∷ s) zero h = refl
-byte-in (b ∷ s) (suc i) h = byte-in s i (omega arith)
+pub byte_in : (s : List ℕ) (i : ℕ) → i < length s → byte_at s i ≡ get_or s i 0
+byte_in [] i h = absurd (omega arith)
+byte_in (b ∷ s) zero h = refl
+byte_in (b ∷ s) (suc i) h = byte_in s i (omega arith)
 
-pub byte-out : (s : List ℕ) (i : ℕ) → length s ≤ i → byte_at s i ≡ over
-byte-out s i h = get_or-eq_default s over h
+pub byte_out : (s : List ℕ) (i : ℕ) → length s ≤ i → byte_at s i ≡ over
+byte_out s i h = get_or-eq_default s over h
 
 -- a place is within or past the end
 pub late : (s : List ℕ) (i : ℕ) → (i < length s) ⊎ (length s ≤ i)
@@ -36,54 +36,54 @@ module _ {S M : Type 0} (scan : ℕ → S → ℕ → Out S M) where
   after p [] d = unended
   after p (b ∷ t) d = ran scan (suc p) d t
 
-  one-step : (p : ℕ) (c : S) (t : List ℕ) → ran scan p c t ≡ goesOn scan p (after p t) (scan p c (get_or t 0 over))
+  one_step : (p : ℕ) (c : S) (t : List ℕ) → ran scan p c t ≡ goes_on scan p (after p t) (scan p c (get_or t 0 over))
   unfolding ran
-  one-step p c [] = refl
-  one-step p c (b ∷ t) = refl
+  one_step p c [] = refl
+  one_step p c (b ∷ t) = refl
 
   module _ (base : ℕ) (s : List ℕ) where
-    step : (c : S) (i : ℕ) → ranFrom scan base s c i ≡ goesOn scan (base + i) (after (base + i) (drop i s)) (scan (base + i) c (byte_at s i))
-    step c i = one-step (base + i) c (drop i s) ∙ ap (λ (b : ℕ). goesOn scan (base + i) (after (base + i) (drop i s)) (scan (base + i) c b))
+    step : (c : S) (i : ℕ) → ran_from scan base s c i ≡ goes_on scan (base + i) (after (base + i) (drop i s)) (scan (base + i) c (byte_at s i))
+    step c i = one_step (base + i) c (drop i s) ∙ ap (λ (b : ℕ). goes_on scan (base + i) (after (base + i) (drop i s)) (scan (base + i) c b))
         (get_or-drop i s 0 over ∙ ap (λ (n : ℕ). get_or s n over) (add-zero i))
 
     -- by the byte at i, or the text's end
     pub goes_by : (c d : S) (i j : ℕ) → i < length s → j ≡ i + 1 → scan (base + i) c (byte_at s i) ≡ takes d → Goes scan base s c i d j
     goes_by c d i j h e x =
-        step c i ∙ ap (λ (o : Out S M). goesOn scan (base + i) (after (base + i) (drop i s)) o) x
+        step c i ∙ ap (λ (o : Out S M). goes_on scan (base + i) (after (base + i) (drop i s)) o) x
         ∙ ap (λ (t : List ℕ). after (base + i) t d) (drop-cons s i 0 h)
         ∙ rw (e, add-one, add-suc base i)
 
-    pub breaks-by : (c : S) (r : Refusal) (i : ℕ) → scan (base + i) c (byte_at s i) ≡ breaks r → ranFrom scan base s c i ≡ broke r
-    breaks-by c r i x = step c i ∙ ap (λ (o : Out S M). goesOn scan (base + i) (after (base + i) (drop i s)) o) x
+    pub breaks_by : (c : S) (r : Refusal) (i : ℕ) → scan (base + i) c (byte_at s i) ≡ breaks r → ran_from scan base s c i ≡ broke r
+    breaks_by c r i x = step c i ∙ ap (λ (o : Out S M). goes_on scan (base + i) (after (base + i) (drop i s)) o) x
 
-    pub stops-by : (c : S) (v : M) (i : ℕ) → scan (base + i) c (byte_at s i) ≡ stops v → ranFrom scan base s c i ≡ ended v (base + i)
-    stops-by c v i x = step c i ∙ ap (λ (o : Out S M). goesOn scan (base + i) (after (base + i) (drop i s)) o) x
+    pub stops_by : (c : S) (v : M) (i : ℕ) → scan (base + i) c (byte_at s i) ≡ stops v → ran_from scan base s c i ≡ ended v (base + i)
+    stops_by c v i x = step c i ∙ ap (λ (o : Out S M). goes_on scan (base + i) (after (base + i) (drop i s)) o) x
 
     -- two states that do the same at i
     pub alike : (c d : S) (i : ℕ) → scan (base + i) c (byte_at s i) ≡ scan (base + i) d (byte_at s i) → Goes scan base s c i d i
-    alike c d i x = step c i ∙ ap (λ (o : Out S M). goesOn scan (base + i) (after (base + i) (drop i s)) o) x ∙ sym (step d i)
+    alike c d i x = step c i ∙ ap (λ (o : Out S M). goes_on scan (base + i) (after (base + i) (drop i s)) o) x ∙ sym (step d i)
 
     -- by a byte that is there
     pub go : (c d : S) (i j : ℕ) → i < length s → j ≡ i + 1 → scan (base + i) c (get_or s i 0) ≡ takes d → Goes scan base s c i d j
-    go c d i j h e x = goes_by c d i j h e (rw (byte-in s i h) x)
+    go c d i j h e x = goes_by c d i j h e (rw (byte_in s i h) x)
 
-    pub halt : (c : S) (r : Refusal) (i : ℕ) → i < length s → scan (base + i) c (get_or s i 0) ≡ breaks r → ranFrom scan base s c i ≡ broke r
-    halt c r i h x = breaks-by c r i (rw (byte-in s i h) x)
+    pub halt : (c : S) (r : Refusal) (i : ℕ) → i < length s → scan (base + i) c (get_or s i 0) ≡ breaks r → ran_from scan base s c i ≡ broke r
+    halt c r i h x = breaks_by c r i (rw (byte_in s i h) x)
 
     pub like : (c d : S) (i : ℕ) → i < length s → scan (base + i) c (get_or s i 0) ≡ scan (base + i) d (get_or s i 0) → Goes scan base s c i d i
-    like c d i h x = alike c d i (rw (byte-in s i h) x)
+    like c d i h x = alike c d i (rw (byte_in s i h) x)
 
     -- at the text's end
-    pub end : (c : S) (r : Refusal) (i : ℕ) → length s ≤ i → scan (base + i) c over ≡ breaks r → ranFrom scan base s c i ≡ broke r
-    end c r i h x = breaks-by c r i (rw (byte-out s i h) x)
+    pub end : (c : S) (r : Refusal) (i : ℕ) → length s ≤ i → scan (base + i) c over ≡ breaks r → ran_from scan base s c i ≡ broke r
+    end c r i h x = breaks_by c r i (rw (byte_out s i h) x)
 
     pub moves : (x c d : S) (i j : ℕ) → Goes scan base s x i c j → c ≡ d → Goes scan base s x i d j
-    moves x c d i j g e = g ∙ ap (λ (y : S). ranFrom scan base s y j) e
+    moves x c d i j g e = g ∙ ap (λ (y : S). ran_from scan base s y j) e
 
 -- ---- in the text's own places
 
 module _ {S M : Type 0} (scan : ℕ → S → ℕ → Out S M) (s : List ℕ) where
-  at_zero : (c : S) (p : ℕ) → ranFrom scan 0 s c p ≡ ranAt scan s c p
+  at_zero : (c : S) (p : ℕ) → ran_from scan 0 s c p ≡ ran_at scan s c p
   at_zero c p = ap (λ (n : ℕ). ran scan n c (drop p s)) (zero-add p)
 
   does : (c : S) (p : ℕ) (o : Out S M) → scan p c (byte_at s p) ≡ o → scan (0 + p) c (byte_at s p) ≡ o
@@ -92,29 +92,29 @@ module _ {S M : Type 0} (scan : ℕ → S → ℕ → Out S M) (s : List ℕ) wh
   pub runs_by : (c d : S) (p q : ℕ) → p < length s → q ≡ p + 1 → scan p c (byte_at s p) ≡ takes d → Runs scan s c p d q
   runs_by c d p q h e x = sym (at_zero c p) ∙ goes_by scan 0 s c d p q h e (does c p (takes d) x) ∙ at_zero d q
 
-  pub broken-by : (c : S) (r : Refusal) (p : ℕ) → scan p c (byte_at s p) ≡ breaks r → ranAt scan s c p ≡ broke r
-  broken-by c r p x = sym (at_zero c p) ∙ breaks-by scan 0 s c r p (does c p (breaks r) x)
+  pub broken_by : (c : S) (r : Refusal) (p : ℕ) → scan p c (byte_at s p) ≡ breaks r → ran_at scan s c p ≡ broke r
+  broken_by c r p x = sym (at_zero c p) ∙ breaks_by scan 0 s c r p (does c p (breaks r) x)
 
-  pub ended_by : (c : S) (v : M) (p : ℕ) → scan p c (byte_at s p) ≡ stops v → ranAt scan s c p ≡ ended v p
-  ended_by c v p x = sym (at_zero c p) ∙ stops-by scan 0 s c v p (does c p (stops v) x) ∙ ap (ended v) (zero-add p)
+  pub ended_by : (c : S) (v : M) (p : ℕ) → scan p c (byte_at s p) ≡ stops v → ran_at scan s c p ≡ ended v p
+  ended_by c v p x = sym (at_zero c p) ∙ stops_by scan 0 s c v p (does c p (stops v) x) ∙ ap (ended v) (zero-add p)
 
   module _ (p : ℕ) (c : S) where
     -- by a byte that is there
     pub run_take : (d : S) → p < length s → scan p c (get_or s p 0) ≡ takes d → Runs scan s c p d (p + 1)
-    run_take d h x = runs_by c d p (p + 1) h refl (rw (byte-in s p h) x)
+    run_take d h x = runs_by c d p (p + 1) h refl (rw (byte_in s p h) x)
 
-    pub run-stop : (v : M) → p < length s → scan p c (get_or s p 0) ≡ stops v → ranAt scan s c p ≡ ended v p
-    run-stop v h x = ended_by c v p (rw (byte-in s p h) x)
+    pub run_stop : (v : M) → p < length s → scan p c (get_or s p 0) ≡ stops v → ran_at scan s c p ≡ ended v p
+    run_stop v h x = ended_by c v p (rw (byte_in s p h) x)
 
-    pub run-break : (r : Refusal) → p < length s → scan p c (get_or s p 0) ≡ breaks r → ranAt scan s c p ≡ broke r
-    run-break r h x = broken-by c r p (rw (byte-in s p h) x)
+    pub run_break : (r : Refusal) → p < length s → scan p c (get_or s p 0) ≡ breaks r → ran_at scan s c p ≡ broke r
+    run_break r h x = broken_by c r p (rw (byte_in s p h) x)
 
     -- at the text's end
-    pub end-stop : (v : M) → length s ≤ p → scan p c over ≡ stops v → ranAt scan s c p ≡ ended v p
-    end-stop v h x = ended_by c v p (rw (byte-out s p h) x)
+    pub end_stop : (v : M) → length s ≤ p → scan p c over ≡ stops v → ran_at scan s c p ≡ ended v p
+    end_stop v h x = ended_by c v p (rw (byte_out s p h) x)
 
-    pub end-break : (r : Refusal) → length s ≤ p → scan p c over ≡ breaks r → ranAt scan s c p ≡ broke r
-    end-break r h x = broken-by c r p (rw (byte-out s p h) x)
+    pub end_break : (r : Refusal) → length s ≤ p → scan p c over ≡ breaks r → ran_at scan s c p ≡ broke r
+    end_break r h x = broken_by c r p (rw (byte_out s p h) x)
 
 -- ---- from one place on to another
 

@@ -11,39 +11,39 @@ use native.Mathlib.Numerals.{add-one}
 use native.Mathlib.Nat.{suc-add, add-suc, add-zero}
 use borrow.Author.Tests.{ltb-true, ltb-false}
 use Rattle.rules.specs.Rfc3629.{encode}
-use Rattle.rules.proofs.Numbers.{row-1, row-2, row-3, row-4}
+use Rattle.rules.proofs.Numbers.{row_1, row_2, row_3, row_4}
 
-pub sets-app : (t : List ℕ) (at : ℕ) (a b : List ℕ) → sets t at (a ++ b) ≡ sets (sets t at a) (at + length a) b
-sets-app t at [] b = ap (λ (n : ℕ). sets t n b) (sym (add-zero at))
-sets-app t at (x ∷ a) b = sets-app (set t at x) (suc at) a b ∙ ap (λ (n : ℕ). sets (sets (set t at x) (suc at) a) n b)
+pub sets_app : (t : List ℕ) (at : ℕ) (a b : List ℕ) → sets t at (a ++ b) ≡ sets (sets t at a) (at + length a) b
+sets_app t at [] b = ap (λ (n : ℕ). sets t n b) (sym (add-zero at))
+sets_app t at (x ∷ a) b = sets_app (set t at x) (suc at) a b ∙ ap (λ (n : ℕ). sets (sets (set t at x) (suc at) a) n b)
     (suc-add at (length a) ∙ sym (add-suc at (length a)))
 
-pub sets-out : (t : List ℕ) (at : ℕ) (b : List ℕ) → length t ≤ at → sets t at b ≡ t
-sets-out t at [] h = refl
-sets-out t at (x ∷ b) h = rw (set_out t at x h) (sets-out t (suc at) b (omega arith))
+pub sets_out : (t : List ℕ) (at : ℕ) (b : List ℕ) → length t ≤ at → sets t at b ≡ t
+sets_out t at [] h = refl
+sets_out t at (x ∷ b) h = rw (set_out t at x h) (sets_out t (suc at) b (omega arith))
 
 -- one more byte of a segment
-pub seg-more : (s t : List ℕ) (from i at o : ℕ) → from ≤ i → i < length s → o ≡ at + (i - from) → (u : List ℕ) → u ≡ sets t at (take (i - from) (drop from s))
+pub seg_more : (s t : List ℕ) (from i at o : ℕ) → from ≤ i → i < length s → o ≡ at + (i - from) → (u : List ℕ) → u ≡ sets t at (take (i - from) (drop from s))
     → set u o (get_or s i 0) ≡ sets t at (take (i + 1 - from) (drop from s))
-seg-more s t from i at o l h e u q =
+seg_more s t from i at o l h e u q =
     let n : i + 1 - from ≡ suc (i - from) = omega arith in
     let m : from + (i - from) ≡ i = omega arith in
     let k : i - from < length (drop from s) = simp length-drop (omega arith) in
     let z : o ≡ at + length (take (i - from) (drop from s)) = simp (length-take, length-drop) (omega arith) in
-    rw (n, take-suc (drop from s) (i - from) 0 k, sets-app, get_or-drop, m, ← q, ← z)
+    rw (n, take-suc (drop from s) (i - from) 0 k, sets_app, get_or-drop, m, ← q, ← z)
 
 seg_out : (s t : List ℕ) (from i to at : ℕ) → from ≤ i → i ≤ to → to ≤ length s → length t ≤ at + (i - from) → (u : List ℕ) → u
     ≡ sets t at (take (i - from) (drop from s)) → u ≡ sets t at (take (to - from) (drop from s))
 seg_out s t from i to at l g h r u q =
     let n : to - from ≡ (i - from) + (to - i) = omega arith in
     let z : length t ≤ at + length (take (i - from) (drop from s)) = simp (length-take, length-drop) (omega arith) in
-    q ∙ sym (rw (n, take-add, sets-app) (sets-out (sets t at (take (i - from) (drop from s))) (at + length (take (i - from) (drop from s)))
+    q ∙ sym (rw (n, take-add, sets_app) (sets_out (sets t at (take (i - from) (drop from s))) (at + length (take (i - from) (drop from s)))
     (take (to - i) (drop (i - from) (drop from s))) (simp length-sets z)))
 
 -- what is past the store's end is dropped
-pub seg-limit : (s t : List ℕ) (from i to at : ℕ) → from ≤ i → i ≤ to → to ≤ length s → (i < to → length t ≤ at + (i - from)) → (u : List ℕ) → u
+pub seg_limit : (s t : List ℕ) (from i to at : ℕ) → from ≤ i → i ≤ to → to ≤ length s → (i < to → length t ≤ at + (i - from)) → (u : List ℕ) → u
     ≡ sets t at (take (i - from) (drop from s)) → u ≡ sets t at (take (to - from) (drop from s))
-seg-limit s t from i to at l g h f u q = by (ltb i to) refl
+seg_limit s t from i to at l g h f u q = by (ltb i to) refl
   where
     by : (x : Bool) → ltb i to ≡ x → u ≡ sets t at (take (to - from) (drop from s))
     by true e = seg_out s t from i to at l g h (f (ltb-true i to e)) u q
@@ -52,22 +52,22 @@ seg-limit s t from i to at l g h f u q = by (ltb i to) refl
 -- the bytes of a character, put one by one
 module _ (t : List ℕ) (at c : ℕ) where
   pub enc1 : c < 0x80 → (length (encode c) ≡ 1) × (sets t at (encode c) ≡ set t at c)
-  enc1 h = let e = row-1 c (omega arith) in (rw e, rw e)
+  enc1 h = let e = row_1 c (omega arith) in (rw e, rw e)
 
   pub enc2 : 0x80 ≤ c → c < 0x800 → (length (encode c) ≡ 2) × (sets t at (encode c) ≡ set (set t at (0xC0 + c / 64)) (at + 1) (0x80 + c % 64))
-  enc2 g h = let e = row-2 c (omega arith) (omega arith) in (rw e, rw (e, add-one))
+  enc2 g h = let e = row_2 c (omega arith) (omega arith) in (rw e, rw (e, add-one))
 
   pub enc3 : 0x800 ≤ c → c < 0x10000 → (length (encode c) ≡ 3) × (sets t at (encode c)
       ≡ set (set (set t at (0xE0 + c / 4096)) (at + 1) (0x80 + c / 64 % 64)) (at + 2) (0x80 + c % 64))
   enc3 g h =
-      let e = row-3 c (omega arith) (omega arith) in
+      let e = row_3 c (omega arith) (omega arith) in
       let two : at + 2 ≡ suc (suc at) = omega arith in
       (rw e, rw (e, add-one, two))
 
   pub enc4 : 0x10000 ≤ c → (length (encode c) ≡ 4) × (sets t at (encode c) ≡ set
       (set (set (set t at (0xF0 + c / 262144)) (at + 1) (0x80 + c / 4096 % 64)) (at + 2) (0x80 + c / 64 % 64)) (at + 3) (0x80 + c % 64))
   enc4 g =
-      let e = row-4 c (omega arith) in
+      let e = row_4 c (omega arith) in
       let two : at + 2 ≡ suc (suc at) = omega arith in
       let three : at + 3 ≡ suc (suc (suc at)) = omega arith in
       (rw e, rw (e, add-one, two, three))

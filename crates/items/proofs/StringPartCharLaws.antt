@@ -13,16 +13,16 @@ use Rattle.meaning.specs.Letters.{ch}
 use Rattle.grammar.specs.Strings.{joined}
 use Rattle.machine.specs.Scan.{over}
 use Rattle.machine.specs.Strings as S
-use Rattle.machine.specs.Strings.{Ctx, mk, first, whole, half, body, done, alone, unit, onBody, plain_byte, scan}
+use Rattle.machine.specs.Strings.{Ctx, mk, first, whole, half, body, done, alone, unit, on_body, plain_byte, scan}
 use Rattle.items.specs.Between.Places.{Goes}
 use Rattle.items.specs.Between.StringPart.{Halved, Coded, Spoilt, Broken, Read, Blamed, Stopped}
 use Rattle.items.proofs.PlacesLaws.{go, moves, alike, like, end}
-use Rattle.items.proofs.StringPartEscapeLaws.{encode-four}
+use Rattle.items.proofs.StringPartEscapeLaws.{encode_four}
 
 -- a high surrogate whose next byte is no backslash: what comes is as after a bad escape
 unpaired : (base : ℕ) (s : List ℕ) (i : ℕ) → i < length s → (get_or s i 0 ≡ ch "\\" → ⊥) → (q : ℕ) (bad : S.Bad) (a w : ℕ) (acc : List ℕ)
     → Goes scan base s (body (mk q bad (half a w) acc)) i (body (mk q (first bad a) whole acc)) i
-unfolding scan onBody
+unfolding scan on_body
 unpaired base s i l ne q bad a w acc = by (eqb (get_or s i 0) q) refl
   where
     by : (x : Bool) → eqb (get_or s i 0) q ≡ x → Goes scan base s (body (mk q bad (half a w) acc)) i (body (mk q (first bad a) whole acc)) i
@@ -33,8 +33,8 @@ unpaired base s i l ne q bad a w acc = by (eqb (get_or s i 0) q) refl
     by false e = like scan base s (body (mk q bad (half a w) acc)) (body (mk q (first bad a) whole acc)) i l (simp (ne_eqb _ _ ne, e))
 
 module _ (s : List ℕ) (at : ℕ) where
-  pub char-code : (next c : ℕ) → Coded s at next c → Read s at next c
-  char-code next c t = record {
+  pub char_code : (next c : ℕ) → Coded s at next c → Read s at next c
+  char_code next c t = record {
     goes = λ base q bad acc. t.goes base (mk q bad whole acc);
     room = t.room;
     past = t.past;
@@ -42,40 +42,40 @@ module _ (s : List ℕ) (at : ℕ) where
     small = t.small;
   }
 
-  pub char-odd : (next : ℕ) → Spoilt s at next → Blamed s at next
-  char-odd next t = record { goes = λ base q bad acc. t.goes base (mk q bad whole acc); past = t.past; within = t.within }
+  pub char_odd : (next : ℕ) → Spoilt s at next → Blamed s at next
+  char_odd next t = record { goes = λ base q bad acc. t.goes base (mk q bad whole acc); past = t.past; within = t.within }
 
-  pub char-break : (p : ℕ) → Broken s at p → Stopped s at p
-  char-break p t = record { ends = λ base q small bad acc. t.ends base (mk q bad whole acc); within = t.within }
+  pub char_break : (p : ℕ) → Broken s at p → Stopped s at p
+  char_break p t = record { ends = λ base q small bad acc. t.ends base (mk q bad whole acc); within = t.within }
 
   module _ (next w : ℕ) (t : Halved s at next w) where
-    alone-goes : (base q : ℕ) (bad : S.Bad) (acc : List ℕ) (d : Ctx) → alone (mk q bad whole acc) (base + at) w ≡ d
+    alone_goes : (base q : ℕ) (bad : S.Bad) (acc : List ℕ) (d : Ctx) → alone (mk q bad whole acc) (base + at) w ≡ d
         → Goes scan base s (body (mk q bad whole acc)) at (body d) next
     unfolding unit
-    alone-goes base q bad acc d e = moves scan base s (body (mk q bad whole acc)) (body (unit (mk q bad whole acc) (base + at) w whole)) (body d) at next
+    alone_goes base q bad acc d e = moves scan base s (body (mk q bad whole acc)) (body (unit (mk q bad whole acc) (base + at) w whole)) (body d) at next
         (t.goes base (mk q bad whole acc)) (ap body e)
 
     read : ((a q : ℕ) (bad : S.Bad) (acc : List ℕ) → alone (mk q bad whole acc) a w ≡ mk q bad whole (acc ++ encode w)) → Read s at next w
     read f = record {
-      goes = λ base q bad acc. alone-goes base q bad acc (mk q bad whole (acc ++ encode w)) (f (base + at) q bad acc);
-      room = omega (arith, encode-four w, t.six);
+      goes = λ base q bad acc. alone_goes base q bad acc (mk q bad whole (acc ++ encode w)) (f (base + at) q bad acc);
+      room = omega (arith, encode_four w, t.six);
       past = omega (arith, t.six);
       within = t.within;
       small = omega (arith, t.small);
     }
 
-    pub char-low : w < 0xD800 → Read s at next w
+    pub char_low : w < 0xD800 → Read s at next w
     unfolding alone
-    char-low h = read (λ a q bad acc. simp (lt-ltb _ _ h))
+    char_low h = read (λ a q bad acc. simp (lt-ltb _ _ h))
 
     pub char_up : 0xE000 ≤ w → Read s at next w
     unfolding alone
     char_up h = let f : 0xD800 ≤ w = omega arith in let g : 0xDC00 ≤ w = omega arith in read (λ a q bad acc. simp (le-ltb _ _ f, le-ltb _ _ g, le-ltb _ _ h))
 
-    pub char-lone : 0xDC00 ≤ w → w < 0xE000 → Blamed s at next
+    pub char_lone : 0xDC00 ≤ w → w < 0xE000 → Blamed s at next
     unfolding alone
-    char-lone g h = let f : 0xD800 ≤ w = omega arith in record {
-      goes = λ base q bad acc. alone-goes base q bad acc (mk q (first bad (base + at)) whole acc) (simp (le-ltb _ _ f, le-ltb _ _ g, lt-ltb _ _ h));
+    char_lone g h = let f : 0xD800 ≤ w = omega arith in record {
+      goes = λ base q bad acc. alone_goes base q bad acc (mk q (first bad (base + at)) whole acc) (simp (le-ltb _ _ f, le-ltb _ _ g, lt-ltb _ _ h));
       past = omega (arith, t.six);
       within = t.within;
     }
@@ -84,52 +84,52 @@ module _ (s : List ℕ) (at : ℕ) where
     module _ (g : 0xD800 ≤ w) (h : w < 0xDC00) where
       waits : (base q : ℕ) (bad : S.Bad) (acc : List ℕ) → Goes scan base s (body (mk q bad whole acc)) at (body (mk q bad (half (base + at) w) acc)) next
       unfolding alone
-      waits base q bad acc = alone-goes base q bad acc (mk q bad (half (base + at) w) acc) (simp (le-ltb _ _ g, lt-ltb _ _ h))
+      waits base q bad acc = alone_goes base q bad acc (mk q bad (half (base + at) w) acc) (simp (le-ltb _ _ g, lt-ltb _ _ h))
 
-      pub wait-end : length s ≤ next → Stopped s at next
-      unfolding scan onBody plain_byte
-      wait-end l = record {
+      pub wait_end : length s ≤ next → Stopped s at next
+      unfolding scan on_body plain_byte
+      wait_end l = record {
         ends = λ base q small bad acc. waits base q bad acc ∙ end scan base s (body (mk q bad (half (base + at) w) acc)) (NotGrammar (base + next)) next l
             (let n : over ≡ q → ⊥ = λ e. omega arith in simp (ne_eqb over q n));
         within = t.within;
       }
 
-      pub wait-break : (p : ℕ) → Broken s next p → Stopped s at p
-      wait-break p u = record { ends = λ base q small bad acc. waits base q bad acc ∙ u.ends base (mk q bad (half (base + at) w) acc); within = u.within }
+      pub wait_break : (p : ℕ) → Broken s next p → Stopped s at p
+      wait_break p u = record { ends = λ base q small bad acc. waits base q bad acc ∙ u.ends base (mk q bad (half (base + at) w) acc); within = u.within }
 
       blamed : ((base q : ℕ) (bad : S.Bad) (acc : List ℕ) → Goes scan base s (body (mk q bad (half (base + at) w) acc)) next
           (body (mk q (first bad (base + at)) whole acc)) next) → Blamed s at next
       blamed f = record { goes = λ base q bad acc. waits base q bad acc ∙ f base q bad acc; past = omega (arith, t.six); within = t.within }
 
-      pub wait-other : next < length s → (get_or s next 0 ≡ ch "\\" → ⊥) → Blamed s at next
-      wait-other l ne = blamed (λ base q bad acc. unpaired base s next l ne q bad (base + at) w acc)
+      pub wait_other : next < length s → (get_or s next 0 ≡ ch "\\" → ⊥) → Blamed s at next
+      wait_other l ne = blamed (λ base q bad acc. unpaired base s next l ne q bad (base + at) w acc)
 
-      pub wait-code : (n c : ℕ) → Coded s next n c → Blamed s at next
-      wait-code n c u = blamed (λ base q bad acc. u.goes base (mk q bad (half (base + at) w) acc)
+      pub wait_code : (n c : ℕ) → Coded s next n c → Blamed s at next
+      wait_code n c u = blamed (λ base q bad acc. u.goes base (mk q bad (half (base + at) w) acc)
           ∙ sym (u.goes base (mk q (first bad (base + at)) whole acc)))
 
-      pub wait-odd : (n : ℕ) → Spoilt s next n → Blamed s at next
-      wait-odd n u = blamed (λ base q bad acc. u.goes base (mk q bad (half (base + at) w) acc) ∙ sym (u.goes base (mk q (first bad (base + at)) whole acc)))
+      pub wait_odd : (n : ℕ) → Spoilt s next n → Blamed s at next
+      wait_odd n u = blamed (λ base q bad acc. u.goes base (mk q bad (half (base + at) w) acc) ∙ sym (u.goes base (mk q (first bad (base + at)) whole acc)))
 
       module _ (n l : ℕ) (u : Halved s next n l) where
-        pub wait-below : l < 0xDC00 → Blamed s at next
+        pub wait_below : l < 0xDC00 → Blamed s at next
         unfolding unit alone
-        wait-below f = blamed (λ base q bad acc. (simp (lt-ltb _ _ f) at (u.goes base (mk q bad (half (base + at) w) acc)))
+        wait_below f = blamed (λ base q bad acc. (simp (lt-ltb _ _ f) at (u.goes base (mk q bad (half (base + at) w) acc)))
             ∙ sym (simp (lt-ltb _ _ f) at (u.goes base (mk q (first bad (base + at)) whole acc))))
 
-        pub wait-above : 0xE000 ≤ l → Blamed s at next
+        pub wait_above : 0xE000 ≤ l → Blamed s at next
         unfolding unit alone
-        wait-above f = let e : 0xDC00 ≤ l = omega arith in blamed (λ base q bad acc.
+        wait_above f = let e : 0xDC00 ≤ l = omega arith in blamed (λ base q bad acc.
             (simp (le-ltb _ _ e, le-ltb _ _ f) at (u.goes base (mk q bad (half (base + at) w) acc)))
             ∙ sym (simp (le-ltb _ _ e, le-ltb _ _ f) at (u.goes base (mk q (first bad (base + at)) whole acc))))
 
-        pub wait-pair : 0xDC00 ≤ l → l < 0xE000 → Read s at n (joined w l)
+        pub wait_pair : 0xDC00 ≤ l → l < 0xE000 → Read s at n (joined w l)
         unfolding unit
-        wait-pair e f = record {
+        wait_pair e f = record {
           goes = λ base q bad acc. waits base q bad acc ∙ moves scan base s (body (mk q bad (half (base + at) w) acc))
               (body (unit (mk q bad (half (base + at) w) acc) (base + next) l (half (base + at) w))) (body (mk q bad whole (acc ++ encode (joined w l)))) next n
               (u.goes base (mk q bad (half (base + at) w) acc)) (simp (le-ltb _ _ e, lt-ltb _ _ f));
-          room = omega (arith, encode-four (joined w l), t.six, u.six);
+          room = omega (arith, encode_four (joined w l), t.six, u.six);
           past = omega (arith, t.six, u.six);
           within = u.within;
           small = omega arith;

@@ -12,12 +12,12 @@ use borrow.Author.Tests.{lt-ltb, eq-eqb, ne_eqb}
 use Rattle.meaning.specs.declared.Refusal.TheVariants.{NotGrammar}
 use Rattle.meaning.specs.Letters.{ch, letters}
 use Rattle.machine.specs.Scan.{over}
-use Rattle.machine.specs.Strings.{mk, fine, whole, lines0, linesCR, lines, done, lineByte, onLines, scan}
+use Rattle.machine.specs.Strings.{mk, fine, whole, lines0, lines_cr, lines, done, line_byte, on_lines, scan}
 use Rattle.items.specs.declared.string_part.Part.{Part}
 use Rattle.items.specs.declared.string_part.Part.TheVariants.{Closed}
 use Rattle.items.specs.Between.Places.{Goes}
 use Rattle.items.specs.Between.StringPart.{ThreeSays, Begun, Closes, Breaks}
-use Rattle.items.proofs.PlacesLaws.{byte-out, go, halt, like, alike, end, stops-by}
+use Rattle.items.proofs.PlacesLaws.{byte_out, go, halt, like, alike, end, stops_by}
 
 -- ---- one LF, or one CR LF, after the opening
 
@@ -27,55 +27,55 @@ module _ (s : List ℕ) (l : 2 < length s) where
 
   pub from_end : length s ≤ 3 → Begun s 3
   unfolding scan
-  from_end h = begun3 (λ base q g. alike scan base s (lines0 q) (lines q 0 []) 3 (rw (byte-out s 3 h)))
+  from_end h = begun3 (λ base q g. alike scan base s (lines0 q) (lines q 0 []) 3 (rw (byte_out s 3 h)))
 
   module _ (h : 3 < length s) where
-    pub from-lf : get_or s 3 0 ≡ ch "\n" → Begun s 4
+    pub from_lf : get_or s 3 0 ≡ ch "\n" → Begun s 4
     unfolding scan
-    from-lf e = record {
+    from_lf e = record {
       goes = λ base q g. go scan base s (lines0 q) (lines q 0 []) 3 4 h refl (simp (eq-eqb _ _ e));
       within = omega arith;
       past = omega arith;
     }
 
     module _ (n : get_or s 3 0 ≡ ch "\n" → ⊥) where
-      pub from-other : (get_or s 3 0 ≡ ch "\r" → ⊥) → Begun s 3
+      pub from_other : (get_or s 3 0 ≡ ch "\r" → ⊥) → Begun s 3
       unfolding scan
-      from-other m = begun3 (λ base q g. like scan base s (lines0 q) (lines q 0 []) 3 h (simp (ne_eqb _ _ n, ne_eqb _ _ m)))
+      from_other m = begun3 (λ base q g. like scan base s (lines0 q) (lines q 0 []) 3 h (simp (ne_eqb _ _ n, ne_eqb _ _ m)))
 
       module _ (e : get_or s 3 0 ≡ ch "\r") where
-        to-cr : (base q : ℕ) → Goes scan base s (lines0 q) 3 (linesCR q) 4
+        to_cr : (base q : ℕ) → Goes scan base s (lines0 q) 3 (lines_cr q) 4
         unfolding scan
-        to-cr base q = go scan base s (lines0 q) (linesCR q) 3 4 h refl (simp (ne_eqb _ _ n, eq-eqb _ _ e))
+        to_cr base q = go scan base s (lines0 q) (lines_cr q) 3 4 h refl (simp (ne_eqb _ _ n, eq-eqb _ _ e))
 
-        kept-cr : (base q : ℕ) → 0x20 < q → Goes scan base s (lines q 0 []) 3 (lines q 0 (letters "\r")) 4
-        unfolding scan onLines lineByte
-        kept-cr base q g = go scan base s (lines q 0 []) (lines q 0 (letters "\r")) 3 4 h refl
+        kept_cr : (base q : ℕ) → 0x20 < q → Goes scan base s (lines q 0 []) 3 (lines q 0 (letters "\r")) 4
+        unfolding scan on_lines line_byte
+        kept_cr base q g = go scan base s (lines q 0 []) (lines q 0 (letters "\r")) 3 4 h refl
             (rw e (let m : ch "\r" ≡ q → ⊥ = λ x. omega arith in simp (ne_eqb (ch "\r") q m)))
 
-        pub from-crlf : 4 < length s → get_or s 4 0 ≡ ch "\n" → Begun s 5
+        pub from_crlf : 4 < length s → get_or s 4 0 ≡ ch "\n" → Begun s 5
         unfolding scan
-        from-crlf z f = record {
-          goes = λ base q g. to-cr base q ∙ go scan base s (linesCR q) (lines q 0 []) 4 5 z refl (simp (eq-eqb _ _ f));
+        from_crlf z f = record {
+          goes = λ base q g. to_cr base q ∙ go scan base s (lines_cr q) (lines q 0 []) 4 5 z refl (simp (eq-eqb _ _ f));
           within = omega arith;
           past = omega arith;
         }
 
-        pub from-cr-end : length s ≤ 4 → Begun s 3
+        pub from_cr_end : length s ≤ 4 → Begun s 3
         unfolding scan
-        from-cr-end z = begun3 (λ base q g. to-cr base q ∙ alike scan base s (linesCR q) (lines q 0 (letters "\r")) 4 (rw (byte-out s 4 z))
-            ∙ sym (kept-cr base q g))
+        from_cr_end z = begun3 (λ base q g. to_cr base q ∙ alike scan base s (lines_cr q) (lines q 0 (letters "\r")) 4 (rw (byte_out s 4 z))
+            ∙ sym (kept_cr base q g))
 
-        pub from-cr : 4 < length s → (get_or s 4 0 ≡ ch "\n" → ⊥) → Begun s 3
+        pub from_cr : 4 < length s → (get_or s 4 0 ≡ ch "\n" → ⊥) → Begun s 3
         unfolding scan
-        from-cr z f = begun3 (λ base q g. to-cr base q ∙ like scan base s (linesCR q) (lines q 0 (letters "\r")) 4 z (simp (ne_eqb _ _ f))
-            ∙ sym (kept-cr base q g))
+        from_cr z f = begun3 (λ base q g. to_cr base q ∙ like scan base s (lines_cr q) (lines q 0 (letters "\r")) 4 z (simp (ne_eqb _ _ f))
+            ∙ sym (kept_cr base q g))
 
 -- ---- the next three quotes
 
-pub line-last : (b : ℕ) → b < 0x20 → (b ≡ ch "\t" → ⊥) → (b ≡ ch "\n" → ⊥) → eqb b (ch "\r") ≡ lineByte b
-unfolding lineByte
-line-last b h n m = simp (lt-ltb _ _ h, ne_eqb _ _ n, ne_eqb _ _ m)
+pub line_last : (b : ℕ) → b < 0x20 → (b ≡ ch "\t" → ⊥) → (b ≡ ch "\n" → ⊥) → eqb b (ch "\r") ≡ line_byte b
+unfolding line_byte
+line_last b h n m = simp (lt-ltb _ _ h, ne_eqb _ _ n, ne_eqb _ _ m)
 
 one_more : (n q : ℕ) → replicate (suc n) q ≡ replicate n q ++ (q ∷ [])
 one_more zero q = refl
@@ -91,8 +91,8 @@ pub record Lining (s : List ℕ) (q i j n : ℕ) : Type 0 where
   pub within : j ≤ length s
 
 module _ (s : List ℕ) (q from : ℕ) where
-  pub lining-start : from ≤ length s → Lining s q from from 0
-  lining-start h = let z : from - from ≡ 0 = omega arith in record {
+  pub lining_start : from ≤ length s → Lining s q from from 0
+  lining_start h = let z : from - from ≡ 0 = omega arith in record {
     acc = [];
     goes = λ base. refl;
     all = rw z;
@@ -102,9 +102,9 @@ module _ (s : List ℕ) (q from : ℕ) where
   }
 
   module _ (i n : ℕ) (t : Lining s q from i n) where
-    pub lining-end : q < over → length s ≤ i → Breaks s q from i
-    unfolding scan onLines lineByte
-    lining-end small h = record {
+    pub lining_end : q < over → length s ≤ i → Breaks s q from i
+    unfolding scan on_lines line_byte
+    lining_end small h = record {
       ends = λ base. t.goes base ∙ end scan base s (lines q n t.acc) (NotGrammar (base + i)) i h
           (let m : over ≡ q → ⊥ = λ e. omega arith in simp (ne_eqb over q m));
       within = t.within;
@@ -115,8 +115,8 @@ module _ (s : List ℕ) (q from : ℕ) where
         let l : length (take (i - from) (drop from s)) ≡ i - from = simp (length-take, length-drop) (omega (arith, t.behind, t.within)) in
         omega (arith, l, simp (length-append, length-replicate) at (ap length t.all))
 
-    pub lining-far : from + n ≤ i
-    lining-far = omega (arith, counted, t.behind)
+    pub lining_far : from + n ≤ i
+    lining_far = omega (arith, counted, t.behind)
 
     module _ (h : i < length s) where
       further : take (i + 1 - from) (drop from s) ≡ take (i - from) (drop from s) ++ (get_or s i 0 ∷ [])
@@ -127,16 +127,16 @@ module _ (s : List ℕ) (q from : ℕ) where
           rw (m, take-suc (drop from s) (i - from) 0 k, get_or-drop, o)
 
       module _ (m : get_or s i 0 ≡ q → ⊥) where
-        pub lining-cut : lineByte (get_or s i 0) ≡ false → Breaks s q from i
-        unfolding scan onLines
-        lining-cut e = record {
+        pub lining_cut : line_byte (get_or s i 0) ≡ false → Breaks s q from i
+        unfolding scan on_lines
+        lining_cut e = record {
           ends = λ base. t.goes base ∙ halt scan base s (lines q n t.acc) (NotGrammar (base + i)) i h (simp (ne_eqb _ _ m, e));
           within = t.within;
         }
 
-        pub lining-other : lineByte (get_or s i 0) ≡ true → Lining s q from (i + 1) 0
-        unfolding scan onLines
-        lining-other e = record {
+        pub lining_other : line_byte (get_or s i 0) ≡ true → Lining s q from (i + 1) 0
+        unfolding scan on_lines
+        lining_other e = record {
           acc = t.acc ++ (replicate n q ++ (get_or s i 0 ∷ []));
           goes = λ base. t.goes base ∙ go scan base s (lines q n t.acc) (lines q 0 (t.acc ++ (replicate n q ++ (get_or s i 0 ∷ [])))) i (i + 1) h refl
               (simp (ne_eqb _ _ m, e));
@@ -148,9 +148,9 @@ module _ (s : List ℕ) (q from : ℕ) where
         }
 
       module _ (e : get_or s i 0 ≡ q) where
-        pub lining-quote : (n ≡ 2 → ⊥) → Lining s q from (i + 1) (n + 1)
-        unfolding scan onLines
-        lining-quote m = record {
+        pub lining_quote : (n ≡ 2 → ⊥) → Lining s q from (i + 1) (n + 1)
+        unfolding scan on_lines
+        lining_quote m = record {
           acc = t.acc;
           goes = λ base. t.goes base ∙ go scan base s (lines q n t.acc) (lines q (n + 1) t.acc) i (i + 1) h refl
               (simp (eq-eqb _ _ e, ne_eqb _ _ m, add-one));
@@ -161,9 +161,9 @@ module _ (s : List ℕ) (q from : ℕ) where
           within = omega arith;
         }
 
-        pub lining-close : n ≡ 2 → Closes s q from (i - 2)
-        unfolding scan onLines
-        lining-close m =
+        pub lining_close : n ≡ 2 → Closes s q from (i - 2)
+        unfolding scan on_lines
+        lining_close m =
             let k = counted in
             let a : length t.acc ≡ i - 2 - from = omega (arith, k) in
             let b : i - 2 + 3 ≡ i + 1 = omega (arith, k) in
@@ -172,7 +172,7 @@ module _ (s : List ℕ) (q from : ℕ) where
             ∙ ap (λ (y : List ℕ). take (i - 2 - from) y) t.all ∙ take-take (i - 2 - from) (i - from) (drop from s) le in
             record {
               ends = λ base. rw (b, ← x) (t.goes base ∙ go scan base s (lines q n t.acc) (done (mk q fine whole t.acc)) i (i + 1) h refl
-                  (simp (eq-eqb _ _ e, eq-eqb _ _ m)) ∙ stops-by scan base s (done (mk q fine whole t.acc)) t.acc (i + 1) refl);
+                  (simp (eq-eqb _ _ e, eq-eqb _ _ m)) ∙ stops_by scan base s (done (mk q fine whole t.acc)) t.acc (i + 1) refl);
               behind = omega (arith, k);
               within = omega arith;
             }
@@ -180,12 +180,12 @@ module _ (s : List ℕ) (q from : ℕ) where
 -- ---- the whole
 
 module _ (s : List ℕ) (q at : ℕ) (entry : List ℕ) (g : 0x20 < q) (i : ℕ) (f : Begun s i) where
-  pub three-cut : (p : ℕ) → Breaks s q i p → ThreeSays s q at entry entry (Part.NotGrammar p)
-  three-cut p t = (λ base. f.goes base q g ∙ t.ends base, t.within)
+  pub three_cut : (p : ℕ) → Breaks s q i p → ThreeSays s q at entry entry (Part.NotGrammar p)
+  three_cut p t = (λ base. f.goes base q g ∙ t.ends base, t.within)
 
-  pub three-last : (e : ℕ) → Closes s q i e → (exit : List ℕ) → exit ≡ sets entry at (take (e - i) (drop i s))
+  pub three_last : (e : ℕ) → Closes s q i e → (exit : List ℕ) → exit ≡ sets entry at (take (e - i) (drop i s))
       → ThreeSays s q at entry exit (Closed (e - i) (e + 3))
-  three-last e t exit w = record {
+  three_last e t exit w = record {
     value = take (e - i) (drop i s);
     runs = λ base. f.goes base q g ∙ t.ends base;
     counted = simp (length-take, length-drop) (omega (arith, t.within));

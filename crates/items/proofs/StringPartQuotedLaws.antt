@@ -15,13 +15,13 @@ use Rattle.meaning.specs.declared.Refusal.TheVariants.{NotGrammar, BadEscape}
 use Rattle.meaning.specs.Letters.{ch}
 use Rattle.machine.specs.Scan.{stops, breaks, Ran, over, ran}
 use Rattle.machine.specs.Strings as S
-use Rattle.machine.specs.Strings.{mk, fine, spoilt, whole, begin, start, one, two, lines0, body, done, onBody, plain_byte, scan}
+use Rattle.machine.specs.Strings.{mk, fine, spoilt, whole, begin, start, one, two, lines0, body, done, on_body, plain_byte, scan}
 use Rattle.items.specs.declared.string_part.Part.{Part}
 use Rattle.items.specs.declared.string_part.Part.TheVariants.{Closed}
-use Rattle.items.specs.Between.Places.{byte_at, ranFrom, Goes}
+use Rattle.items.specs.Between.Places.{byte_at, ran_from, Goes}
 use Rattle.items.specs.Between.StringPart.{plain, Passed, Read, Blamed, Stopped, marked, Earlier, Says, InnerSays, OneSays, ThreeSays, PartSays}
-use Rattle.items.proofs.PlacesLaws.{byte-in, byte-out, go, halt, like, end, breaks-by, stops-by}
-use Rattle.items.proofs.StoreLaws.{sets-app}
+use Rattle.items.proofs.PlacesLaws.{byte_in, byte_out, go, halt, like, end, breaks_by, stops_by}
+use Rattle.items.proofs.StoreLaws.{sets_app}
 
 -- ---- plain bytes
 
@@ -31,17 +31,17 @@ pub record Passing (s : List ℕ) (q i j : ℕ) : Type 0 where
   pub behind : i ≤ j
   pub within : j ≤ length s
 
-pub plain-slash : (q b : ℕ) → b ≡ ch "\\" → plain q b ≡ false
+pub plain_slash : (q b : ℕ) → b ≡ ch "\\" → plain q b ≡ false
 unfolding plain
-plain-slash q b e = simp (eq-eqb _ _ e)
+plain_slash q b e = simp (eq-eqb _ _ e)
 
-pub plain-quote : (q b : ℕ) → (b ≡ ch "\\" → ⊥) → b ≡ q → plain q b ≡ false
+pub plain_quote : (q b : ℕ) → (b ≡ ch "\\" → ⊥) → b ≡ q → plain q b ≡ false
 unfolding plain
-plain-quote q b n e = simp (ne_eqb _ _ n, eq-eqb _ _ e)
+plain_quote q b n e = simp (ne_eqb _ _ n, eq-eqb _ _ e)
 
-pub plain-low : (q b : ℕ) → (b ≡ ch "\\" → ⊥) → (b ≡ q → ⊥) → b < 0x20 → plain q b ≡ false
+pub plain_low : (q b : ℕ) → (b ≡ ch "\\" → ⊥) → (b ≡ q → ⊥) → b < 0x20 → plain q b ≡ false
 unfolding plain plain_byte
-plain-low q b n m e = simp (ne_eqb _ _ n, ne_eqb _ _ m, lt-ltb _ _ e)
+plain_low q b n m e = simp (ne_eqb _ _ n, ne_eqb _ _ m, lt-ltb _ _ e)
 
 plain_over : (q : ℕ) → plain q over ≡ false
 unfolding plain plain_byte
@@ -52,17 +52,17 @@ plain_over q = by (eqb over q)
     by false = refl
 
 module _ (s : List ℕ) (q from : ℕ) where
-  pub pass-none : from ≤ length s → Passing s q from from
-  pass-none h = record {
+  pub pass_none : from ≤ length s → Passing s q from from
+  pass_none h = record {
     goes = λ base bad acc. let z : from - from ≡ 0 = omega arith in rw (z, append-nil);
     behind = omega arith;
     within = h;
   }
 
   module _ (at : ℕ) (t : Passing s q from at) where
-    pub pass-more : at < length s → (get_or s at 0 ≡ ch "\\" → ⊥) → (get_or s at 0 ≡ q → ⊥) → 0x20 ≤ get_or s at 0 → get_or s at 0 < over → Passing s q from (at + 1)
-    unfolding scan onBody plain_byte
-    pass-more h a b c d =
+    pub pass_more : at < length s → (get_or s at 0 ≡ ch "\\" → ⊥) → (get_or s at 0 ≡ q → ⊥) → 0x20 ≤ get_or s at 0 → get_or s at 0 < over → Passing s q from (at + 1)
+    unfolding scan on_body plain_byte
+    pass_more h a b c d =
         let n : at + 1 - from ≡ suc (at - from) = omega (arith, t.behind) in
         let m : from + (at - from) ≡ at = omega (arith, t.behind) in
         let k : at - from < length (drop from s) = simp length-drop (omega (arith, t.behind)) in
@@ -74,16 +74,16 @@ module _ (s : List ℕ) (q from : ℕ) where
           within = omega arith;
         }
 
-    pub pass-stop : at < length s → plain q (get_or s at 0) ≡ false → Passed s q from at
-    pass-stop h e = record { goes = t.goes; behind = t.behind; within = t.within; stopped = rw (byte-in s at h) e }
+    pub pass_stop : at < length s → plain q (get_or s at 0) ≡ false → Passed s q from at
+    pass_stop h e = record { goes = t.goes; behind = t.behind; within = t.within; stopped = rw (byte_in s at h) e }
 
-    pub pass-end : length s ≤ at → Passed s q from at
-    pass-end h = record { goes = t.goes; behind = t.behind; within = t.within; stopped = rw (byte-out s at h) (plain_over q) }
+    pub pass_end : length s ≤ at → Passed s q from at
+    pass_end h = record { goes = t.goes; behind = t.behind; within = t.within; stopped = rw (byte_out s at h) (plain_over q) }
 
 -- ---- the first bad escape
 
-pub first-none : (at : ℕ) → Earlier 0 at at
-first-none at = record { marks = λ base. by base at; low = λ n g h. h }
+pub first_none : (at : ℕ) → Earlier 0 at at
+first_none at = record { marks = λ base. by base at; low = λ n g h. h }
   where
     by : (base at : ℕ) → 0 < at → marked base at ≡ spoilt (base + at)
     by base zero h = absurd (omega arith)
@@ -106,8 +106,8 @@ pub record Round (s : List ℕ) (q at : ℕ) (entry store : List ℕ) (i out bad
   pub within : i ≤ length s
   pub low : bad ≤ i
 
-pub round-start : (s : List ℕ) (q at : ℕ) (entry : List ℕ) → 0 < length s → Round s q at entry entry 1 at 0
-round-start s q at entry h = record {
+pub round_start : (s : List ℕ) (q at : ℕ) (entry : List ℕ) → 0 < length s → Round s q at entry entry 1 at 0
+round_start s q at entry h = record {
   acc = [];
   goes = λ base. refl;
   stored = refl;
@@ -119,13 +119,13 @@ round-start s q at entry h = record {
 }
 
 module _ {s : List ℕ} {q at : ℕ} {entry store : List ℕ} {i out bad : ℕ} (t : Round s q at entry store i out bad) where
-  pub round-plain : {e : ℕ} → Passed s q i e → {new : List ℕ} → new ≡ sets store out (take (e - i) (drop i s)) → Round s q at entry new e (out + (e - i)) bad
-  round-plain {e} p w =
+  pub round_plain : {e : ℕ} → Passed s q i e → {new : List ℕ} → new ≡ sets store out (take (e - i) (drop i s)) → Round s q at entry new e (out + (e - i)) bad
+  round_plain {e} p w =
       let n : length (take (e - i) (drop i s)) ≡ e - i = simp (length-take, length-drop) (omega (arith, p.within)) in
       record {
         acc = t.acc ++ take (e - i) (drop i s);
         goes = λ base. t.goes base ∙ p.goes base (marked base bad) t.acc;
-        stored = w ∙ cc (t.stored, t.counted, sets-app entry at t.acc (take (e - i) (drop i s)));
+        stored = w ∙ cc (t.stored, t.counted, sets_app entry at t.acc (take (e - i) (drop i s)));
         counted = simp length-append (omega (arith, n, t.counted));
         room = omega (arith, t.room, p.behind);
         past = omega (arith, t.past, p.behind);
@@ -133,21 +133,21 @@ module _ {s : List ℕ} {q at : ℕ} {entry store : List ℕ} {i out bad : ℕ} 
         low = omega (arith, t.low, p.behind);
       }
 
-  pub round-stop : q < over → {p : ℕ} → Stopped s i p → InnerSays s q at entry store (Part.NotGrammar p)
-  round-stop small f = (λ base. t.goes base ∙ f.ends base q small (marked base bad) t.acc, f.within)
+  pub round_stop : q < over → {p : ℕ} → Stopped s i p → InnerSays s q at entry store (Part.NotGrammar p)
+  round_stop small f = (λ base. t.goes base ∙ f.ends base q small (marked base bad) t.acc, f.within)
 
-  pub round-end : q < over → length s ≤ i → InnerSays s q at entry store (Part.NotGrammar i)
-  unfolding scan onBody plain_byte
-  round-end small h = (
+  pub round_end : q < over → length s ≤ i → InnerSays s q at entry store (Part.NotGrammar i)
+  unfolding scan on_body plain_byte
+  round_end small h = (
     λ base. t.goes base ∙ end scan base s (body (mk q (marked base bad) whole t.acc)) (NotGrammar (base + i)) i h
         (let n : over ≡ q → ⊥ = λ e. omega arith in simp (ne_eqb over q n)),
     t.within,
   )
 
-  pub round-lone : {next : ℕ} → Blamed s i next → {b : ℕ} → Earlier bad i b → Round s q at entry store next out b
-  round-lone {next} u e = record {
+  pub round_lone : {next : ℕ} → Blamed s i next → {b : ℕ} → Earlier bad i b → Round s q at entry store next out b
+  round_lone {next} u e = record {
     acc = t.acc;
-    goes = λ base. t.goes base ∙ u.goes base q (marked base bad) t.acc ∙ ap (λ (x : S.Bad). ranFrom scan base s (body (mk q x whole t.acc)) next)
+    goes = λ base. t.goes base ∙ u.goes base q (marked base bad) t.acc ∙ ap (λ (x : S.Bad). ran_from scan base s (body (mk q x whole t.acc)) next)
         (sym (e.marks base t.past));
     stored = t.stored;
     counted = t.counted;
@@ -157,12 +157,12 @@ module _ {s : List ℕ} {q at : ℕ} {entry store : List ℕ} {i out bad : ℕ} 
     low = e.low next (omega (arith, t.low, u.past)) (omega (arith, u.past));
   }
 
-  pub round-char : {next c : ℕ} → Read s i next c → {o : ℕ} → o ≡ out + length (encode c) → {new : List ℕ} → new ≡ sets store out (encode c)
+  pub round_char : {next c : ℕ} → Read s i next c → {o : ℕ} → o ≡ out + length (encode c) → {new : List ℕ} → new ≡ sets store out (encode c)
       → Round s q at entry new next o bad
-  round-char {c = c} u f w = record {
+  round_char {c = c} u f w = record {
     acc = t.acc ++ encode c;
     goes = λ base. t.goes base ∙ u.goes base q (marked base bad) t.acc;
-    stored = w ∙ cc (t.stored, t.counted, sets-app entry at t.acc (encode c));
+    stored = w ∙ cc (t.stored, t.counted, sets_app entry at t.acc (encode c));
     counted = simp length-append (omega (arith, t.counted));
     room = omega (arith, t.room, u.room);
     past = omega (arith, u.past);
@@ -171,10 +171,10 @@ module _ {s : List ℕ} {q at : ℕ} {entry store : List ℕ} {i out bad : ℕ} 
   }
 
   module _ (h : i < length s) (n : get_or s i 0 ≡ ch "\\" → ⊥) where
-    pub round-wrong : plain q (byte_at s i) ≡ false → (get_or s i 0 ≡ q → ⊥) → InnerSays s q at entry store (Part.NotGrammar i)
-    unfolding scan onBody plain
-    round-wrong e m =
-        let f : plain_byte (get_or s i 0) ≡ false = simp (byte-in s i h, ne_eqb _ _ n, ne_eqb _ _ m) at e in (
+    pub round_wrong : plain q (byte_at s i) ≡ false → (get_or s i 0 ≡ q → ⊥) → InnerSays s q at entry store (Part.NotGrammar i)
+    unfolding scan on_body plain
+    round_wrong e m =
+        let f : plain_byte (get_or s i 0) ≡ false = simp (byte_in s i h, ne_eqb _ _ n, ne_eqb _ _ m) at e in (
           λ base. t.goes base ∙ halt scan base s (body (mk q (marked base bad) whole t.acc)) (NotGrammar (base + i)) i h
               (simp (ne_eqb _ _ n, ne_eqb _ _ m, f)),
           t.within,
@@ -182,14 +182,14 @@ module _ {s : List ℕ} {q at : ℕ} {entry store : List ℕ} {i out bad : ℕ} 
 
     module _ (e : get_or s i 0 ≡ q) where
       shut : (base : ℕ) → Goes scan base s (body (mk q fine whole [])) 1 (done (mk q (marked base bad) whole t.acc)) (i + 1)
-      unfolding scan onBody
+      unfolding scan on_body
       shut base = t.goes base ∙ go scan base s (body (mk q (marked base bad) whole t.acc)) (done (mk q (marked base bad) whole t.acc)) i (i + 1) h refl
           (simp (ne_eqb _ _ n, eq-eqb _ _ e))
 
-      pub round-bad : (bad ≡ 0 → ⊥) → InnerSays s q at entry store (Part.BadEscape bad)
+      pub round_bad : (bad ≡ 0 → ⊥) → InnerSays s q at entry store (Part.BadEscape bad)
       unfolding scan
-      round-bad z = (
-        λ base. shut base ∙ breaks-by scan base s (done (mk q (marked base bad) whole t.acc)) (BadEscape (base + bad)) (i + 1) (by base bad z),
+      round_bad z = (
+        λ base. shut base ∙ breaks_by scan base s (done (mk q (marked base bad) whole t.acc)) (BadEscape (base + bad)) (i + 1) (by base bad z),
         omega (arith, t.low, t.within),
       )
         where
@@ -197,11 +197,11 @@ module _ {s : List ℕ} {q at : ℕ} {entry store : List ℕ} {i out bad : ℕ} 
           by base zero z = absurd (z refl)
           by base (suc b) z = refl
 
-      pub round-close : bad ≡ 0 → InnerSays s q at entry store (Closed (out - at) (i + 1))
+      pub round_close : bad ≡ 0 → InnerSays s q at entry store (Closed (out - at) (i + 1))
       unfolding scan
-      round-close z = record {
+      round_close z = record {
         value = t.acc;
-        runs = λ base. shut base ∙ stops-by scan base s (done (mk q (marked base bad) whole t.acc)) t.acc (i + 1) (rw z);
+        runs = λ base. shut base ∙ stops_by scan base s (done (mk q (marked base bad) whole t.acc)) t.acc (i + 1) (rw z);
         counted = omega (arith, t.counted);
         stored = t.stored;
         within = omega arith;
@@ -211,9 +211,9 @@ module _ {s : List ℕ} {q at : ℕ} {entry store : List ℕ} {i out bad : ℕ} 
 -- ---- how a part opens
 
 -- what is said of one run is said of an equal one
-pub says-as : (n at : ℕ) (entry exit : List ℕ) (R Q : ℕ → Ran (List ℕ)) → ((base : ℕ) → R base ≡ Q base) → (r : Part) → Says Q n at entry exit r
+pub says_as : (n at : ℕ) (entry exit : List ℕ) (R Q : ℕ → Ran (List ℕ)) → ((base : ℕ) → R base ≡ Q base) → (r : Part) → Says Q n at entry exit r
     → Says R n at entry exit r
-says-as n at entry exit R Q e (Closed bytes taken) t = record {
+says_as n at entry exit R Q e (Closed bytes taken) t = record {
   value = t.value;
   runs = λ base. e base ∙ t.runs base;
   counted = t.counted;
@@ -221,21 +221,21 @@ says-as n at entry exit R Q e (Closed bytes taken) t = record {
   within = t.within;
   fewer = t.fewer;
 }
-says-as n at entry exit R Q e (Part.BadEscape p) t = (λ base. e base ∙ t.0 base, t.1)
-says-as n at entry exit R Q e (Part.NotGrammar p) t = (λ base. e base ∙ t.0 base, t.1)
+says_as n at entry exit R Q e (Part.BadEscape p) t = (λ base. e base ∙ t.0 base, t.1)
+says_as n at entry exit R Q e (Part.NotGrammar p) t = (λ base. e base ∙ t.0 base, t.1)
 
 module _ (s : List ℕ) (at : ℕ) (entry : List ℕ) where
-  at_zero : (base : ℕ) → ran scan base begin s ≡ ranFrom scan base s start 0
+  at_zero : (base : ℕ) → ran scan base begin s ≡ ran_from scan base s start 0
   at_zero base = ap (λ (p : ℕ). ran scan p start s) (sym (add-zero base))
 
-  pub says-empty : length s ≡ 0 → PartSays s at entry entry (Part.NotGrammar 0)
+  pub says_empty : length s ≡ 0 → PartSays s at entry entry (Part.NotGrammar 0)
   unfolding scan
-  says-empty h = (λ base. at_zero base ∙ end scan base s start (NotGrammar (base + 0)) 0 (omega arith) refl, omega arith)
+  says_empty h = (λ base. at_zero base ∙ end scan base s start (NotGrammar (base + 0)) 0 (omega arith) refl, omega arith)
 
   module _ (h0 : length s ≡ 0 → ⊥) where
-    pub says-unopened : (get_or s 0 0 ≡ ch "\"" → ⊥) → (get_or s 0 0 ≡ ch "'" → ⊥) → PartSays s at entry entry (Part.NotGrammar 0)
+    pub says_unopened : (get_or s 0 0 ≡ ch "\"" → ⊥) → (get_or s 0 0 ≡ ch "'" → ⊥) → PartSays s at entry entry (Part.NotGrammar 0)
     unfolding scan
-    says-unopened n m = (λ base. at_zero base ∙ halt scan base s start (NotGrammar (base + 0)) 0 (omega arith) (simp (ne_eqb _ _ n, ne_eqb _ _ m)), omega arith)
+    says_unopened n m = (λ base. at_zero base ∙ halt scan base s start (NotGrammar (base + 0)) 0 (omega arith) (simp (ne_eqb _ _ n, ne_eqb _ _ m)), omega arith)
 
     opens : (q : ℕ) → get_or s 0 0 ≡ q → (q ≡ ch "\"") ⊎ (q ≡ ch "'") → (base : ℕ) → Goes scan base s start 0 (one q) 1
     unfolding scan
@@ -243,50 +243,50 @@ module _ (s : List ℕ) (at : ℕ) (entry : List ℕ) where
     opens q e (inr f) base = go scan base s start (one q) 0 1 (omega arith) refl
         (let n : get_or s 0 0 ≡ ch "\"" → ⊥ = λ x. omega arith in simp (ne_eqb _ _ n, eq-eqb _ _ (e ∙ f)) (cc))
 
-    pub says-opened : (q : ℕ) → get_or s 0 0 ≡ q → (q ≡ ch "\"") ⊎ (q ≡ ch "'") → (exit : List ℕ) (r : Part) → OneSays s q at entry exit r
+    pub says_opened : (q : ℕ) → get_or s 0 0 ≡ q → (q ≡ ch "\"") ⊎ (q ≡ ch "'") → (exit : List ℕ) (r : Part) → OneSays s q at entry exit r
         → PartSays s at entry exit r
-    says-opened q e f exit r t = says-as (length s) at entry exit (λ base. ran scan base begin s) (λ base. ranFrom scan base s (one q) 1)
+    says_opened q e f exit r t = says_as (length s) at entry exit (λ base. ran scan base begin s) (λ base. ran_from scan base s (one q) 1)
         (λ base. at_zero base ∙ opens q e f base) r t
 
   module _ (q : ℕ) (small : q < over) (h0 : 0 < length s) where
     pub one_end : length s < 2 → OneSays s q at entry entry (Part.NotGrammar 1)
-    unfolding scan onBody plain_byte
+    unfolding scan on_body plain_byte
     one_end h = (
       λ base. end scan base s (one q) (NotGrammar (base + 1)) 1 (omega arith) (let n : over ≡ q → ⊥ = λ e. omega arith in simp (ne_eqb over q n)),
       omega arith,
     )
 
     module _ (h1 : 2 ≤ length s) where
-      pub one-body : (get_or s 1 0 ≡ q → ⊥) → (exit : List ℕ) (r : Part) → InnerSays s q at entry exit r → OneSays s q at entry exit r
+      pub one_body : (get_or s 1 0 ≡ q → ⊥) → (exit : List ℕ) (r : Part) → InnerSays s q at entry exit r → OneSays s q at entry exit r
       unfolding scan
-      one-body n exit r t = says-as (length s) at entry exit (λ base. ranFrom scan base s (one q) 1) (λ base. ranFrom scan base s (body (mk q fine whole [])) 1)
+      one_body n exit r t = says_as (length s) at entry exit (λ base. ran_from scan base s (one q) 1) (λ base. ran_from scan base s (body (mk q fine whole [])) 1)
           (λ base. like scan base s (one q) (body (mk q fine whole [])) 1 (omega arith) (simp (ne_eqb _ _ n))) r t
 
       module _ (e1 : get_or s 1 0 ≡ q) where
-        to-two : (base : ℕ) → Goes scan base s (one q) 1 (two q) 2
+        to_two : (base : ℕ) → Goes scan base s (one q) 1 (two q) 2
         unfolding scan
-        to-two base = go scan base s (one q) (two q) 1 2 (omega arith) refl (simp (eq-eqb _ _ e1))
+        to_two base = go scan base s (one q) (two q) 1 2 (omega arith) refl (simp (eq-eqb _ _ e1))
 
         empty : ((base : ℕ) → scan (base + 2) (two q) (byte_at s 2) ≡ stops []) → OneSays s q at entry entry (Closed 0 2)
         empty f = record {
           value = [];
-          runs = λ base. to-two base ∙ stops-by scan base s (two q) [] 2 (f base);
+          runs = λ base. to_two base ∙ stops_by scan base s (two q) [] 2 (f base);
           counted = refl;
           stored = refl;
           within = omega arith;
           fewer = omega arith;
         }
 
-        pub two-end : length s < 3 → OneSays s q at entry entry (Closed 0 2)
+        pub two_end : length s < 3 → OneSays s q at entry entry (Closed 0 2)
         unfolding scan
-        two-end h = let n : over ≡ q → ⊥ = λ e. omega arith in empty (λ base. rw (byte-out s 2 (omega arith)) (simp (ne_eqb over q n)))
+        two_end h = let n : over ≡ q → ⊥ = λ e. omega arith in empty (λ base. rw (byte_out s 2 (omega arith)) (simp (ne_eqb over q n)))
 
         module _ (h2 : 3 ≤ length s) where
-          pub two-other : (get_or s 2 0 ≡ q → ⊥) → OneSays s q at entry entry (Closed 0 2)
+          pub two_other : (get_or s 2 0 ≡ q → ⊥) → OneSays s q at entry entry (Closed 0 2)
           unfolding scan
-          two-other n = empty (λ base. rw (byte-in s 2 (omega arith)) (simp (ne_eqb _ _ n)))
+          two_other n = empty (λ base. rw (byte_in s 2 (omega arith)) (simp (ne_eqb _ _ n)))
 
-          pub two-three : get_or s 2 0 ≡ q → (exit : List ℕ) (r : Part) → ThreeSays s q at entry exit r → OneSays s q at entry exit r
+          pub two_three : get_or s 2 0 ≡ q → (exit : List ℕ) (r : Part) → ThreeSays s q at entry exit r → OneSays s q at entry exit r
           unfolding scan
-          two-three e exit r t = says-as (length s) at entry exit (λ base. ranFrom scan base s (one q) 1) (λ base. ranFrom scan base s (lines0 q) 3)
-              (λ base. to-two base ∙ go scan base s (two q) (lines0 q) 2 3 (omega arith) refl (simp (eq-eqb _ _ e))) r t
+          two_three e exit r t = says_as (length s) at entry exit (λ base. ran_from scan base s (one q) 1) (λ base. ran_from scan base s (lines0 q) 3)
+              (λ base. to_two base ∙ go scan base s (two q) (lines0 q) 2 3 (omega arith) refl (simp (eq-eqb _ _ e))) r t

@@ -1,8 +1,8 @@
 // A binary part: a dollar with nothing, a quoted form, or hex pairs with dots between.
 ghost use Rattle.std.specs.Prelude.{◌≡◌, ◌+◌, ◌≤◌, ◌<◌, length, get_or};
 ghost use Rattle.meaning.specs.Letters.{ch};
-ghost use Rattle.machine.specs.Strings.{noDigit};
-ghost use Rattle.items.specs.Between.Places.{digitAt};
+ghost use Rattle.machine.specs.Strings.{no_digit};
+ghost use Rattle.items.specs.Between.Places.{digit_at};
 ghost use Rattle.items.specs.Between.BinaryPart.{PairSays, EscapeSays, OneByteSays, PairsSays, TextSays, PieceSays};
 
 use crate::{hex_digit, store};
@@ -51,7 +51,7 @@ fn after_pair(text: &[u8], at: usize) -> Pair
 
 // Hex pairs, from the first digit on.
 fn pairs(text: &[u8], from: usize, store: &mut [u8], start: usize) -> Piece
-    requires { (from < length text.now) × (start ≤ from) × (digitAt text.now from < noDigit) }
+    requires { (from < length text.now) × (start ≤ from) × (digit_at text.now from < no_digit) }
     ensures { PairsSays text.now from start store.old store.new result }
 {
     let mut i = from;

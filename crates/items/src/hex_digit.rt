@@ -1,11 +1,11 @@
 // Hexadecimal digits and short escapes, as strings, binary and numbers share them.
 ghost use Rattle.std.specs.Prelude.{◌≡◌};
-ghost use Rattle.machine.specs.Strings.{hexOf, short_of};
-ghost use Rattle.items.specs.Between.Places.{digitAt};
+ghost use Rattle.machine.specs.Strings.{hex_of, short_of};
+ghost use Rattle.items.specs.Between.Places.{digit_at};
 
 // The value of a hexadecimal digit, or 16.
 pub fn hex(b: u8) -> u8
-    ensures { result ≡ hexOf b }
+    ensures { result ≡ hex_of b }
 {
     if b < b'0' {
         return 16;
@@ -30,7 +30,7 @@ pub fn hex(b: u8) -> u8
 
 // The digit at a place; 16 where there is none.
 pub fn digit(text: &[u8], at: usize) -> u8
-    ensures { result ≡ digitAt text.now at }
+    ensures { result ≡ digit_at text.now at }
 {
     if at < text.len() {
         return hex(text[at]);

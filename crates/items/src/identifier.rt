@@ -1,7 +1,7 @@
 // Identifiers: the sort of a byte in one, and where it ends.
 ghost use Rattle.std.specs.Prelude.{◌≡◌, ◌≤◌, length};
 ghost use Rattle.machine.specs.Names.{class_of};
-ghost use Rattle.items.specs.Between.Identifier.{sortIs, NameEnds};
+ghost use Rattle.items.specs.Between.Identifier.{sort_is, NameEnds};
 
 // A byte in an identifier.
 #[derive(Drop)]
@@ -13,7 +13,7 @@ pub enum Sort {
 
 // The sort of a byte; `$` and `_` count as letters.
 pub fn sort_of(b: u8) -> Sort
-    ensures { class_of b ≡ sortIs result }
+    ensures { class_of b ≡ sort_is result }
 {
     if b < b'$' {
         return Sort::Neither;

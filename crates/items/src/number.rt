@@ -1,6 +1,6 @@
 // Decimal and hexadecimal numbers. The digits are streamed: a coefficient that does not end in 0, and a count of zeros after it.
 ghost use Rattle.std.specs.Prelude.{◌≡◌, ℕ, ◌+◌, ◌*◌, ◌^◌, ◌≤◌, ◌<◌, length};
-ghost use Rattle.meaning.specs.Limits.{textLimit, powerLimit};
+ghost use Rattle.meaning.specs.Limits.{text_limit, power_limit};
 ghost use Rattle.meaning.specs.declared.Number.TheVariants as Number;
 ghost use Rattle.grammar.specs.Times.{signed};
 ghost use Rattle.machine.specs.Numeric as Numeric;
@@ -8,7 +8,7 @@ ghost use Rattle.machine.specs.Numeric.{dig};
 ghost use Rattle.items.specs.declared.Item.TheVariants as Item;
 ghost use Rattle.items.specs.declared.Scanned.TheVariants as Scanned;
 ghost use Rattle.items.specs.Between.NumberOrTime.{Reads, IsDigit, Place, Edge, Holds, Shifted, Digited, Capped};
-ghost use Rattle.items.specs.Between.NumberOrTime.{pushed, raisedBy, Powered, Ready, From, Settles, PlainSays, EndsSays, Hexed};
+ghost use Rattle.items.specs.Between.NumberOrTime.{pushed, raised_by, Powered, Ready, From, Settles, PlainSays, EndsSays, Hexed};
 
 use crate::{Item, Scanned, hex_digit};
 use meaning::{COEFFICIENT_MOST, Number, POWER_LIMIT, Refusal};
@@ -104,7 +104,7 @@ fn shift(c: u64, k: usize) -> Coef
 
 // One more digit.
 pub fn push(a: Acc, b: u8) -> Acc
-    requires { IsDigit b × (a.z ≤ textLimit) }
+    requires { IsDigit b × (a.z ≤ text_limit) }
     ensures within { result.z ≤ a.z + 1 }
     ensures holds { (m : ℕ) → Holds m a → Holds (dig m b) result }
     ensures told { result ≡ pushed a b }
@@ -161,7 +161,7 @@ pub fn raise(e: usize, b: u8) -> usize
     requires { IsDigit b × (e < 10000000000) }
     ensures small { result < 10000000000 }
     ensures capped { (w : ℕ) → Capped w e → Capped (dig w b) result }
-    ensures told { result ≡ raisedBy e b }
+    ensures told { result ≡ raised_by e b }
 {
     if e < EXACT {
         return e * 10 + (b - b'0') as usize;
@@ -192,7 +192,7 @@ fn exp_digits(s: &[u8], from: usize) -> Power
 
 // A magnitude with its sign.
 fn with_sign(minus: bool, m: usize) -> i32
-    requires { m ≤ powerLimit }
+    requires { m ≤ power_limit }
     ensures { result ≡ signed minus m }
 {
     let x = m as i32;
@@ -215,7 +215,7 @@ fn finite(g: bool, c: u64, power: i32, at: usize) -> Scanned
 
 // The number whose first byte is at q, with its last digit before `at`: the digits times 10^up / 10^dn.
 fn settle(q: usize, g: bool, a: Acc, up: usize, dn: usize, at: usize) -> Scanned
-    requires { (a.z ≤ textLimit) × (up < 2 ^ 40) × (dn < 2 ^ 40) }
+    requires { (a.z ≤ text_limit) × (up < 2 ^ 40) × (dn < 2 ^ 40) }
     ensures { Settles q g a up dn at result }
 {
     if a.over {
@@ -242,7 +242,7 @@ fn settle(q: usize, g: bool, a: Acc, up: usize, dn: usize, at: usize) -> Scanned
 // An exponent's digits, after its sign.
 fn raised(s: &[u8], q: usize, g: bool, a: Acc, f: usize, minus: bool, k: usize) -> Scanned
     requires { Ready s.now a f k }
-    ensures { From s.now a k (λ m. Numeric.expSign q g m f minus) result }
+    ensures { From s.now a k (λ m. Numeric.exp_sign q g m f minus) result }
 {
     if k >= s.len() {
         return Scanned::Refused(Refusal::NotGrammar(k));
@@ -468,7 +468,7 @@ fn hex_digits(s: &[u8], from: usize) -> Hex
 // A hexadecimal number, after its mark. It must itself be below 2^64.
 pub fn hexadecimal(s: &[u8], q: usize, g: bool, from: usize) -> Scanned
     requires { Place s.now from }
-    ensures { Reads s.now from (Numeric.hexMark q g) result }
+    ensures { Reads s.now from (Numeric.hex_mark q g) result }
 {
     if 16 <= hex_digit::digit(s, from) {
         return Scanned::Refused(Refusal::NotGrammar(from));

@@ -1,6 +1,6 @@
 // A number or a time value. Digits with no sign stay open as both while both are possible.
 ghost use Rattle.std.specs.Prelude.{◌≤◌, ◌<◌, length};
-ghost use Rattle.meaning.specs.Limits.{textLimit};
+ghost use Rattle.meaning.specs.Limits.{text_limit};
 ghost use Rattle.machine.specs.Numeric as Numeric;
 ghost use Rattle.items.specs.Between.NumberOrTime.{NumericSays, Reads, Place, Edge, AtDigit, FewSays, LeadSays, Marks, Plainly, TimelySays};
 
@@ -200,7 +200,7 @@ fn named(s: &[u8], from: usize, spelt: &[u8], n: Number) -> Scanned
 
 // A number at i that begins with no digit: a point or a word, g its sign.
 fn undigited(s: &[u8], q: usize, g: bool, i: usize) -> Scanned
-    requires { (i < length s.now) × (length s.now ≤ textLimit) × Edge s.now i }
+    requires { (i < length s.now) × (length s.now ≤ text_limit) × Edge s.now i }
     ensures { Reads s.now i (Numeric.sign q g) result }
 {
     let b = s[i];
@@ -239,7 +239,7 @@ fn signed(s: &[u8], q: usize, g: bool, i: usize) -> Scanned
 
 // A number or a time value, where its first byte is at q.
 pub fn numeric(s: &[u8], q: usize) -> Scanned
-    requires { (q < length s.now) × (length s.now ≤ textLimit) }
+    requires { (q < length s.now) × (length s.now ≤ text_limit) }
     ensures { NumericSays s.now q result }
 {
     let b = s[q];

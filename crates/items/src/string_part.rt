@@ -1,8 +1,8 @@
 // A string part, judged on its own from its opening quote: every place here counts from that quote.
 ghost use Rattle.std.specs.Prelude.{◌≡◌, ℕ, ◌+◌, ◌≤◌, ◌<◌, ◌^◌, length, get_or};
 ghost use Rattle.meaning.specs.Letters.{ch};
-ghost use Rattle.machine.specs.Strings.{lineByte};
-ghost use Rattle.items.specs.Between.StringPart.{EscapeSays, Halved, Grown, grownTo, CharSays, gap, BlockSays, Passed, Earlier};
+ghost use Rattle.machine.specs.Strings.{line_byte};
+ghost use Rattle.items.specs.Between.StringPart.{EscapeSays, Halved, Grown, grown_to, CharSays, gap, BlockSays, Passed, Earlier};
 ghost use Rattle.items.specs.Between.StringPart.{InnerSays, OneSays, ThreeSays, PartSays, Begun, LinesSays};
 
 use crate::{hex_digit, store};
@@ -71,7 +71,7 @@ fn four(s: &[u8], at: usize) -> Escape
 pub fn grown(v: u32, d: u32) -> u32
     requires { d < 16 }
     ensures grown { Grown v d result }
-    ensures told { result ≡ grownTo v d }
+    ensures told { result ≡ grown_to v d }
 {
     if v < 0x110000 {
         return 16 * v + d;
@@ -374,7 +374,7 @@ pub fn lines_start(s: &[u8]) -> usize
 
 // Whether a byte may stand in a multiline part.
 pub fn line_byte(b: u8) -> bool
-    ensures { result ≡ lineByte b }
+    ensures { result ≡ line_byte b }
 {
     if 0x20 <= b {
         return true;

@@ -1,7 +1,7 @@
 // Time values. The check of one is made at its end, and gives 5 at its first byte, q.
 ghost use Rattle.std.specs.Prelude.{◌≡◌, ◌&&◌, ◌⊎◌, ◌+◌, ◌*◌, ◌^◌, ◌<◌};
 ghost use Rattle.rules.specs.Between.Tests.{Decides};
-ghost use Rattle.meaning.specs.Clock.{timeOfDay};
+ghost use Rattle.meaning.specs.Clock.{time_of_day};
 ghost use Rattle.meaning.specs.declared.Time.TheVariants as Time;
 ghost use Rattle.grammar.specs.Times.{signed};
 ghost use Rattle.machine.specs.Numeric as Numeric;
@@ -9,7 +9,7 @@ ghost use Rattle.machine.specs.Numeric.{field};
 ghost use Rattle.items.specs.declared.Item.TheVariants as Item;
 ghost use Rattle.items.specs.declared.Scanned.TheVariants as Scanned;
 ghost use Rattle.items.specs.Between.Fractions.{FractionSays};
-ghost use Rattle.items.specs.Between.NumberOrTime.{Reads, Closes, Place, TwoSays, ThenSays, whenOf, Parted, clockTest, Zoned, NanosSays};
+ghost use Rattle.items.specs.Between.NumberOrTime.{Reads, Closes, Place, TwoSays, ThenSays, when_of, Parted, clock_test, Zoned, NanosSays};
 
 use crate::{Item, Scanned};
 use meaning::{Date, FRACTION_DIGITS, Refusal, SECOND, Time};
@@ -109,7 +109,7 @@ fn two_then(s: &[u8], i: usize, mark: u8) -> Field
 
 // Whether a date is one of the calendar's.
 fn is_date(d: Date) -> bool
-    ensures { result ≡ Numeric.okDate d }
+    ensures { result ≡ Numeric.ok_date d }
 {
     match rules::date(d.year as u64, d.month as u64, d.day as u64) {
         DateAnswer::Done => true,
@@ -119,7 +119,7 @@ fn is_date(d: Date) -> bool
 
 // Whether hour, minute and second are in range.
 fn is_clock(c: Clock) -> bool
-    ensures { result ≡ clockTest c }
+    ensures { result ≡ clock_test c }
 {
     if c.hour > 23 {
         return false;
@@ -133,7 +133,7 @@ fn is_clock(c: Clock) -> bool
 // The nanoseconds since midnight.
 fn time_of_day(c: Clock) -> u64
     requires { Parted c }
-    ensures { result ≡ timeOfDay c.hour c.minute c.second c.nanos }
+    ensures { result ≡ time_of_day c.hour c.minute c.second c.nanos }
 {
     let h = c.hour as u64;
     let m = c.minute as u64;
@@ -150,7 +150,7 @@ fn time(t: Time, at: usize) -> Scanned
 
 // A date that ends before the place `at`.
 fn date_done(q: usize, d: Date, at: usize) -> Scanned
-    ensures { Closes at (Numeric.dateDone q d) result }
+    ensures { Closes at (Numeric.date_done q d) result }
 {
     if is_date(d) {
         return time(Time::LocalDate(d), at);
@@ -161,7 +161,7 @@ fn date_done(q: usize, d: Date, at: usize) -> Scanned
 // A time of day that ends before the place `at`.
 fn local_time(q: usize, c: Clock, at: usize) -> Scanned
     requires { Parted c }
-    ensures { Closes at (Numeric.clockDone q Numeric.alone c.hour c.minute c.second c.nanos) result }
+    ensures { Closes at (Numeric.clock_done q Numeric.alone c.hour c.minute c.second c.nanos) result }
 {
     if is_clock(c) {
         return time(Time::LocalTime(time_of_day(c)), at);
@@ -172,7 +172,7 @@ fn local_time(q: usize, c: Clock, at: usize) -> Scanned
 // A date and a time of day that end before the place `at`.
 fn local_date_time(q: usize, d: Date, c: Clock, at: usize) -> Scanned
     requires { Parted c }
-    ensures { Closes at (Numeric.clockDone q (Numeric.on d) c.hour c.minute c.second c.nanos) result }
+    ensures { Closes at (Numeric.clock_done q (Numeric.on d) c.hour c.minute c.second c.nanos) result }
 {
     if is_date(d) {
         if is_clock(c) {
@@ -192,8 +192,8 @@ fn local_date_time(q: usize, d: Date, c: Clock, at: usize) -> Scanned
 // The same with an offset.
 fn offset_date_time(q: usize, d: Date, c: Clock, offset: i16, at: usize) -> Scanned
     requires { Parted c }
-    ensures { Closes at (Numeric.tested q (Numeric.okDate d && clockTest c)
-        (Time.OffsetDateTime d (timeOfDay c.hour c.minute c.second c.nanos) offset)) result }
+    ensures { Closes at (Numeric.tested q (Numeric.ok_date d && clock_test c)
+        (Time.OffsetDateTime d (time_of_day c.hour c.minute c.second c.nanos) offset)) result }
 {
     if is_date(d) {
         if is_clock(c) {
@@ -223,7 +223,7 @@ fn minutes(minus: bool, hour: u8, minute: u8) -> i16
 // After an offset's hour and its colon.
 fn offset_minute(s: &[u8], q: usize, d: Date, c: Clock, minus: bool, hour: u8, i: usize) -> Scanned
     requires { Place s.now i × Parted c }
-    ensures { Reads s.now i (field q (Numeric.offsetMinute d c.hour c.minute c.second c.nanos minus hour) 2 0) result }
+    ensures { Reads s.now i (field q (Numeric.offset_minute d c.hour c.minute c.second c.nanos minus hour) 2 0) result }
 {
     match two(s, i) {
         Field::NotGrammar(p) => Scanned::Refused(Refusal::NotGrammar(p)),
@@ -242,7 +242,7 @@ fn offset_minute(s: &[u8], q: usize, d: Date, c: Clock, minus: bool, hour: u8, i
 // After an offset's sign.
 fn offset(s: &[u8], q: usize, d: Date, c: Clock, minus: bool, i: usize) -> Scanned
     requires { Place s.now i × Parted c }
-    ensures { Reads s.now i (field q (Numeric.offsetHour d c.hour c.minute c.second c.nanos minus) 2 0) result }
+    ensures { Reads s.now i (field q (Numeric.offset_hour d c.hour c.minute c.second c.nanos minus) 2 0) result }
 {
     match two_then(s, i, b':') {
         Field::NotGrammar(p) => Scanned::Refused(Refusal::NotGrammar(p)),
@@ -281,7 +281,7 @@ fn zone(s: &[u8], q: usize, d: Date, c: Clock, at: usize) -> Scanned
 // After a time of day: a local time has no offset.
 fn clocked(s: &[u8], q: usize, w: When, c: Clock, at: usize) -> Scanned
     requires { Place s.now at × Parted c }
-    ensures { Zoned s.now q (whenOf w) c at result }
+    ensures { Zoned s.now q (when_of w) c at result }
 {
     match w {
         When::Alone => local_time(q, c, at),
@@ -365,7 +365,7 @@ fn second_part(s: &[u8], at: usize) -> Fraction
 // After a second's digits.
 fn after_second(s: &[u8], q: usize, w: When, hour: u8, minute: u8, second: u8, at: usize) -> Scanned
     requires { Place s.now at }
-    ensures { Reads s.now at (field q (Numeric.second (whenOf w) hour minute) 0 second) result }
+    ensures { Reads s.now at (field q (Numeric.second (when_of w) hour minute) 0 second) result }
 {
     match second_part(s, at) {
         Fraction::NotGrammar(p) => Scanned::Refused(Refusal::NotGrammar(p)),
@@ -384,7 +384,7 @@ fn after_second(s: &[u8], q: usize, w: When, hour: u8, minute: u8, second: u8, a
 // After an hour and its colon.
 pub fn after_hour(s: &[u8], q: usize, w: When, hour: u8, i: usize) -> Scanned
     requires { Place s.now i }
-    ensures { Reads s.now i (field q (Numeric.minute (whenOf w) hour) 2 0) result }
+    ensures { Reads s.now i (field q (Numeric.minute (when_of w) hour) 2 0) result }
 {
     match two_then(s, i, b':') {
         Field::NotGrammar(p) => Scanned::Refused(Refusal::NotGrammar(p)),

@@ -2,7 +2,7 @@
 // cannot be read or written is told on standard error: no part of an input is passed off as the whole.
 ghost use Rattle.std.specs.Prelude.{◌≤◌, ◌≡◌, length};
 ghost use Rattle.writer.specs.Between.Laid.{Put};
-ghost use Rattle.jaxn.specs.Line.{refusedLine, Tells};
+ghost use Rattle.jaxn.specs.Line.{refused_line, Tells};
 ghost use Rattle.jaxn.specs.Between.Steps.{Within, Rewrites};
 
 use lanternrung::{Answer, Written};
@@ -60,7 +60,7 @@ fn rewrite(text: &[u8], out: &mut [u8]) -> Written
 // `refused N at P` and a line feed.
 fn refused_line(out: &mut [u8], number: u64, place: u64) -> usize
     requires { 53 ≤ length out.old }
-    ensures { Put (refusedLine number place) out.old out.new result }
+    ensures { Put (refused_line number place) out.old out.new result }
 {
     let a = byte_or_digit::bytes_at(out, 0, b"refused ");
     let b = byte_or_digit::decimal_at(out, a, number);

@@ -7,12 +7,12 @@ pub mod PList
 pub mod Impostors
 pub mod Exports
 pub mod Checking
-pub use Reading.{accepted, measured, is_read, refusals, repeated-key, one-refusal, one-reading, bounded, unambiguous}
+pub use Reading.{accepted, measured, is_read, refusals, repeated_key, one_refusal, one_reading, bounded, unambiguous}
 pub use Writing.{written, same_text, read_back, filed_before}
-pub use Outcomes.{untouched, one-outcome, one-outcome-utf8, one-outcome-date, one-outcome-measure, one-outcome-read, one-outcome-look, one-outcome-write-jaxn}
-pub use Outcomes.{one-outcome-write-json, one-outcome-check-start, one-outcome-check-feed, one-outcome-check-finish}
-pub use PList.{P-list, slips-hold}
+pub use Outcomes.{untouched, one_outcome, one_outcome_utf8, one_outcome_date, one_outcome_measure, one_outcome_read, one_outcome_look, one_outcome_write_jaxn}
+pub use Outcomes.{one_outcome_write_json, one_outcome_check_start, one_outcome_check_feed, one_outcome_check_finish}
+pub use PList.{PList, slips_hold}
 pub use Impostors.{impostors}
-pub use Exports.{one-outcome-c, one-outcome-c-utf8, one-outcome-c-date, one-outcome-c-measure, one-outcome-c-read, one-outcome-c-look, one-outcome-c-write-jaxn}
-pub use Exports.{one-outcome-c-write-json, one-outcome-c-check-start, one-outcome-c-check-feed, one-outcome-c-check-finish, calls-for-c}
+pub use Exports.{one_outcome_c, one_outcome_c_utf8, one_outcome_c_date, one_outcome_c_measure, one_outcome_c_read, one_outcome_c_look, one_outcome_c_write_jaxn}
+pub use Exports.{one_outcome_c_write_json, one_outcome_c_check_start, one_outcome_c_check_feed, one_outcome_c_check_finish, calls_for_c}
 pub use Checking.{checked}

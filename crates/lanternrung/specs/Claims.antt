@@ -11,17 +11,17 @@ use Rattle.meaning.specs.Bytes.{laid}
 use Rattle.meaning.specs.Canonical.{canonical}
 use Rattle.meaning.specs.Filed.{filed}
 use Rattle.meaning.specs.Good.{Good, Bytes}
-use Rattle.meaning.specs.Json.{noJson}
-use Rattle.meaning.specs.Limits.{textLimit}
+use Rattle.meaning.specs.Json.{no_json}
+use Rattle.meaning.specs.Limits.{text_limit}
 use Rattle.meaning.specs.Meaning.{Meaning}
 use Rattle.meaning.specs.Paper.{number_of}
-use Rattle.meaning.specs.Tape.{records, bytes, tapeOf, store_of, WellFormed}
+use Rattle.meaning.specs.Tape.{records, bytes, tape_of, store_of, WellFormed}
 use Rattle.grammar.specs.Values.{Loose, Text}
-use Rattle.grammar.specs.Refused.{Repeats, Text-refused}
+use Rattle.grammar.specs.Refused.{Repeats, TextRefused}
 use Rattle.tape.specs.declared.Looked.{Looked}
 use Rattle.tape.specs.Looking.{Looks}
 use Rattle.reader.specs.declared.Answer.{Answer}
-use Rattle.reader.specs.Answers.{tapeBytes, Measures, Loosely, Reads}
+use Rattle.reader.specs.Answers.{tape_bytes, Measures, Loosely, Reads}
 use Rattle.arriving.specs.declared.Check.{Check}
 use Rattle.arriving.specs.Between.Arriving.{started, fed, feds, ended, joined}
 use Rattle.writer.specs.declared.Written.{Written}
@@ -38,7 +38,7 @@ use Rattle.lanternrung.specs.Told.{CheckStartTold, CheckFeedTold, CheckFinishTol
 -- unambiguous: the grammar gives no text two meanings; one-refusal: nor two refusals
 pub record OneReading : Type 0 where
   pub meaning : {text : List ℕ} {m n : Meaning} → Text text m → Text text n → m ≡ n
-  pub refusal : {text : List ℕ} {v w : Refusal} → Text-refused text v → Text-refused text w → v ≡ w
+  pub refusal : {text : List ℕ} {v w : Refusal} → TextRefused text v → TextRefused text w → v ≡ w
 
 -- the answer is done, and not a refusal
 abbrev pub Counted : Answer → Type 0
@@ -47,14 +47,14 @@ Counted a = (r : ℕ) × (s : ℕ) × (a ≡ Answer.Counts r s)
 -- the grammar gives the text the meaning m, within the limits, and there is room for its tape and its store
 pub record Takes (text tape store : List ℕ) (m : Meaning) : Type 0 where
   pub means : Text text m
-  pub tape-room : tapeBytes m ≤ length tape
-  pub store-room : bytes m ≤ length store
+  pub tape_room : tape_bytes m ≤ length tape
+  pub store_room : bytes m ≤ length store
 
 -- the counts of m are answered; its tape and its store lie at the start of the two buffers, and the rest of each is as
 -- it was
 pub record Holds (m : Meaning) (tape store : List ℕ) (a : Answer) (tape' store' : List ℕ) : Type 0 where
   pub answer : a ≡ Answer.Counts (records m) (bytes m)
-  pub taped : tape' ≡ laid (tapeOf m) tape
+  pub taped : tape' ≡ laid (tape_of m) tape
   pub stored : store' ≡ laid (store_of m) store
 
 -- of what `read` answers and leaves: done exactly where it takes the text, and then holds its meaning
@@ -65,8 +65,8 @@ pub record Accepted (text tape store : List ℕ) (a : Answer) (tape' store' : Li
 -- the counts of m are answered: they are the sizes of its tape, sixteen bytes a record, and of its store
 pub record SizesOf (m : Meaning) (a : Answer) : Type 0 where
   pub answer : a ≡ Answer.Counts (records m) (bytes m)
-  pub tape-size : length (tapeOf m) ≡ records m * 16
-  pub store-size : length (store_of m) ≡ bytes m
+  pub tape_size : length (tape_of m) ≡ records m * 16
+  pub store_size : length (store_of m) ≡ bytes m
 
 -- of what `measure` answers
 pub record Measured (text : List ℕ) (a : Answer) : Type 0 where
@@ -86,9 +86,9 @@ OfText why = (number_of why ≤ 7) ⊎ (number_of why ≡ 15)
 -- refusals: which of 1 to 7, or 15, is given, and where; by `read` whatever is lent
 pub record Refusals : Type 0 where
   pub measure : {text : List ℕ} {a : Answer} {why : Refusal} → Measures text a
-      → (a ≡ Answer.Refused why) ↔ Text-refused text why
+      → (a ≡ Answer.Refused why) ↔ TextRefused text why
   pub read : {text tape store : List ℕ} {a : Answer} {tape' store' : List ℕ} {why : Refusal}
-      → Reads text tape store a tape' store' → OfText why → (a ≡ Answer.Refused why) ↔ Text-refused text why
+      → Reads text tape store a tape' store' → OfText why → (a ≡ Answer.Refused why) ↔ TextRefused text why
 
 -- The text has a meaning but for its keys. At p begins a key that repeats an earlier one of its object, and before p
 -- none does.
@@ -104,7 +104,7 @@ pub record RepeatedKeys : Type 0 where
       → (a ≡ Answer.Refused (Refusal.RepeatedKey p)) ↔ RepeatsFirst text p
   pub read : {text tape store : List ℕ} {a : Answer} {tape' store' : List ℕ} {p : ℕ}
       → Reads text tape store a tape' store' → (a ≡ Answer.Refused (Refusal.RepeatedKey p)) ↔ RepeatsFirst text p
-  pub none-repeats : {text : List ℕ} {m : Meaning} → Loose true text m
+  pub none_repeats : {text : List ℕ} {m : Meaning} → Loose true text m
       → ((p : ℕ) → Repeats text p → ⊥) ↔ Text text m
 
 -- bounded: for every accepted text, records and store bytes are each at most its length
@@ -125,7 +125,7 @@ Wrote a = (n : ℕ) × (a ≡ Written.Wrote n)
 
 -- the text t is within the limit, and there is room for it
 pub record Room (t out : List ℕ) : Type 0 where
-  pub short : length t ≤ textLimit
+  pub short : length t ≤ text_limit
   pub fits : length t ≤ length out
 
 -- the length of t is answered; t lies at the start of the output, and the rest is as it was
@@ -139,15 +139,15 @@ pub record WrittenJaxn (tape store out : List ℕ) (a : Written) (out' : List �
       → Prints (canonical w.meaning) out a out'
 
 pub record WrittenJson (tape store out : List ℕ) (a : Written) (out' : List ℕ) : Type 0 where
-  pub exactly : Wrote a ↔ ((w : WellFormed tape store) × (noJson w.meaning ≡ none)
+  pub exactly : Wrote a ↔ ((w : WellFormed tape store) × (no_json w.meaning ≡ none)
       × Room (canonical w.meaning) out)
-  pub then : (w : WellFormed tape store) → noJson w.meaning ≡ none → Room (canonical w.meaning) out
+  pub then : (w : WellFormed tape store) → no_json w.meaning ≡ none → Room (canonical w.meaning) out
       → Prints (canonical w.meaning) out a out'
 
 -- written: a well-formed tape and store have exactly one meaning; the writers' text is its canonical text; what `read`
 -- filled is well formed, and has the text's meaning
 pub record IsWritten : Type 0 where
-  pub one-meaning : {tape store : List ℕ} (v w : WellFormed tape store) → v.meaning ≡ w.meaning
+  pub one_meaning : {tape store : List ℕ} (v w : WellFormed tape store) → v.meaning ≡ w.meaning
   pub jaxn : {tape store out : List ℕ} {a : Written} {out' : List ℕ} → WritesJaxn tape store out a out'
       → WrittenJaxn tape store out a out'
   pub json : {tape store out : List ℕ} {a : Written} {out' : List ℕ} → WritesJson tape store out a out'
@@ -171,11 +171,11 @@ pub record Again (tape store : List ℕ) (a : Answer) (tape' store' : List ℕ) 
 -- read-back: the canonical text of a meaning within the limits is accepted, and gives the same tape and store
 pub record ReadBack : Type 0 where
   pub meaning : {m : Meaning} {tape store : List ℕ} {a : Answer} {tape' store' : List ℕ} → Good m
-      → length (canonical m) ≤ textLimit → tapeBytes m ≤ length tape → bytes m ≤ length store
+      → length (canonical m) ≤ text_limit → tape_bytes m ≤ length tape → bytes m ≤ length store
       → Reads (canonical m) tape store a tape' store' → Holds m tape store a tape' store'
   -- of an accepted text: whatever buffers are lent, to read its canonical text is to read it
   pub text : {text : List ℕ} {m : Meaning} {tape store : List ℕ} {a b : Answer} {t u s v : List ℕ} → Text text m
-      → length (canonical m) ≤ textLimit → Reads text tape store a t s → Reads (canonical m) tape store b u v
+      → length (canonical m) ≤ text_limit → Reads text tape store a t s → Reads (canonical m) tape store b u v
       → (a ≡ b) × (t ≡ u) × (s ≡ v)
   -- of what the writers wrote, read into buffers as long as the tape and the store that they wrote it from
   pub jaxn : {tape store out : List ℕ} {n : ℕ} {out' t s : List ℕ} {a : Answer} {t' s' : List ℕ}
@@ -187,13 +187,13 @@ pub record ReadBack : Type 0 where
 
 -- filed-before: the text in the old form of a meaning within the limits is accepted, with that meaning
 pub record FiledBefore : Type 0 where
-  pub means : {m : Meaning} → Good m → length (filed m) ≤ textLimit → Text (filed m) m
+  pub means : {m : Meaning} → Good m → length (filed m) ≤ text_limit → Text (filed m) m
   pub held : {m : Meaning} {tape store : List ℕ} {a : Answer} {tape' store' : List ℕ} → Good m
-      → length (filed m) ≤ textLimit → tapeBytes m ≤ length tape → bytes m ≤ length store
+      → length (filed m) ≤ text_limit → tape_bytes m ≤ length tape → bytes m ≤ length store
       → Reads (filed m) tape store a tape' store' → Holds m tape store a tape' store'
   -- whatever buffers are lent, to read it is to read the canonical text
   pub same : {m : Meaning} {tape store : List ℕ} {a b : Answer} {t u s v : List ℕ} → Good m
-      → length (filed m) ≤ textLimit → length (canonical m) ≤ textLimit → Reads (filed m) tape store a t s
+      → length (filed m) ≤ text_limit → length (canonical m) ≤ text_limit → Reads (filed m) tape store a t s
       → Reads (canonical m) tape store b u v → (a ≡ b) × (t ≡ u) × (s ≡ v)
 
 -- ---- a text in parts
@@ -204,16 +204,16 @@ pub data Came : List ℕ → Check → Type 0 where
   feed : {text : List ℕ} {c : Check} (part : List ℕ) → Came text c → Came (text ++ part) (fed c part)
 
 -- the bytes of a state, once there are enough of them
-abbrev pub stateBytes : ℕ
-stateBytes = 640
+abbrev pub state_bytes : ℕ
+state_bytes = 640
 
 -- the bytes that C keeps, after the same two calls: whatever they held before the start; and copied elsewhere
 pub data CameC : List ℕ → List ℕ → Type 0 where
-  start : {held state : List ℕ} → stateBytes ≤ length held → CheckStartTold held state → CameC [] state
+  start : {held state : List ℕ} → state_bytes ≤ length held → CheckStartTold held state → CameC [] state
   feed : {text state state' : List ℕ} (part : List ℕ) → CameC text state → CheckFeedTold state part state'
       → CameC (text ++ part) state'
-  copied : {text state other : List ℕ} → CameC text state → stateBytes ≤ length other
-      → take stateBytes other ≡ take stateBytes state → CameC text other
+  copied : {text state other : List ℕ} → CameC text state → state_bytes ≤ length other
+      → take state_bytes other ≡ take state_bytes state → CameC text other
 
 -- with 15 left out: where `measure` answers 15 the check answers counts; else both answer the same
 pub record LeftOut (a b : Answer) : Type 0 where
@@ -228,10 +228,10 @@ pub record Checked : Type 0 where
   pub finish_c : {text state : List ℕ} {r : Sizes} → CameC text state → Bytes text → CheckFinishTold state r
       → LooselyTold text r
   pub left_out : {text : List ℕ} {a b : Answer} → Measures text a → Loosely text b → LeftOut a b
-  pub start-past : {state state' : List ℕ} → CheckStartTold state state'
-      → (length state' ≡ length state) × (drop stateBytes state' ≡ drop stateBytes state)
-  pub feed-past : {state state' : List ℕ} (part : List ℕ) → CheckFeedTold state part state'
-      → (length state' ≡ length state) × (drop stateBytes state' ≡ drop stateBytes state)
+  pub start_past : {state state' : List ℕ} → CheckStartTold state state'
+      → (length state' ≡ length state) × (drop state_bytes state' ≡ drop state_bytes state)
+  pub feed_past : {state state' : List ℕ} (part : List ℕ) → CheckFeedTold state part state'
+      → (length state' ≡ length state) × (drop state_bytes state' ≡ drop state_bytes state)
 
 -- ---- every call
 
@@ -240,9 +240,9 @@ pub record Checked : Type 0 where
 pub record Untouched : Type 0 where
   pub read : {text tape store : List ℕ} {why : Refusal} {tape' store' : List ℕ}
       → Reads text tape store (Answer.Refused why) tape' store' → (tape' ≡ tape) × (store' ≡ store)
-  pub write-jaxn : {tape store out : List ℕ} {why : Refusal} {out' : List ℕ}
+  pub write_jaxn : {tape store out : List ℕ} {why : Refusal} {out' : List ℕ}
       → WritesJaxn tape store out (Written.Refused why) out' → out' ≡ out
-  pub write-json : {tape store out : List ℕ} {why : Refusal} {out' : List ℕ}
+  pub write_json : {tape store out : List ℕ} {why : Refusal} {out' : List ℕ}
       → WritesJson tape store out (Written.Refused why) out' → out' ≡ out
 
 -- what P allows is one: an answer; an answer and the bytes left in one buffer, or in two
@@ -263,11 +263,11 @@ pub record OneOutcome : Type 0 where
   pub measure : (text : List ℕ) → Single (Measures text)
   pub read : (text tape store : List ℕ) → Single₂ (Reads text tape store)
   pub look : (tape store : List ℕ) (index : ℕ) → Single (Looks tape store index)
-  pub write-jaxn : (tape store out : List ℕ) → Single₁ (WritesJaxn tape store out)
-  pub write-json : (tape store out : List ℕ) → Single₁ (WritesJson tape store out)
-  pub check-start : Single (λ (c : Check). c ≡ started)
-  pub check-feed : (c : Check) (part : List ℕ) → Single (λ (d : Check). d ≡ fed c part)
-  pub check-finish : (c : Check) → Single (λ (a : Answer). a ≡ ended c)
+  pub write_jaxn : (tape store out : List ℕ) → Single₁ (WritesJaxn tape store out)
+  pub write_json : (tape store out : List ℕ) → Single₁ (WritesJson tape store out)
+  pub check_start : Single (λ (c : Check). c ≡ started)
+  pub check_feed : (c : Check) (part : List ℕ) → Single (λ (d : Check). d ≡ fed c part)
+  pub check_finish : (c : Check) → Single (λ (a : Answer). a ≡ ended c)
 
 -- one-outcome-c-..: the same of the calls for C
 pub record OneOutcomeC : Type 0 where
@@ -276,27 +276,27 @@ pub record OneOutcomeC : Type 0 where
   pub measure : (text : List ℕ) → Single (MeasureTold text)
   pub read : (text tape store : List ℕ) → Single₂ (ReadTold text tape store)
   pub look : (tape store : List ℕ) (index : ℕ) → Single (LookTold tape store index)
-  pub write-jaxn : (tape store out : List ℕ) → Single₁ (JaxnTold tape store out)
-  pub write-json : (tape store out : List ℕ) → Single₁ (JsonTold tape store out)
-  pub check-start : (state : List ℕ) → Single (CheckStartTold state)
-  pub check-feed : (state part : List ℕ) → Single (CheckFeedTold state part)
-  pub check-finish : (state : List ℕ) → Single (CheckFinishTold state)
+  pub write_jaxn : (tape store out : List ℕ) → Single₁ (JaxnTold tape store out)
+  pub write_json : (tape store out : List ℕ) → Single₁ (JsonTold tape store out)
+  pub check_start : (state : List ℕ) → Single (CheckStartTold state)
+  pub check_feed : (state part : List ℕ) → Single (CheckFeedTold state part)
+  pub check_finish : (state : List ℕ) → Single (CheckFinishTold state)
 
 -- calls-for-c: where `refused` is 0 the library's answer is done, with these counts; where it is not, each lent buffer
 -- is as it was
 pub record CallsForC : Type 0 where
-  pub measure-done : {text : List ℕ} {r : Sizes} → MeasureTold text r → r.refused ≡ 0
+  pub measure_done : {text : List ℕ} {r : Sizes} → MeasureTold text r → r.refused ≡ 0
       → Measures text (Answer.Counts r.records r.bytes)
   pub read_done : {text tape store : List ℕ} {r : Sizes} {tape' store' : List ℕ}
       → ReadTold text tape store r tape' store' → r.refused ≡ 0
       → Reads text tape store (Answer.Counts r.records r.bytes) tape' store'
-  pub jaxn-done : {tape store out : List ℕ} {r : TextStruct} {out' : List ℕ} → JaxnTold tape store out r out'
+  pub jaxn_done : {tape store out : List ℕ} {r : TextStruct} {out' : List ℕ} → JaxnTold tape store out r out'
       → r.refused ≡ 0 → WritesJaxn tape store out (Written.Wrote r.length) out'
-  pub json-done : {tape store out : List ℕ} {r : TextStruct} {out' : List ℕ} → JsonTold tape store out r out'
+  pub json_done : {tape store out : List ℕ} {r : TextStruct} {out' : List ℕ} → JsonTold tape store out r out'
       → r.refused ≡ 0 → WritesJson tape store out (Written.Wrote r.length) out'
-  pub read-refused : {text tape store : List ℕ} {r : Sizes} {tape' store' : List ℕ}
+  pub read_refused : {text tape store : List ℕ} {r : Sizes} {tape' store' : List ℕ}
       → ReadTold text tape store r tape' store' → (r.refused ≡ 0 → ⊥) → (tape' ≡ tape) × (store' ≡ store)
-  pub jaxn-refused : {tape store out : List ℕ} {r : TextStruct} {out' : List ℕ} → JaxnTold tape store out r out'
+  pub jaxn_refused : {tape store out : List ℕ} {r : TextStruct} {out' : List ℕ} → JaxnTold tape store out r out'
       → (r.refused ≡ 0 → ⊥) → out' ≡ out
-  pub json-refused : {tape store out : List ℕ} {r : TextStruct} {out' : List ℕ} → JsonTold tape store out r out'
+  pub json_refused : {tape store out : List ℕ} {r : TextStruct} {out' : List ℕ} → JsonTold tape store out r out'
       → (r.refused ≡ 0 → ⊥) → out' ≡ out

@@ -4,7 +4,7 @@ use Rattle.std.specs.Prelude.{◌≡◌, List, ℕ, ◌+◌, ℤ, pos}
 use Rattle.std.proofs.lemmas.List.Edits.{sets}
 use Rattle.rules.specs.declared.Utf8Answer.{Utf8Answer}
 use Rattle.rules.specs.declared.DateAnswer.{DateAnswer}
-use Rattle.rules.specs.Paper.{Said, utf8Said, dateSaid, numberSaid, placeSaid}
+use Rattle.rules.specs.Paper.{Said, utf8_said, date_said, number_said, place_said}
 use Rattle.rules.specs.Rfc3339.{Dated}
 use Rattle.rules.specs.Rfc3629.{Judged}
 use Rattle.meaning.specs.declared.Date.{Date}
@@ -33,9 +33,9 @@ use Rattle.lanternrung.specs.declared.exports.Text.{Text}
 use Rattle.lanternrung.specs.declared.exports.Fields.{Fields}
 
 -- lr_sizes
-unfoldable pub sizesOf : Answer → Sizes
-sizesOf (answer.Counts records bytes) = record { refused = 0; place = 0; records = records; bytes = bytes }
-sizesOf (answer.Refused why) = record { refused = number_of why; place = place_of why; records = 0; bytes = 0 }
+unfoldable pub sizes_of : Answer → Sizes
+sizes_of (answer.Counts records bytes) = record { refused = 0; place = 0; records = records; bytes = bytes }
+sizes_of (answer.Refused why) = record { refused = number_of why; place = place_of why; records = 0; bytes = 0 }
 
 -- lr_written
 unfoldable pub text_of : Written → Text
@@ -45,8 +45,8 @@ text_of (written.Refused why) = record { refused = number_of why; place = place_
 -- ---- lr_record: kind 1 to 13 in the order nu bo nb nx st ky by ld lt dt od ar ob; flag the bool, the minus sign or
 -- the nx value; the count of a container as it stands; 0 where a record has no such field
 
-abbrev pub allFields : ℕ × ℕ → ℕ → ℕ → ℤ × ℕ → ℕ × ℕ → Date → ℤ × ℕ → ℕ × ℕ → Fields
-allFields said kind flag number span date moment inside =
+abbrev pub all_fields : ℕ × ℕ → ℕ → ℕ → ℤ × ℕ → ℕ × ℕ → Date → ℤ × ℕ → ℕ × ℕ → Fields
+all_fields said kind flag number span date moment inside =
     record {
       refused = said.0;
       place = said.1;
@@ -65,48 +65,48 @@ allFields said kind flag number span date moment inside =
       count = inside.0;
     }
 
-abbrev pub noDate : Date
-noDate = record { year = 0; month = 0; day = 0 }
+abbrev pub no_date : Date
+no_date = record { year = 0; month = 0; day = 0 }
 
-abbrev pub plainFields : ℕ → ℕ → ℕ → ℕ → Fields
-plainFields kind flag length start = allFields (0, 0) kind flag (pos 0, 0) (length, start) noDate (pos 0, 0) (0, 0)
+abbrev pub plain_fields : ℕ → ℕ → ℕ → ℕ → Fields
+plain_fields kind flag length start = all_fields (0, 0) kind flag (pos 0, 0) (length, start) no_date (pos 0, 0) (0, 0)
 
-abbrev pub containerFields : ℕ → ℕ → ℕ → Fields
-containerFields kind count end = allFields (0, 0) kind 0 (pos 0, 0) (0, 0) noDate (pos 0, 0) (count, end)
+abbrev pub container_fields : ℕ → ℕ → ℕ → Fields
+container_fields kind count end = all_fields (0, 0) kind 0 (pos 0, 0) (0, 0) no_date (pos 0, 0) (count, end)
 
-unfoldable pub numberFields : Number → Fields
-numberFields (Finite minus coefficient power) =
-    allFields (0, 0) 3 (flag minus) (power, coefficient) (0, 0) noDate (pos 0, 0) (0, 0)
+unfoldable pub number_fields : Number → Fields
+number_fields (Finite minus coefficient power) =
+    all_fields (0, 0) 3 (flag minus) (power, coefficient) (0, 0) no_date (pos 0, 0) (0, 0)
 -- 0 NaN, 1 Infinity, 2 -Infinity
-numberFields NotANumber = plainFields 4 0 0 0
-numberFields (Infinite minus) = plainFields 4 (1 + flag minus) 0 0
+number_fields NotANumber = plain_fields 4 0 0 0
+number_fields (Infinite minus) = plain_fields 4 (1 + flag minus) 0 0
 
-abbrev pub datedFields : ℕ → Date → ℕ → ℤ → Fields
-datedFields kind d clock offset = allFields (0, 0) kind 0 (pos 0, 0) (0, 0) d (offset, clock) (0, 0)
+abbrev pub dated_fields : ℕ → Date → ℕ → ℤ → Fields
+dated_fields kind d clock offset = all_fields (0, 0) kind 0 (pos 0, 0) (0, 0) d (offset, clock) (0, 0)
 
-unfoldable pub timeFields : Time → Fields
-timeFields (LocalDate d) = datedFields 8 d 0 (pos 0)
-timeFields (LocalTime clock) = datedFields 9 noDate clock (pos 0)
-timeFields (LocalDateTime d clock) = datedFields 10 d clock (pos 0)
-timeFields (OffsetDateTime d clock offset) = datedFields 11 d clock offset
+unfoldable pub time_fields : Time → Fields
+time_fields (LocalDate d) = dated_fields 8 d 0 (pos 0)
+time_fields (LocalTime clock) = dated_fields 9 no_date clock (pos 0)
+time_fields (LocalDateTime d clock) = dated_fields 10 d clock (pos 0)
+time_fields (OffsetDateTime d clock offset) = dated_fields 11 d clock offset
 
 unfoldable pub fields_of : Record → Fields
-fields_of Record.Null = plainFields 1 0 0 0
-fields_of (Record.Bool b) = plainFields 2 (flag b) 0 0
-fields_of (Record.Number n) = numberFields n
-fields_of (Record.Str size start) = plainFields 5 0 size start
-fields_of (Record.Key size start) = plainFields 6 0 size start
-fields_of (Record.Bin size start) = plainFields 7 0 size start
-fields_of (Record.Time t) = timeFields t
-fields_of (Record.Array count end) = containerFields 12 count end
-fields_of (Record.Object count end) = containerFields 13 count end
+fields_of Record.Null = plain_fields 1 0 0 0
+fields_of (Record.Bool b) = plain_fields 2 (flag b) 0 0
+fields_of (Record.Number n) = number_fields n
+fields_of (Record.Str size start) = plain_fields 5 0 size start
+fields_of (Record.Key size start) = plain_fields 6 0 size start
+fields_of (Record.Bin size start) = plain_fields 7 0 size start
+fields_of (Record.Time t) = time_fields t
+fields_of (Record.Array count end) = container_fields 12 count end
+fields_of (Record.Object count end) = container_fields 13 count end
 
-abbrev pub refusedFields : Refusal → Fields
-refusedFields why = allFields (row why) 0 0 (pos 0, 0) (0, 0) noDate (pos 0, 0) (0, 0)
+abbrev pub refused_fields : Refusal → Fields
+refused_fields why = all_fields (row why) 0 0 (pos 0, 0) (0, 0) no_date (pos 0, 0) (0, 0)
 
-unfoldable pub lookedFields : Looked → Fields
-lookedFields (Looked.Record r) = fields_of r
-lookedFields (Looked.Refused why) = refusedFields why
+unfoldable pub looked_fields : Looked → Fields
+looked_fields (Looked.Record r) = fields_of r
+looked_fields (Looked.Refused why) = refused_fields why
 
 -- ---- each call hands on an answer that the library's promise allows, with what it leaves in the lent buffers
 
@@ -117,27 +117,27 @@ pub record Handed {A R : Type 0} (Allowed : A → Type 0) (fields : A → R) (r 
   pub told : r ≡ fields answer
 
 -- lr_status
-unfoldable pub statusOf : Said (Unit {0}) → Status
-statusOf said = record { refused = numberSaid said; place = placeSaid said }
+unfoldable pub status_of : Said (Unit {0}) → Status
+status_of said = record { refused = number_said said; place = place_said said }
 
 abbrev pub Utf8Told : List ℕ → Status → Type 0
-Utf8Told s = Handed (Judged s) (λ a. statusOf (utf8Said a))
+Utf8Told s = Handed (Judged s) (λ a. status_of (utf8_said a))
 
 abbrev pub DateTold : ℕ → ℕ → ℕ → Status → Type 0
-DateTold year month day = Handed (Dated year month day) (λ a. statusOf (dateSaid a))
+DateTold year month day = Handed (Dated year month day) (λ a. status_of (date_said a))
 
 abbrev pub MeasureTold : List ℕ → Sizes → Type 0
-MeasureTold text = Handed (Measures text) sizesOf
+MeasureTold text = Handed (Measures text) sizes_of
 
 -- the same with 15 left out
 abbrev pub LooselyTold : List ℕ → Sizes → Type 0
-LooselyTold text = Handed (Loosely text) sizesOf
+LooselyTold text = Handed (Loosely text) sizes_of
 
 abbrev pub ReadTold : List ℕ → List ℕ → List ℕ → Sizes → List ℕ → List ℕ → Type 0
-ReadTold text tape store r tape' store' = Handed (λ a. Reads text tape store a tape' store') sizesOf r
+ReadTold text tape store r tape' store' = Handed (λ a. Reads text tape store a tape' store') sizes_of r
 
 abbrev pub LookTold : List ℕ → List ℕ → ℕ → Fields → Type 0
-LookTold tape store index = Handed (Looks tape store index) lookedFields
+LookTold tape store index = Handed (Looks tape store index) looked_fields
 
 abbrev pub JaxnTold : List ℕ → List ℕ → List ℕ → Text → List ℕ → Type 0
 JaxnTold tape store out r out' = Handed (λ a. WritesJaxn tape store out a out') text_of r
@@ -153,14 +153,14 @@ pub record Keeps (c : Check) (state state' : List ℕ) : Type 0 where
   pub back : unpacked (packed c) ≡ c
 
 -- the check that lies in lent bytes: those that are missing count as zero
-abbrev pub keptIn : List ℕ → Check
-keptIn state = unpacked (padded state)
+abbrev pub kept_in : List ℕ → Check
+kept_in state = unpacked (padded state)
 
 abbrev pub CheckStartTold : List ℕ → List ℕ → Type 0
 CheckStartTold state state' = Keeps started state state'
 
 abbrev pub CheckFeedTold : List ℕ → List ℕ → List ℕ → Type 0
-CheckFeedTold state part state' = Keeps (fed (keptIn state) part) state state'
+CheckFeedTold state part state' = Keeps (fed (kept_in state) part) state state'
 
 abbrev pub CheckFinishTold : List ℕ → Sizes → Type 0
-CheckFinishTold state r = r ≡ sizesOf (ended (keptIn state))
+CheckFinishTold state r = r ≡ sizes_of (ended (kept_in state))

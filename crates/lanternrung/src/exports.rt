@@ -1,7 +1,7 @@
 // The calls for C and Rust (include/lanternrung.h). Each passes on the library's answer, as its number and place (docs/FORMAT.md, 10.1).
 ghost use Rattle.std.specs.Prelude.{◌≡◌};
 ghost use Rattle.meaning.specs.Bytes.{flag};
-ghost use Rattle.lanternrung.specs.Told.{sizesOf, text_of, refusedFields, plainFields, containerFields, numberFields, datedFields, timeFields, fields_of};
+ghost use Rattle.lanternrung.specs.Told.{sizes_of, text_of, refused_fields, plain_fields, container_fields, number_fields, dated_fields, time_fields, fields_of};
 ghost use Rattle.lanternrung.specs.Told.{Utf8Told, DateTold, MeasureTold, ReadTold, LookTold, JaxnTold, JsonTold};
 ghost use Rattle.lanternrung.specs.Told.{CheckStartTold, CheckFeedTold, CheckFinishTold};
 
@@ -63,7 +63,7 @@ pub struct Fields {
 
 // The reader's counts, or its refusal with both counts 0.
 fn sizes_of(a: Answer) -> Sizes
-    ensures { result ≡ sizesOf a }
+    ensures { result ≡ sizes_of a }
 {
     match a {
         Answer::Refused(why) => Sizes {
@@ -111,7 +111,7 @@ fn flag(b: bool) -> u32
 
 // A refusal: all but its number and place are 0.
 fn refusal(why: Refusal) -> Fields
-    ensures { result ≡ refusedFields why }
+    ensures { result ≡ refused_fields why }
 {
     Fields {
         refused: number(why),
@@ -134,7 +134,7 @@ fn refusal(why: Refusal) -> Fields
 
 // A record of this kind whose other fields are 0, but for these.
 fn plain(kind: u32, set: u32, length: u64, start: u64) -> Fields
-    ensures { result ≡ plainFields kind set length start }
+    ensures { result ≡ plain_fields kind set length start }
 {
     Fields {
         refused: 0,
@@ -157,7 +157,7 @@ fn plain(kind: u32, set: u32, length: u64, start: u64) -> Fields
 
 // An array or an object.
 fn container(kind: u32, count: u64, end: u64) -> Fields
-    ensures { result ≡ containerFields kind count end }
+    ensures { result ≡ container_fields kind count end }
 {
     Fields {
         refused: 0,
@@ -180,7 +180,7 @@ fn container(kind: u32, count: u64, end: u64) -> Fields
 
 // Kind 3 if finite; otherwise kind 4, with flag 0 for NaN, 1 for Infinity and 2 for -Infinity.
 fn number_fields(n: Number) -> Fields
-    ensures { result ≡ numberFields n }
+    ensures { result ≡ number_fields n }
 {
     match n {
         Number::NotANumber => plain(4, 0, 0, 0),
@@ -211,7 +211,7 @@ fn number_fields(n: Number) -> Fields
 
 // A date with a time of day and an offset, either 0 where the kind has none.
 fn dated(kind: u32, d: Date, clock: u64, offset: i32) -> Fields
-    ensures { result ≡ datedFields kind d clock offset }
+    ensures { result ≡ dated_fields kind d clock offset }
 {
     Fields {
         refused: 0,
@@ -234,7 +234,7 @@ fn dated(kind: u32, d: Date, clock: u64, offset: i32) -> Fields
 
 // Kinds 8 to 11, one for each time type.
 fn time_fields(t: Time) -> Fields
-    ensures { result ≡ timeFields t }
+    ensures { result ≡ time_fields t }
 {
     match t {
         Time::LocalDate(d) => dated(8, d, 0, 0),

@@ -9,47 +9,47 @@ use native.Mathlib.Omega.{arith}
 use Rattle.meaning.specs.Meaning.{Meaning}
 use Rattle.meaning.specs.declared.Refusal.{Refusal}
 use Rattle.meaning.specs.declared.Refusal.TheVariants.{RepeatedKey}
-use Rattle.meaning.specs.Between.Events.{Event, firstRepeat}
-use Rattle.meaning.proofs.Events.{none-once, once-none}
+use Rattle.meaning.specs.Between.Events.{Event, first_repeat}
+use Rattle.meaning.proofs.Events.{none_once, once_none}
 use Rattle.grammar.specs.Values.{Loose, Text}
-use Rattle.grammar.specs.Refused.{Repeats, Text-refused, loose, repeated}
-use Rattle.machine.specs.Heard.{Told, telling, heardOf}
-use Rattle.machine.proofs.Whole.{loosely-unambiguous}
-use Rattle.machine.proofs.Refusals.Whole.{one-loose-refusal, loose-not-refused}
-use Rattle.machine.proofs.Repeated.{Keyed-text, text-keys, heard-one}
+use Rattle.grammar.specs.Refused.{Repeats, TextRefused, loose, repeated}
+use Rattle.machine.specs.Heard.{Told, telling, heard_of}
+use Rattle.machine.proofs.Whole.{loosely_unambiguous}
+use Rattle.machine.proofs.Refusals.Whole.{one_loose_refusal, loose_not_refused}
+use Rattle.machine.proofs.Repeated.{KeyedText, text_keys_lem, heard_one}
 
 -- no text has two meanings
 pub unambiguous : {t : List ℕ} {m n : Meaning} → Text t m → Text t n → m ≡ n
-unambiguous x y = loosely-unambiguous x.loose y.loose
+unambiguous x y = loosely_unambiguous x.loose y.loose
 
 -- nor two refusals
-pub one-text-refusal : {t : List ℕ} {r s : Refusal} → Text-refused t r → Text-refused t s → r ≡ s
-one-text-refusal (loose x) (loose y) = one-loose-refusal x y
-one-text-refusal (loose x) (repeated y z f) = absurd (loose-not-refused y x)
-one-text-refusal (repeated x z f) (loose y) = absurd (loose-not-refused x y)
-one-text-refusal (repeated {p = p} x z f) (repeated {p = q} y w g) =
+pub one_text_refusal : {t : List ℕ} {r s : Refusal} → TextRefused t r → TextRefused t s → r ≡ s
+one_text_refusal (loose x) (loose y) = one_loose_refusal x y
+one_text_refusal (loose x) (repeated y z f) = absurd (loose_not_refused y x)
+one_text_refusal (repeated x z f) (loose y) = absurd (loose_not_refused x y)
+one_text_refusal (repeated {p = p} x z f) (repeated {p = q} y w g) =
     let a : p ≤ q = f q w in
     let b : q ≤ p = g p z in
     ap RepeatedKey (omega arith)
 
 -- nor both
-pub not-refused : {t : List ℕ} {m : Meaning} {r : Refusal} → Text t m → Text-refused t r → ⊥
-not-refused x (loose y) = loose-not-refused x.loose y
-not-refused {m = m} x (repeated {p = p} y z f) =
-    let k = text-keys x.loose in
-    k.none-repeats (once-none k.keys m k.same x.single) p z
+pub not_refused : {t : List ℕ} {m : Meaning} {r : Refusal} → Text t m → TextRefused t r → ⊥
+not_refused x (loose y) = loose_not_refused x.loose y
+not_refused {m = m} x (repeated {p = p} y z f) =
+    let k = text_keys_lem x.loose in
+    k.none_repeats (once_none k.keys m k.same x.single) p z
 
 -- ---- by the keys that are heard
 
-module _ {t : List ℕ} {m : Meaning} (x : Loose true t m) (keys : List Event) (h : (telling t).heard ≡ heardOf keys) where
-  heard-keys : (text-keys x).keys ≡ keys
-  heard-keys = heard-one (text-keys x).keys keys (sym (ap (λ (y : Told). y.heard) (text-keys x).heard) ∙ h)
+module _ {t : List ℕ} {m : Meaning} (x : Loose true t m) (keys : List Event) (h : (telling t).heard ≡ heard_of keys) where
+  heard_keys : (text_keys_lem x).keys ≡ keys
+  heard_keys = heard_one (text_keys_lem x).keys keys (sym (ap (λ (y : Told). y.heard) (text_keys_lem x).heard) ∙ h)
 
-  pub none-accepted : firstRepeat [] keys ≡ none → Text t m
-  none-accepted e = let k = text-keys x in record {
+  pub none_accepted : first_repeat [] keys ≡ none → Text t m
+  none_accepted e = let k = text_keys_lem x in record {
     loose = x;
-    single = none-once k.keys m k.same (ap (firstRepeat []) heard-keys ∙ e);
+    single = none_once k.keys m k.same (ap (first_repeat []) heard_keys ∙ e);
   }
 
-  pub first-refused : (q : ℕ) → firstRepeat [] keys ≡ some q → Text-refused t (RepeatedKey q)
-  first-refused q e = let y = (text-keys x).first q (ap (firstRepeat []) heard-keys ∙ e) in repeated x y.0 y.1
+  pub first_refused : (q : ℕ) → first_repeat [] keys ≡ some q → TextRefused t (RepeatedKey q)
+  first_refused q e = let y = (text_keys_lem x).first q (ap (first_repeat []) heard_keys ∙ e) in repeated x y.0 y.1

@@ -4,9 +4,9 @@ use mathlib.Core.Path.{◌≡◌, refl}
 use native.Mathlib.Omega.{arith}
 use Rattle.meaning.specs.Letters.{ch}
 use Rattle.machine.specs.Machine
-use Rattle.machine.specs.Machine.{Bracket, square, curly, Class, blankC, hashC, slashC, commaC, colonC, plusC, quoteC, dollarC, letterN, letterT, letterF}
-use Rattle.machine.specs.Machine.{letterC, otherC, open_c, closeC, class_of}
-use Rattle.machine.proofs.Tables.{◌&◌, cut-is}
+use Rattle.machine.specs.Machine.{Bracket, square, curly, Class, blank_c, hash_c, slash_c, comma_c, colon_c, plus_c, quote_c, dollar_c, letter_n, letter_t, letter_f}
+use Rattle.machine.specs.Machine.{letter_c, other_c, open_c, close_c, class_of}
+use Rattle.machine.proofs.Tables.{◌&◌, cut_is}
 
 abbrev pub opening : Bracket → ℕ
 opening square = ch "["
@@ -17,25 +17,25 @@ closing square = ch "]"
 closing curly = ch "}"
 
 abbrev pub ClassIs : ℕ → Class → Type 0
-ClassIs b blankC = (b ≤ ch " ") × ((b ≡ ch "\t" → ⊥) → (b ≡ ch "\n" → ⊥) → (b ≡ ch "\r" → ⊥) → b ≡ ch " ")
-ClassIs b hashC = b ≡ ch "#"
-ClassIs b slashC = b ≡ ch "/"
-ClassIs b commaC = b ≡ ch ","
-ClassIs b colonC = b ≡ ch ":"
-ClassIs b plusC = b ≡ ch "+"
-ClassIs b quoteC = (b ≤ ch "'") × ((b ≡ ch "\"" → ⊥) → b ≡ ch "'")
-ClassIs b dollarC = b ≡ ch "$"
-ClassIs b letterN = b ≡ ch "n"
-ClassIs b letterT = b ≡ ch "t"
-ClassIs b letterF = b ≡ ch "f"
-ClassIs b letterC = (ch "A" ≤ b) × (b ≤ ch "z") × (ch "Z" < b → b < ch "a" → b ≡ ch "_")
-ClassIs b otherC = (ch "A" ≤ b → ch "Z" < b) × (ch "a" ≤ b → ch "z" < b) × (b ≡ ch "_" → ⊥) × (b ≡ ch "$" → ⊥) × (b ≡ ch "\"" → ⊥) × (b ≡ ch "'" → ⊥)
+ClassIs b blank_c = (b ≤ ch " ") × ((b ≡ ch "\t" → ⊥) → (b ≡ ch "\n" → ⊥) → (b ≡ ch "\r" → ⊥) → b ≡ ch " ")
+ClassIs b hash_c = b ≡ ch "#"
+ClassIs b slash_c = b ≡ ch "/"
+ClassIs b comma_c = b ≡ ch ","
+ClassIs b colon_c = b ≡ ch ":"
+ClassIs b plus_c = b ≡ ch "+"
+ClassIs b quote_c = (b ≤ ch "'") × ((b ≡ ch "\"" → ⊥) → b ≡ ch "'")
+ClassIs b dollar_c = b ≡ ch "$"
+ClassIs b letter_n = b ≡ ch "n"
+ClassIs b letter_t = b ≡ ch "t"
+ClassIs b letter_f = b ≡ ch "f"
+ClassIs b letter_c = (ch "A" ≤ b) × (b ≤ ch "z") × (ch "Z" < b → b < ch "a" → b ≡ ch "_")
+ClassIs b other_c = (ch "A" ≤ b → ch "Z" < b) × (ch "a" ≤ b → ch "z" < b) × (b ≡ ch "_" → ⊥) × (b ≡ ch "$" → ⊥) × (b ≡ ch "\"" → ⊥) × (b ≡ ch "'" → ⊥)
 ClassIs b (open_c c) = b ≡ opening c
-ClassIs b (closeC c) = b ≡ closing c
+ClassIs b (close_c c) = b ≡ closing c
 
-pub class-is : (b : ℕ) → ClassIs b (class_of b)
-class-is b =
-    cut-is ClassIs 0 Machine.classes otherC b (omega arith)
+pub class_is_lem : (b : ℕ) → ClassIs b (class_of b)
+class_is_lem b =
+    cut_is ClassIs 0 Machine.classes other_c b (omega arith)
     ((λ l u. omega arith) & (λ l u. omega arith) & (λ l u. omega arith) & (λ l u. omega arith) & (λ l u. omega arith) &
     (λ l u. omega arith) & (λ l u. omega arith) & (λ l u. omega arith) & (λ l u. omega arith) & (λ l u. omega arith) &
     (λ l u. omega arith) & (λ l u. omega arith) & (λ l u. omega arith) & (λ l u. omega arith) & (λ l u. omega arith) &

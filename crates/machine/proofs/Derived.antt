@@ -19,12 +19,12 @@ Keys = ℕ → List Event
 unfoldable pub value_keys : {d : ℕ} {a : List ℕ} {m : Meaning} → Value true d a m → ℕ → List Event
 value_keys h = elim h as (λ d a m _. Keys) (λ d x a y _. Keys) (λ d x a y _. Keys) (λ d x a y _. Keys) [
   | Value.null_word ↦ λ p. []
-  | Value.true-word ↦ λ p. []
-  | Value.false-word ↦ λ p. []
+  | Value.true_word ↦ λ p. []
+  | Value.false_word ↦ λ p. []
   | Value.number y ↦ λ p. []
   | Value.string y ↦ λ p. []
   | Value.binary y ↦ λ p. []
-  | Value.time-value y ↦ λ p. []
+  | Value.time_value y ↦ λ p. []
   | Value.array y (z → ih) ↦ λ p. ih (suc p)
   | Value.object y (z → ih) ↦ λ p. begins ∷ ih (suc p)
   | Rest.close {x = x} y c ↦ λ p. closing x
@@ -35,15 +35,15 @@ value_keys h = elim h as (λ d a m _. Keys) (λ d x a y _. Keys) (λ d x a y _. 
   | Item.member {c = c} {u = u} {v = v} {w = w} y l j (t → ih) ↦ λ p. named p u ∷ ih (adv (suc (adv (adv p c) v)) w)
 ]
 
-unfoldable pub restKeys : {d : ℕ} {x y : Inside} {a : List ℕ} → Rest true d x a y → ℕ → List Event
-restKeys h = elim h as (λ d a m _. Keys) (λ d x a y _. Keys) (λ d x a y _. Keys) (λ d x a y _. Keys) [
+unfoldable pub rest_keys : {d : ℕ} {x y : Inside} {a : List ℕ} → Rest true d x a y → ℕ → List Event
+rest_keys h = elim h as (λ d a m _. Keys) (λ d x a y _. Keys) (λ d x a y _. Keys) (λ d x a y _. Keys) [
   | Value.null_word ↦ λ p. []
-  | Value.true-word ↦ λ p. []
-  | Value.false-word ↦ λ p. []
+  | Value.true_word ↦ λ p. []
+  | Value.false_word ↦ λ p. []
   | Value.number y ↦ λ p. []
   | Value.string y ↦ λ p. []
   | Value.binary y ↦ λ p. []
-  | Value.time-value y ↦ λ p. []
+  | Value.time_value y ↦ λ p. []
   | Value.array y (z → ih) ↦ λ p. ih (suc p)
   | Value.object y (z → ih) ↦ λ p. begins ∷ ih (suc p)
   | Rest.close {x = x} y c ↦ λ p. closing x
@@ -54,15 +54,15 @@ restKeys h = elim h as (λ d a m _. Keys) (λ d x a y _. Keys) (λ d x a y _. Ke
   | Item.member {c = c} {u = u} {v = v} {w = w} y l j (t → ih) ↦ λ p. named p u ∷ ih (adv (suc (adv (adv p c) v)) w)
 ]
 
-unfoldable pub afterKeys : {d : ℕ} {x y : Inside} {a : List ℕ} → After true d x a y → ℕ → List Event
-afterKeys h = elim h as (λ d a m _. Keys) (λ d x a y _. Keys) (λ d x a y _. Keys) (λ d x a y _. Keys) [
+unfoldable pub after_keys : {d : ℕ} {x y : Inside} {a : List ℕ} → After true d x a y → ℕ → List Event
+after_keys h = elim h as (λ d a m _. Keys) (λ d x a y _. Keys) (λ d x a y _. Keys) (λ d x a y _. Keys) [
   | Value.null_word ↦ λ p. []
-  | Value.true-word ↦ λ p. []
-  | Value.false-word ↦ λ p. []
+  | Value.true_word ↦ λ p. []
+  | Value.false_word ↦ λ p. []
   | Value.number y ↦ λ p. []
   | Value.string y ↦ λ p. []
   | Value.binary y ↦ λ p. []
-  | Value.time-value y ↦ λ p. []
+  | Value.time_value y ↦ λ p. []
   | Value.array y (z → ih) ↦ λ p. ih (suc p)
   | Value.object y (z → ih) ↦ λ p. begins ∷ ih (suc p)
   | Rest.close {x = x} y c ↦ λ p. closing x
@@ -73,15 +73,15 @@ afterKeys h = elim h as (λ d a m _. Keys) (λ d x a y _. Keys) (λ d x a y _. K
   | Item.member {c = c} {u = u} {v = v} {w = w} y l j (t → ih) ↦ λ p. named p u ∷ ih (adv (suc (adv (adv p c) v)) w)
 ]
 
-unfoldable pub itemKeys : {d : ℕ} {x y : Inside} {a : List ℕ} → Item true d x a y → ℕ → List Event
-itemKeys h = elim h as (λ d a m _. Keys) (λ d x a y _. Keys) (λ d x a y _. Keys) (λ d x a y _. Keys) [
+unfoldable pub item_keys : {d : ℕ} {x y : Inside} {a : List ℕ} → Item true d x a y → ℕ → List Event
+item_keys h = elim h as (λ d a m _. Keys) (λ d x a y _. Keys) (λ d x a y _. Keys) (λ d x a y _. Keys) [
   | Value.null_word ↦ λ p. []
-  | Value.true-word ↦ λ p. []
-  | Value.false-word ↦ λ p. []
+  | Value.true_word ↦ λ p. []
+  | Value.false_word ↦ λ p. []
   | Value.number y ↦ λ p. []
   | Value.string y ↦ λ p. []
   | Value.binary y ↦ λ p. []
-  | Value.time-value y ↦ λ p. []
+  | Value.time_value y ↦ λ p. []
   | Value.array y (z → ih) ↦ λ p. ih (suc p)
   | Value.object y (z → ih) ↦ λ p. begins ∷ ih (suc p)
   | Rest.close {x = x} y c ↦ λ p. closing x
@@ -92,5 +92,5 @@ itemKeys h = elim h as (λ d a m _. Keys) (λ d x a y _. Keys) (λ d x a y _. Ke
   | Item.member {c = c} {u = u} {v = v} {w = w} y l j (t → ih) ↦ λ p. named p u ∷ ih (adv (suc (adv (adv p c) v)) w)
 ]
 
-unfoldable pub textKeys : {t : List ℕ} {m : Meaning} → Loose true t m → List Event
-textKeys (Loose.text {w = w} l x y h) = value_keys x (adv 0 w)
+unfoldable pub text_keys : {t : List ℕ} {m : Meaning} → Loose true t m → List Event
+text_keys (Loose.text {w = w} l x y h) = value_keys x (adv 0 w)

@@ -10,15 +10,15 @@ use Rattle.meaning.specs.declared.Refusal.{Refusal}
 use Rattle.meaning.specs.declared.Refusal.TheVariants.{NotGrammar}
 use Rattle.meaning.specs.Letters.{ch}
 use Rattle.meaning.specs.Meaning.{Meaning}
-use Rattle.machine.specs.Scan.{Out, takes, stops, breaks, over, Ran, ended, broke, unended, goesOn, ran}
+use Rattle.machine.specs.Scan.{Out, takes, stops, breaks, over, Ran, ended, broke, unended, goes_on, ran}
 use Rattle.machine.specs.Numeric
 use Rattle.machine.specs.Strings
 use Rattle.machine.specs.Binaries
 use Rattle.machine.specs.Names
 use Rattle.machine.specs.Machine
-use Rattle.machine.specs.Machine.{Got, got, base, item, Frame, Conf, at, fail, step, No, lift, scan, onOut}
+use Rattle.machine.specs.Machine.{Got, got, base, item, Frame, Conf, at, fail, step, No, lift, scan, on_out}
 use Rattle.machine.specs.Heard.{after, tell, hears, at_out}
-use Rattle.machine.proofs.Heard.{told-step, fail-told}
+use Rattle.machine.proofs.Heard.{told_step, fail_told}
 
 -- t from the place q on, where it begins at p
 abbrev pub from : ℕ → ℕ → List ℕ → List ℕ
@@ -44,36 +44,36 @@ later c c' next p b t q e n h =
     record {
       behind = omega arith;
       within = omega (arith, h.within);
-      tells = rw z (told-step p c b t c' (tell q next (from (suc p) q t)) e n h.tells);
+      tells = rw z (told_step p c b t c' (tell q next (from (suc p) q t)) e n h.tells);
     }
 
 module _ {S M : Type 0} (run : ℕ → S → ℕ → Out S M) (f : S → Machine.Item) (g : M → Got)
     (same : (p : ℕ) (s : S) (b : ℕ) → scan p (f s) b ≡ lift f g (run p s b)) where
-  on : (p : ℕ) (s : S) (b d : ℕ) (k : List Frame) (o : Out S M) → run p s b ≡ o → step p (at (item (f s)) d k) b ≡ onOut p d k b (lift f g o)
-  on p s b d k o e = ap (onOut p d k b) (same p s b ∙ ap (lift f g) e)
+  on : (p : ℕ) (s : S) (b d : ℕ) (k : List Frame) (o : Out S M) → run p s b ≡ o → step p (at (item (f s)) d k) b ≡ on_out p d k b (lift f g o)
+  on p s b d k o e = ap (on_out p d k b) (same p s b ∙ ap (lift f g) e)
 
-  heard-on : (p : ℕ) (s : S) (b d : ℕ) (k : List Frame) (o : Out S M) → run p s b ≡ o → hears p (at (item (f s)) d k) b ≡ at_out b (lift f g o)
-  heard-on p s b d k o e = ap (at_out b) (same p s b ∙ ap (lift f g) e)
+  heard_on : (p : ℕ) (s : S) (b d : ℕ) (k : List Frame) (o : Out S M) → run p s b ≡ o → hears p (at (item (f s)) d k) b ≡ at_out b (lift f g o)
+  heard_on p s b d k o e = ap (at_out b) (same p s b ∙ ap (lift f g) e)
 
-  at-end : (p : ℕ) (s : S) (d : ℕ) (k : List Frame) (o : Out S M) → run p s over ≡ o
-      → tell p (at (item (f s)) d k) [] ≡ record { verdict = Machine.endOut p k (lift f g o); heard = [] }
+  at_end : (p : ℕ) (s : S) (d : ℕ) (k : List Frame) (o : Out S M) → run p s over ≡ o
+      → tell p (at (item (f s)) d k) [] ≡ record { verdict = Machine.end_out p k (lift f g o); heard = [] }
   unfolding tell
-  at-end p s d k o e = ap (λ (x : Out Machine.Item Got). record { verdict = Machine.endOut p k x; heard = [] }) (same p s over ∙ ap (lift f g) e)
+  at_end p s d k o e = ap (λ (x : Out Machine.Item Got). record { verdict = Machine.end_out p k x; heard = [] }) (same p s over ∙ ap (lift f g) e)
 
   at_byte : (p : ℕ) (s : S) (b d : ℕ) (k : List Frame) (t : List ℕ) (o : Out S M) → run p s b ≡ o → tell p (at (item (f s)) d k) (b ∷ t)
-      ≡ after (at_out b (lift f g o)) (tell (suc p) (onOut p d k b (lift f g o)) t)
+      ≡ after (at_out b (lift f g o)) (tell (suc p) (on_out p d k b (lift f g o)) t)
   unfolding tell
-  at_byte p s b d k t o e = ap (λ (x : Out Machine.Item Got). after (at_out b x) (tell (suc p) (onOut p d k b x) t)) (same p s b ∙ ap (lift f g) e)
+  at_byte p s b d k t o e = ap (λ (x : Out Machine.Item Got). after (at_out b x) (tell (suc p) (on_out p d k b x) t)) (same p s b ∙ ap (lift f g) e)
 
-  stop-end : (p : ℕ) (s : S) (d : ℕ) (k : List Frame) (x : M) → run p s over ≡ stops x → tell p (at (item (f s)) d k) [] ≡ tell p (at (base (got (g x))) d k) []
+  stop_end : (p : ℕ) (s : S) (d : ℕ) (k : List Frame) (x : M) → run p s over ≡ stops x → tell p (at (item (f s)) d k) [] ≡ tell p (at (base (got (g x))) d k) []
   unfolding tell
-  stop-end p s d k x e = at-end p s d k (stops x) e
+  stop_end p s d k x e = at_end p s d k (stops x) e
 
   -- where the item stops before a byte, the byte says what it says behind what the item gives
-  stop-byte : (p : ℕ) (s : S) (b d : ℕ) (k : List Frame) (t : List ℕ) (x : M) → run p s b ≡ stops x → tell p (at (item (f s)) d k) (b ∷ t)
+  stop_byte : (p : ℕ) (s : S) (b d : ℕ) (k : List Frame) (t : List ℕ) (x : M) → run p s b ≡ stops x → tell p (at (item (f s)) d k) (b ∷ t)
       ≡ tell p (at (base (got (g x))) d k) (b ∷ t)
   unfolding tell
-  stop-byte p s b d k t x e = at_byte p s b d k t (stops x) e
+  stop_byte p s b d k t x e = at_byte p s b d k t (stops x) e
 
   module _ (d : ℕ) (k : List Frame) where
     abbrev ItemEnds : ℕ → S → List ℕ → M → ℕ → Type 0
@@ -87,41 +87,41 @@ module _ {S M : Type 0} (run : ℕ → S → ℕ → Out S M) (f : S → Machine
         subst₂ (λ (y : M) (n : ℕ). ItemEnds p s t y n) a b (here (at (item (f s)) d k) (at (base (got (g x))) d k) p t h)
 
     -- where the item ends, the machine goes on with what it gives
-    pub item-ends : (t : List ℕ) (p : ℕ) (s : S) (v : M) (q : ℕ) → ran run p s t ≡ ended v q → ItemEnds p s t v q
+    pub item_ends : (t : List ℕ) (p : ℕ) (s : S) (v : M) (q : ℕ) → ran run p s t ≡ ended v q → ItemEnds p s t v q
     unfolding ran
-    item-ends [] p s v q e = go (run p s over) refl e
+    item_ends [] p s v q e = go (run p s over) refl e
       where
-        go : (o : Out S M) → run p s over ≡ o → goesOn run p (λ s'. unended) o ≡ ended v q → ItemEnds p s [] v q
+        go : (o : Out S M) → run p s over ≡ o → goes_on run p (λ s'. unended) o ≡ ended v q → ItemEnds p s [] v q
         go (takes s') w h = absurd (let z : ◌≡◌ {A = ℕ} 0 1 = cc in omega arith)
-        go (stops x) w h = stopped p s [] x v q h (stop-end p s d k x w)
+        go (stops x) w h = stopped p s [] x v q h (stop_end p s d k x w)
         go (breaks r) w h = absurd (let z : ◌≡◌ {A = ℕ} 0 1 = cc in omega arith)
-    item-ends (b ∷ t) p s v q e = go (λ s'. item-ends t (suc p) s' v q) (run p s b) refl e
+    item_ends (b ∷ t) p s v q e = go (λ s'. item_ends t (suc p) s' v q) (run p s b) refl e
       where
         go : ((s' : S) → ran run (suc p) s' t ≡ ended v q → ItemEnds (suc p) s' t v q) → (o : Out S M) → run p s b ≡ o
-            → goesOn run p (λ s'. ran run (suc p) s' t) o ≡ ended v q → ItemEnds p s (b ∷ t) v q
-        go ih (takes s') w h = later _ (at (item (f s')) d k) _ p b t q (on p s b d k (takes s') w) (heard-on p s b d k (takes s') w) (ih s' h)
-        go ih (stops x) w h = stopped p s (b ∷ t) x v q h (stop-byte p s b d k t x w)
+            → goes_on run p (λ s'. ran run (suc p) s' t) o ≡ ended v q → ItemEnds p s (b ∷ t) v q
+        go ih (takes s') w h = later _ (at (item (f s')) d k) _ p b t q (on p s b d k (takes s') w) (heard_on p s b d k (takes s') w) (ih s' h)
+        go ih (stops x) w h = stopped p s (b ∷ t) x v q h (stop_byte p s b d k t x w)
         go ih (breaks r) w h = absurd (let z : ◌≡◌ {A = ℕ} 0 1 = cc in omega arith)
 
     -- where it breaks, that is the verdict, and nothing is heard
-    pub item-breaks : (t : List ℕ) (p : ℕ) (s : S) (r : Refusal) → ran run p s t ≡ broke r
+    pub item_breaks : (t : List ℕ) (p : ℕ) (s : S) (r : Refusal) → ran run p s t ≡ broke r
         → tell p (at (item (f s)) d k) t ≡ record { verdict = No r; heard = [] }
     unfolding ran
-    item-breaks [] p s r e = go (run p s over) refl e
+    item_breaks [] p s r e = go (run p s over) refl e
       where
-        go : (o : Out S M) → run p s over ≡ o → goesOn run p (λ s'. unended) o ≡ broke r
+        go : (o : Out S M) → run p s over ≡ o → goes_on run p (λ s'. unended) o ≡ broke r
             → tell p (at (item (f s)) d k) [] ≡ record { verdict = No r; heard = [] }
         go (takes s') w h = absurd (let z : ◌≡◌ {A = ℕ} 0 1 = cc in omega arith)
         go (stops x) w h = absurd (let z : ◌≡◌ {A = ℕ} 0 1 = cc in omega arith)
-        go (breaks x) w h = let a : x ≡ r = cc in at-end p s d k (breaks r) (w ∙ ap breaks a)
-    item-breaks (b ∷ t) p s r e = go (λ s'. item-breaks t (suc p) s' r) (run p s b) refl e
+        go (breaks x) w h = let a : x ≡ r = cc in at_end p s d k (breaks r) (w ∙ ap breaks a)
+    item_breaks (b ∷ t) p s r e = go (λ s'. item_breaks t (suc p) s' r) (run p s b) refl e
       where
         go : ((s' : S) → ran run (suc p) s' t ≡ broke r → tell (suc p) (at (item (f s')) d k) t ≡ record { verdict = No r; heard = [] })
-            → (o : Out S M) → run p s b ≡ o → goesOn run p (λ s'. ran run (suc p) s' t) o ≡ broke r
+            → (o : Out S M) → run p s b ≡ o → goes_on run p (λ s'. ran run (suc p) s' t) o ≡ broke r
             → tell p (at (item (f s)) d k) (b ∷ t) ≡ record { verdict = No r; heard = [] }
         go ih (takes s') w h = at_byte p s b d k t (takes s') w ∙ ih s' h
         go ih (stops x) w h = absurd (let z : ◌≡◌ {A = ℕ} 0 1 = cc in omega arith)
-        go ih (breaks x) w h = let a : x ≡ r = cc in at_byte p s b d k t (breaks r) (w ∙ ap breaks a) ∙ fail-told t (suc p) r
+        go ih (breaks x) w h = let a : x ≡ r = cc in at_byte p s b d k t (breaks r) (w ∙ ap breaks a) ∙ fail_told t (suc p) r
 
 -- ---- an item that begins takes its first byte or breaks: nothing is heard there
 
@@ -131,38 +131,38 @@ asked : {S M : Type 0} (f : S → Machine.Item) (g : M → Got) (b : ℕ) (x : B
 asked f g b true s o e = refl
 asked f g b false s o e = e
 
-pub string-quiet : (z : Machine.Use) (u : List ℕ) (p b : ℕ) → at_out b (scan p (Machine.string-part z u Strings.begin) b) ≡ []
+pub string_quiet : (z : Machine.Use) (u : List ℕ) (p b : ℕ) → at_out b (scan p (Machine.string_part z u Strings.begin) b) ≡ []
 unfolding Strings.scan
-string-quiet z u p b =
-    asked (Machine.string-part z u) (λ x. Machine.string z (u ++ x)) b (eqb b (ch "\"")) _ _
-    (asked (Machine.string-part z u) (λ x. Machine.string z (u ++ x)) b (eqb b (ch "'")) _ (breaks (NotGrammar p)) refl)
+string_quiet z u p b =
+    asked (Machine.string_part z u) (λ x. Machine.string z (u ++ x)) b (eqb b (ch "\"")) _ _
+    (asked (Machine.string_part z u) (λ x. Machine.string z (u ++ x)) b (eqb b (ch "'")) _ (breaks (NotGrammar p)) refl)
 
-pub binary-quiet : (u : List ℕ) (p b : ℕ) → at_out b (scan p (Machine.binary-part u Binaries.begin) b) ≡ []
+pub binary_quiet : (u : List ℕ) (p b : ℕ) → at_out b (scan p (Machine.binary_part u Binaries.begin) b) ≡ []
 unfolding Binaries.scan
-binary-quiet u p b = asked (Machine.binary-part u) (λ x. Machine.binary (u ++ x)) b (eqb b (ch "$")) _ (breaks (NotGrammar p)) refl
+binary_quiet u p b = asked (Machine.binary_part u) (λ x. Machine.binary (u ++ x)) b (eqb b (ch "$")) _ (breaks (NotGrammar p)) refl
 
-pub word-quiet : (m : Meaning) (c : ℕ) (a : List ℕ) (p b : ℕ) → at_out b (scan p (Machine.word (c ∷ a) m) b) ≡ []
-unfolding Names.wordScan
-word-quiet m c a p b = asked (λ x. Machine.word x m) (λ x. Machine.value m) b (eqb b c) a (breaks (NotGrammar p)) refl
+pub word_quiet : (m : Meaning) (c : ℕ) (a : List ℕ) (p b : ℕ) → at_out b (scan p (Machine.word (c ∷ a) m) b) ≡ []
+unfolding Names.word_scan
+word_quiet m c a p b = asked (λ x. Machine.word x m) (λ x. Machine.value m) b (eqb b c) a (breaks (NotGrammar p)) refl
 
-pub name-quiet : (p b : ℕ) → at_out b (scan p (Machine.identifier Names.begin) b) ≡ []
-unfolding Names.scan Names.onStart
-name-quiet p b = by (Names.class_of b)
+pub name_quiet : (p b : ℕ) → at_out b (scan p (Machine.identifier Names.begin) b) ≡ []
+unfolding Names.scan Names.on_start
+name_quiet p b = by (Names.class_of b)
   where
-    by : (c : Names.Class) → at_out b (lift Machine.identifier Machine.key (Names.onStart p b c)) ≡ []
+    by : (c : Names.Class) → at_out b (lift Machine.identifier Machine.key (Names.on_start p b c)) ≡ []
     by Names.letter = refl
     by Names.figure = refl
     by Names.neither = refl
 
-pub numeric-quiet : (p b : ℕ) → at_out b (scan p (Machine.numeric Numeric.begin) b) ≡ []
-numeric-quiet p b = by (Numeric.fst_of b)
+pub numeric_quiet : (p b : ℕ) → at_out b (scan p (Machine.numeric Numeric.begin) b) ≡ []
+numeric_quiet p b = by (Numeric.fst_of b)
   where
-    by : (c : Numeric.Fst) → at_out b (lift Machine.numeric Machine.value (Numeric.onBegin p b c)) ≡ []
-    by Numeric.noughtF = refl
-    by Numeric.digitF = refl
-    by Numeric.pointF = refl
-    by Numeric.nF = refl
-    by Numeric.iF = refl
-    by Numeric.plusF = refl
-    by Numeric.minusF = refl
-    by Numeric.otherF = refl
+    by : (c : Numeric.Fst) → at_out b (lift Machine.numeric Machine.value (Numeric.on_begin p b c)) ≡ []
+    by Numeric.nought_f = refl
+    by Numeric.digit_f = refl
+    by Numeric.point_f = refl
+    by Numeric.n_f = refl
+    by Numeric.i_f = refl
+    by Numeric.plus_f = refl
+    by Numeric.minus_f = refl
+    by Numeric.other_f = refl

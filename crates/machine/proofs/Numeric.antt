@@ -25,16 +25,16 @@ pub mod Places
 -- two runs end with one meaning
 pub mod Once
 pub use Items.{NumericItem, Taken}
-pub use Accept.{NumericRest, numeric-is, Loose, Broke, numeric-broke}
-pub use Bytes.{Lead, Begins, Plain, number-begins, time-begins, numeric-begins, numeric-plain}
+pub use Accept.{NumericRest, numeric_is, Loose, Broke, numeric_broke}
+pub use Bytes.{Lead, Begins, Plain, number_begins, time_begins, numeric_begins, numeric_plain}
 unfoldable pub use Places.{first_of}
-pub use Places.{Blame, first-begin, numeric-first, numeric-place}
+pub use Places.{Blame, first_begin, numeric_first, numeric_place}
 
 -- complete: every number and every time value is taken, and ends with its meaning before every byte that may follow it
-pub numeric-goes : {a : List ℕ} {m : Meaning} → NumericItem true a m → (p : ℕ) → Goes scan EndsItem p begin a m
-numeric-goes (NumericItem.number n) p = Complete.number-goes n p
-numeric-goes (NumericItem.time-value t) p = CompleteTime.time-goes t p
+pub numeric_goes : {a : List ℕ} {m : Meaning} → NumericItem true a m → (p : ℕ) → Goes scan EndsItem p begin a m
+numeric_goes (NumericItem.number n) p = Complete.number_goes n p
+numeric_goes (NumericItem.time_value t) p = CompleteTime.time_goes t p
 
 -- sound: what is taken and ended is a number or a time value of that meaning, or a date and a space
-pub numeric-taken : {k : Bool} {a : List ℕ} {m : Meaning} → NumericRest k begin a m → Taken k a m
-numeric-taken t = t
+pub numeric_taken : {k : Bool} {a : List ℕ} {m : Meaning} → NumericRest k begin a m → Taken k a m
+numeric_taken t = t

@@ -59,38 +59,38 @@ module _ {S M : Type 0} (scan : ℕ → S → ℕ → Out S M) where
     ends : {p : ℕ} {s : S} → ((b : ℕ) → F b → HaltTo Q p s b) → GoesTo Q F p s []
     goes : {p c : ℕ} {s s' : S} {a : List ℕ} → GoesTo Q F (suc p) s' a → scan p s c ≡ takes s' → GoesTo Q F p s (c ∷ a)
 
-  pub took-to : {Q : Out S M → Type 0} {F : ℕ → Type 0} {p c : ℕ} {s s' : S} {a : List ℕ} → GoesTo Q F (suc p) s' a → scan p s c ≡ takes s'
+  pub took_to : {Q : Out S M → Type 0} {F : ℕ → Type 0} {p c : ℕ} {s s' : S} {a : List ℕ} → GoesTo Q F (suc p) s' a → scan p s c ≡ takes s'
       → GoesTo Q F p s (c ∷ a)
-  took-to k e = GoesTo.goes k e
+  took_to k e = GoesTo.goes k e
 
-  pub halts-to : {Q : Out S M → Type 0} {F : ℕ → Type 0} {p : ℕ} {s : S} → ((b : ℕ) → F b → Q (scan p s b)) → GoesTo Q F p s []
-  halts-to k = GoesTo.ends (λ b e. HaltTo.here (k b e))
+  pub halts_to : {Q : Out S M → Type 0} {F : ℕ → Type 0} {p : ℕ} {s : S} → ((b : ℕ) → F b → Q (scan p s b)) → GoesTo Q F p s []
+  halts_to k = GoesTo.ends (λ b e. HaltTo.here (k b e))
 
-  halt-value : {p b : ℕ} {s : S} {v : M} → HaltTo (λ o. o ≡ stops v) p s b → Halt p s v b
-  halt-value (HaltTo.here e) = Halt.here e
-  halt-value (HaltTo.spaced e k) = Halt.spaced e k
+  halt_value : {p b : ℕ} {s : S} {v : M} → HaltTo (λ o. o ≡ stops v) p s b → Halt p s v b
+  halt_value (HaltTo.here e) = Halt.here e
+  halt_value (HaltTo.spaced e k) = Halt.spaced e k
 
   -- with a value for an outcome
-  pub goes-value : {F : ℕ → Type 0} {p : ℕ} {s : S} {a : List ℕ} {v : M} → GoesTo (λ o. o ≡ stops v) F p s a → Goes F p s a v
-  goes-value (GoesTo.ends k) = Goes.ends (λ b e. halt-value (k b e))
-  goes-value (GoesTo.goes k e) = Goes.goes (goes-value k) e
+  pub goes_value : {F : ℕ → Type 0} {p : ℕ} {s : S} {a : List ℕ} {v : M} → GoesTo (λ o. o ≡ stops v) F p s a → Goes F p s a v
+  goes_value (GoesTo.ends k) = Goes.ends (λ b e. halt_value (k b e))
+  goes_value (GoesTo.goes k e) = Goes.goes (goes_value k) e
 
-  value-halt : {Q : Out S M → Type 0} {p b : ℕ} {s : S} {v : M} → Q (stops v) → Halt p s v b → HaltTo Q p s b
-  value-halt {Q} h (Halt.here e) = HaltTo.here (subst Q (sym e) h)
-  value-halt {Q} h (Halt.spaced e k) = HaltTo.spaced e (λ q c n. subst Q (sym (k q c n)) h)
+  value_halt : {Q : Out S M → Type 0} {p b : ℕ} {s : S} {v : M} → Q (stops v) → Halt p s v b → HaltTo Q p s b
+  value_halt {Q} h (Halt.here e) = HaltTo.here (subst Q (sym e) h)
+  value_halt {Q} h (Halt.spaced e k) = HaltTo.spaced e (λ q c n. subst Q (sym (k q c n)) h)
 
-  pub value-goes : {Q : Out S M → Type 0} {F : ℕ → Type 0} {p : ℕ} {s : S} {a : List ℕ} {v : M} → Q (stops v) → Goes F p s a v → GoesTo Q F p s a
-  value-goes h (Goes.ends k) = GoesTo.ends (λ b e. value-halt h (k b e))
-  value-goes h (Goes.goes k e) = GoesTo.goes (value-goes h k) e
+  pub value_goes : {Q : Out S M → Type 0} {F : ℕ → Type 0} {p : ℕ} {s : S} {a : List ℕ} {v : M} → Q (stops v) → Goes F p s a v → GoesTo Q F p s a
+  value_goes h (Goes.ends k) = GoesTo.ends (λ b e. value_halt h (k b e))
+  value_goes h (Goes.goes k e) = GoesTo.goes (value_goes h k) e
 
   -- a weaker outcome
-  halt-weaker : {Q R : Out S M → Type 0} → ((o : Out S M) → Q o → R o) → {p b : ℕ} {s : S} → HaltTo Q p s b → HaltTo R p s b
-  halt-weaker f {p} {b} {s} (HaltTo.here h) = HaltTo.here (f (scan p s b) h)
-  halt-weaker f (HaltTo.spaced {s' = t} e k) = HaltTo.spaced e (λ q c n. f (scan q t c) (k q c n))
+  halt_weaker : {Q R : Out S M → Type 0} → ((o : Out S M) → Q o → R o) → {p b : ℕ} {s : S} → HaltTo Q p s b → HaltTo R p s b
+  halt_weaker f {p} {b} {s} (HaltTo.here h) = HaltTo.here (f (scan p s b) h)
+  halt_weaker f (HaltTo.spaced {s' = t} e k) = HaltTo.spaced e (λ q c n. f (scan q t c) (k q c n))
 
-  pub goes-weaker : {Q R : Out S M → Type 0} → ((o : Out S M) → Q o → R o) → {F : ℕ → Type 0} {p : ℕ} {s : S} {a : List ℕ} → GoesTo Q F p s a → GoesTo R F p s a
-  goes-weaker f (GoesTo.ends k) = GoesTo.ends (λ b e. halt-weaker f (k b e))
-  goes-weaker f (GoesTo.goes k e) = GoesTo.goes (goes-weaker f k) e
+  pub goes_weaker : {Q R : Out S M → Type 0} → ((o : Out S M) → Q o → R o) → {F : ℕ → Type 0} {p : ℕ} {s : S} {a : List ℕ} → GoesTo Q F p s a → GoesTo R F p s a
+  goes_weaker f (GoesTo.ends k) = GoesTo.ends (λ b e. halt_weaker f (k b e))
+  goes_weaker f (GoesTo.goes k e) = GoesTo.goes (goes_weaker f k) e
 
   -- `Steps p s a s'`: from s the bytes a lead to s'
   pub data Steps : ℕ → S → List ℕ → S → Type 0 where
@@ -100,30 +100,30 @@ module _ {S M : Type 0} (scan : ℕ → S → ℕ → Out S M) where
   pub eats : {p b : ℕ} {a : List ℕ} {s s' s'' : S} → Steps (suc p) s' a s'' → scan p s b ≡ takes s' → Steps p s (b ∷ a) s''
   eats x e = Steps.eat x e
 
-  pub steps-join : {p : ℕ} {s s' s'' : S} {a b : List ℕ} → Steps p s a s' → Steps (adv p a) s' b s'' → Steps p s (a ++ b) s''
-  steps-join Steps.stay y = y
-  steps-join (Steps.eat x e) y = Steps.eat (steps-join x y) e
+  pub steps_join : {p : ℕ} {s s' s'' : S} {a b : List ℕ} → Steps p s a s' → Steps (adv p a) s' b s'' → Steps p s (a ++ b) s''
+  steps_join Steps.stay y = y
+  steps_join (Steps.eat x e) y = Steps.eat (steps_join x y) e
 
-  pub steps-go : {F : ℕ → Type 0} {p : ℕ} {s s' : S} {a b : List ℕ} {v : M} → Steps p s a s' → Goes F (adv p a) s' b v → Goes F p s (a ++ b) v
-  steps-go Steps.stay y = y
-  steps-go (Steps.eat x e) y = Goes.goes (steps-go x y) e
+  pub steps_go : {F : ℕ → Type 0} {p : ℕ} {s s' : S} {a b : List ℕ} {v : M} → Steps p s a s' → Goes F (adv p a) s' b v → Goes F p s (a ++ b) v
+  steps_go Steps.stay y = y
+  steps_go (Steps.eat x e) y = Goes.goes (steps_go x y) e
 
-  pub steps-to : {Q : Out S M → Type 0} {F : ℕ → Type 0} {p : ℕ} {s s' : S} {a b : List ℕ} → Steps p s a s' → GoesTo Q F (adv p a) s' b
+  pub steps_to : {Q : Out S M → Type 0} {F : ℕ → Type 0} {p : ℕ} {s s' : S} {a b : List ℕ} → Steps p s a s' → GoesTo Q F (adv p a) s' b
       → GoesTo Q F p s (a ++ b)
-  steps-to Steps.stay y = y
-  steps-to (Steps.eat x e) y = GoesTo.goes (steps-to x y) e
+  steps_to Steps.stay y = y
+  steps_to (Steps.eat x e) y = GoesTo.goes (steps_to x y) e
 
   -- the bytes lead to one state only
-  pub taken-once : {x y : S} → ◌≡◌ {A = Out S M} (takes x) (takes y) → x ≡ y
-  taken-once e = cc
+  pub taken_once : {x y : S} → ◌≡◌ {A = Out S M} (takes x) (takes y) → x ≡ y
+  taken_once e = cc
 
   pub goes_end : {Q : Out S M → Type 0} {F : ℕ → Type 0} {p : ℕ} {s s' : S} {a : List ℕ} → Steps p s a s' → GoesTo Q F p s a → GoesTo Q F (adv p a) s' []
   goes_end Steps.stay g = g
-  goes_end {Q = Q} {F = F} (Steps.eat {p = p} {a = a} x e) (GoesTo.goes g f) = goes_end x (subst (λ (t : S). GoesTo Q F (suc p) t a) (taken-once (sym f ∙ e)) g)
+  goes_end {Q = Q} {F = F} (Steps.eat {p = p} {a = a} x e) (GoesTo.goes g f) = goes_end x (subst (λ (t : S). GoesTo Q F (suc p) t a) (taken_once (sym f ∙ e)) g)
 
   -- and there the outcome is known, at the text's end
-  pub end-out : {Q : Out S M → Type 0} {F : ℕ → Type 0} {p : ℕ} {s : S} → F over → GoesTo Q F p s [] → Q (scan p s over)
-  end-out {Q} {F} {p} {s} f (GoesTo.ends h) = go (h over f) refl
+  pub end_out_lem : {Q : Out S M → Type 0} {F : ℕ → Type 0} {p : ℕ} {s : S} → F over → GoesTo Q F p s [] → Q (scan p s over)
+  end_out_lem {Q} {F} {p} {s} f (GoesTo.ends h) = go (h over f) refl
     where
       go : {b : ℕ} → HaltTo Q p s b → b ≡ over → Q (scan p s over)
       go (HaltTo.here x) e = subst (λ (b : ℕ). Q (scan p s b)) e x
@@ -138,9 +138,9 @@ module _ {S M : Type 0} (Rest : S → List ℕ → M → Type 0) where
 
 -- back over the bytes of a run, with bytes that are still to come
 module _ {S M : Type 0} (scan : ℕ → S → ℕ → Out S M) (Rest : S → List ℕ → M → Type 0) (is : (p : ℕ) (s : S) (b : ℕ) → OutIs Rest s b (scan p s b)) where
-  pub steps-with : {p : ℕ} {s s' : S} {a r : List ℕ} {v : M} → Steps scan p s a s' → Rest s' r v → Rest s (a ++ r) v
-  steps-with Steps.stay h = h
-  steps-with {r = r} {v = v} (Steps.eat {p = p} {b = b} {a = a} {s = s} x e) h = subst (OutIs Rest s b) e (is p s b) (a ++ r) v (steps-with x h)
+  pub steps_with : {p : ℕ} {s s' : S} {a r : List ℕ} {v : M} → Steps scan p s a s' → Rest s' r v → Rest s (a ++ r) v
+  steps_with Steps.stay h = h
+  steps_with {r = r} {v = v} (Steps.eat {p = p} {b = b} {a = a} {s = s} x e) h = subst (OutIs Rest s b) e (is p s b) (a ++ r) v (steps_with x h)
 
   pub steps_back : {p : ℕ} {s s' : S} {a : List ℕ} {v : M} → Steps scan p s a s' → Rest s' [] v → Rest s a v
-  steps_back {s = s} {a = a} {v = v} x h = subst (λ (l : List ℕ). Rest s l v) (append-nil a) (steps-with x h)
+  steps_back {s = s} {a = a} {v = v} x h = subst (λ (l : List ℕ). Rest s l v) (append-nil a) (steps_with x h)

@@ -7,7 +7,7 @@ pub mod Raw
 pub mod Forward
 pub mod Back
 pub mod Whole
-pub use Forward.{part-goes}
-pub use Raw.{Raw-part}
-pub use Back.{PartRest, part-is, raw-part}
+pub use Forward.{part_goes}
+pub use Raw.{RawPart}
+pub use Back.{PartRest, part_is, raw_part}
 pub use Whole.{part_of, part_cut}

@@ -19,9 +19,9 @@ module _ {A : Type 0} where
   Cuts P lo [] d b = lo ≤ b → P b d
   Cuts P lo (r ∷ rs) d b = (lo ≤ b → b ≤ r.0 → P b r.1) × Cuts P (suc r.0) rs d b
 
-  pub cut-is : (P : ℕ → A → Type 0) (lo : ℕ) (rs : List (ℕ × A)) (d : A) (b : ℕ) → lo ≤ b → Cuts P lo rs d b → P b (cut rs d b)
-  cut-is P lo [] d b l h = h l
-  cut-is P lo (r ∷ rs) d b l h = go (λ m. cut-is P (suc r.0) rs d b m h.1) (leb b r.0) refl
+  pub cut_is : (P : ℕ → A → Type 0) (lo : ℕ) (rs : List (ℕ × A)) (d : A) (b : ℕ) → lo ≤ b → Cuts P lo rs d b → P b (cut rs d b)
+  cut_is P lo [] d b l h = h l
+  cut_is P lo (r ∷ rs) d b l h = go (λ m. cut_is P (suc r.0) rs d b m h.1) (leb b r.0) refl
     where
       go : (r.0 < b → P b (cut rs d b)) → (y : Bool) → leb b r.0 ≡ y → P b (cond y r.1 (cut rs d b))
       go k true e = h.0 l (leb-true _ _ e)
@@ -31,7 +31,7 @@ module _ {A : Type 0} where
   Cut [] d b x = d ≡ x
   Cut (r ∷ rs) d b x = ((b ≤ r.0) × (r.1 ≡ x)) ⊎ ((r.0 < b) × Cut rs d b x)
 
-  pub cut-found : (rs : List (ℕ × A)) (d : A) (b : ℕ) (x : A) → Cut rs d b x → cut rs d b ≡ x
-  cut-found [] d b x h = h
-  cut-found (r ∷ rs) d b x (inl h) = rw (le-leb _ _ h.0) h.1
-  cut-found (r ∷ rs) d b x (inr h) = rw (lt-leb _ _ h.0) (cut-found rs d b x h.1)
+  pub cut_found : (rs : List (ℕ × A)) (d : A) (b : ℕ) (x : A) → Cut rs d b x → cut rs d b ≡ x
+  cut_found [] d b x h = h
+  cut_found (r ∷ rs) d b x (inl h) = rw (le-leb _ _ h.0) h.1
+  cut_found (r ∷ rs) d b x (inr h) = rw (lt-leb _ _ h.0) (cut_found rs d b x h.1)

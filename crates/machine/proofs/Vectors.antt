@@ -7,13 +7,13 @@ use mathlib.Core.List.{List, [], ◌∷◌}
 use lib.Count.{count_leading_zeros}
 use Rattle.rules.specs.Between.Posts.{low_of, high_of}
 use Rattle.rules.specs.Rfc3629.{encode}
-use Rattle.rules.specs.Between.Decided.{is_wide, length_at, faultFrom, judged}
-use Rattle.rules.specs.Between.Decided.{isLeap, isDate}
+use Rattle.rules.specs.Between.Decided.{is_wide, length_at, fault_from, judged}
+use Rattle.rules.specs.Between.Decided.{is_leap, is_date}
 use Rattle.meaning.specs.Letters.{letters}
-use Rattle.meaning.specs.Limits.{depthLimit}
+use Rattle.meaning.specs.Limits.{depth_limit}
 use Rattle.meaning.specs.Paper.{number_of, place_of}
-use Rattle.meaning.specs.Canonical.{decimalIn, decimal, fixed, trimmed, escaped, escapes, quoted, hexPairs, binaryText, powerText, zeros, pointed}
-use Rattle.meaning.specs.Canonical.{finiteText, numberText, dateText, fractionText, clockText, offsetText, timeText, textWith, canonical}
+use Rattle.meaning.specs.Canonical.{decimal_in, decimal, fixed, trimmed, escaped, escapes, quoted, hex_pairs, binary_text, power_text, zeros, pointed}
+use Rattle.meaning.specs.Canonical.{finite_text, number_text, date_text, fraction_text, clock_text, offset_text, time_text, text_with, canonical}
 use Rattle.meaning.proofs.Vectors.{Vector, gots, wants}
 use Rattle.machine.specs.Numeric.{strip, settle}
 use Rattle.machine.specs.Strings as S
@@ -277,9 +277,9 @@ vectors =
     ∷ text "{\"\":1,\"\":1}" (means "{\"\":1,\"\":1}")
     ∷ []
 
-pub vectors-hold : gots vectors ≡ wants vectors
-unfolding text vectors gots wants verdict decoded judged faultFrom length_at is_wide low_of high_of count_leading_zeros encode isLeap isDate depthLimit decimalIn decimal
-    fixed trimmed escaped escapes quoted hexPairs binaryText powerText zeros pointed finiteText numberText dateText fractionText clockText offsetText
-    timeText textWith strip settle read reading S.hexOf S.short_of S.alone S.unit S.inBraces S.hexed S.onHex S.onBrace S.onShort S.plain_byte S.onBody S.lineByte
-    S.onLines S.scan B.onDigit B.onShort B.onText B.scan N.class_of N.onStart N.onName N.scan N.wordScan
-vectors-hold = refl
+pub vectors_hold : gots vectors ≡ wants vectors
+unfolding text vectors gots wants verdict decoded judged fault_from length_at is_wide low_of high_of count_leading_zeros encode is_leap is_date depth_limit decimal_in decimal
+    fixed trimmed escaped escapes quoted hex_pairs binary_text power_text zeros pointed finite_text number_text date_text fraction_text clock_text offset_text
+    time_text text_with strip settle read reading S.hex_of S.short_of S.alone S.unit S.in_braces S.hexed S.on_hex S.on_brace S.on_short S.plain_byte S.on_body S.line_byte
+    S.on_lines S.scan B.on_digit B.on_short B.on_text B.scan N.class_of N.on_start N.on_name N.scan N.word_scan
+vectors_hold = refl

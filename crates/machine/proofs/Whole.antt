@@ -10,29 +10,29 @@ use borrow.Author.Tests.{le-leb, leb-true}
 use Rattle.rules.specs.declared.Utf8Answer.{Utf8Answer}
 use Rattle.rules.specs.declared.Utf8Answer.TheVariants.{Done, IllFormed}
 use Rattle.rules.specs.Between.Decided.{judged}
-use Rattle.rules.proofs.Decided.{judged-done, done-judged}
-use Rattle.meaning.specs.Limits.{textLimit, depthLimit}
+use Rattle.rules.proofs.Decided.{judged_done, done_judged}
+use Rattle.meaning.specs.Limits.{text_limit, depth_limit}
 use Rattle.meaning.specs.Meaning.{Meaning}
 use Rattle.meaning.specs.declared.Refusal.{Refusal}
 use Rattle.meaning.specs.declared.Refusal.TheVariants.{TextTooLong}
 use Rattle.grammar.specs.Values.{Value, Loose}
 use Rattle.meaning.specs.Good.{Good}
 use Rattle.meaning.specs.Canonical.{canonical}
-use Rattle.grammar.proofs.Utf8.{text-octets}
-use Rattle.grammar.proofs.Canonical.{value-derived}
+use Rattle.grammar.proofs.Utf8.{text_octets}
+use Rattle.grammar.proofs.Canonical.{value_derived}
 use Rattle.machine.specs.Machine.{Ok, No, Conf, fail, step, read}
 use Rattle.machine.specs.Verdict.{decoded, verdict}
 use Rattle.machine.proofs.Runs.{adv}
-use Rattle.machine.proofs.Complete.{value-reads, reads}
+use Rattle.machine.proofs.Complete.{value_reads, reads}
 use Rattle.machine.proofs.Sound.{derives}
 
-loose-length : {t : List ℕ} {m : Meaning} → Loose true t m → length t ≤ textLimit
-loose-length (Loose.text w v l h) = h
+loose_length : {t : List ℕ} {m : Meaning} → Loose true t m → length t ≤ text_limit
+loose_length (Loose.text w v l h) = h
 
 -- what the grammar derives, the machine reads, with that meaning
 pub complete : {t : List ℕ} {m : Meaning} → Loose true t m → verdict t ≡ Ok m
 unfolding verdict decoded
-complete {t} x = rw (le-leb (length t) textLimit (loose-length x), done-judged (text-octets x)) (reads x)
+complete {t} x = rw (le-leb (length t) text_limit (loose_length x), done_judged (text_octets x)) (reads x)
 
 refused : {r : Refusal} {m : Meaning} → No r ≡ Ok m → ⊥
 refused e = let z : ◌≡◌ {A = ℕ} 0 1 = cc in omega arith
@@ -40,26 +40,26 @@ refused e = let z : ◌≡◌ {A = ℕ} 0 1 = cc in omega arith
 -- what the machine accepts, the grammar derives
 pub sound : (t : List ℕ) (m : Meaning) → verdict t ≡ Ok m → Loose true t m
 unfolding verdict decoded
-sound t m e = by_length (leb (length t) textLimit) refl e
+sound t m e = by_length (leb (length t) text_limit) refl e
   where
-    by-utf8 : length t ≤ textLimit → (a : Utf8Answer) → judged t ≡ a → decoded a t ≡ Ok m → Loose true t m
-    by-utf8 l Done f g = derives t m (judged-done f) l g
-    by-utf8 l (IllFormed k) f g = absurd (refused g)
+    by_utf8 : length t ≤ text_limit → (a : Utf8Answer) → judged t ≡ a → decoded a t ≡ Ok m → Loose true t m
+    by_utf8 l Done f g = derives t m (judged_done f) l g
+    by_utf8 l (IllFormed k) f g = absurd (refused g)
 
-    by_length : (x : Bool) → leb (length t) textLimit ≡ x → cond x (decoded (judged t) t) (No TextTooLong) ≡ Ok m → Loose true t m
-    by_length true f g = by-utf8 (leb-true _ _ f) (judged t) refl g
+    by_length : (x : Bool) → leb (length t) text_limit ≡ x → cond x (decoded (judged t) t) (No TextTooLong) ≡ Ok m → Loose true t m
+    by_length true f g = by_utf8 (leb-true _ _ f) (judged t) refl g
     by_length false f g = absurd (refused g)
 
 -- the grammar gives no text two meanings
-pub loosely-unambiguous : {t : List ℕ} {m n : Meaning} → Loose true t m → Loose true t n → m ≡ n
-loosely-unambiguous x y = let e = complete x in let f = complete y in cc
+pub loosely_unambiguous : {t : List ℕ} {m n : Meaning} → Loose true t m → Loose true t n → m ≡ n
+loosely_unambiguous x y = let e = complete x in let f = complete y in cc
 
 -- two good meanings with one canonical text are one, however long it is
-pub same-canonical : (m n : Meaning) → Good m → Good n → canonical m ≡ canonical n → m ≡ n
-same-canonical m n g h e = let x = value-reads (canonical-value m g) in let y = value-reads (canonical-value n h) in cc
+pub same_canonical : (m n : Meaning) → Good m → Good n → canonical m ≡ canonical n → m ≡ n
+same_canonical m n g h e = let x = value_reads (canonical_value m g) in let y = value_reads (canonical_value n h) in cc
   where
-    canonical-value : (k : Meaning) → Good k → Value true depthLimit (canonical k) k
-    canonical-value k good = value-derived k good.parts depthLimit good.shallow
+    canonical_value : (k : Meaning) → Good k → Value true depth_limit (canonical k) k
+    canonical_value k good = value_derived k good.parts depth_limit good.shallow
 
 -- ---- running on
 

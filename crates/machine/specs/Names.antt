@@ -33,21 +33,21 @@ pub data St : Type 0 where
 abbrev pub begin : St
 begin = start
 
-unfoldable pub onStart : ℕ → ℕ → Class → Out St (List ℕ)
-onStart p b letter = takes (name (b ∷ []))
-onStart p b figure = breaks (NotGrammar p)
-onStart p b neither = breaks (NotGrammar p)
+unfoldable pub on_start : ℕ → ℕ → Class → Out St (List ℕ)
+on_start p b letter = takes (name (b ∷ []))
+on_start p b figure = breaks (NotGrammar p)
+on_start p b neither = breaks (NotGrammar p)
 
-unfoldable pub onName : List ℕ → ℕ → Class → Out St (List ℕ)
-onName acc b letter = takes (name (acc ++ (b ∷ [])))
-onName acc b figure = takes (name (acc ++ (b ∷ [])))
-onName acc b neither = stops acc
+unfoldable pub on_name : List ℕ → ℕ → Class → Out St (List ℕ)
+on_name acc b letter = takes (name (acc ++ (b ∷ [])))
+on_name acc b figure = takes (name (acc ++ (b ∷ [])))
+on_name acc b neither = stops acc
 
 unfoldable pub scan : ℕ → St → ℕ → Out St (List ℕ)
-scan p start b = onStart p b (class_of b)
-scan p (name acc) b = onName acc b (class_of b)
+scan p start b = on_start p b (class_of b)
+scan p (name acc) b = on_name acc b (class_of b)
 
 -- A word, by the letters that are left of it: each comes, and where none is left the word stops.
-unfoldable pub wordScan : ℕ → List ℕ → ℕ → Out (List ℕ) (Unit {0})
-wordScan p [] b = stops tt
-wordScan p (c ∷ left) b = cond (eqb b c) (takes left) (breaks (NotGrammar p))
+unfoldable pub word_scan : ℕ → List ℕ → ℕ → Out (List ℕ) (Unit {0})
+word_scan p [] b = stops tt
+word_scan p (c ∷ left) b = cond (eqb b c) (takes left) (breaks (NotGrammar p))

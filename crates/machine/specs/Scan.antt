@@ -22,11 +22,11 @@ pub data Ran (M : Type 0) : Type 0 where
   unended : Ran M
 
 module _ {S M : Type 0} (scan : ℕ → S → ℕ → Out S M) where
-  abbrev pub goesOn : ℕ → (S → Ran M) → Out S M → Ran M
-  goesOn p f (takes s) = f s
-  goesOn p f (stops v) = ended v p
-  goesOn p f (breaks r) = broke r
+  abbrev pub goes_on : ℕ → (S → Ran M) → Out S M → Ran M
+  goes_on p f (takes s) = f s
+  goes_on p f (stops v) = ended v p
+  goes_on p f (breaks r) = broke r
 
   unfoldable pub ran : ℕ → S → List ℕ → Ran M
-  ran p s [] = goesOn p (λ s'. unended) (scan p s over)
-  ran p s (b ∷ t) = goesOn p (λ s'. ran (suc p) s' t) (scan p s b)
+  ran p s [] = goes_on p (λ s'. unended) (scan p s over)
+  ran p s (b ∷ t) = goes_on p (λ s'. ran (suc p) s' t) (scan p s b)

@@ -10,24 +10,24 @@ use Rattle.grammar.specs.Strings.{joined}
 use Rattle.machine.specs.Scan.{Out, takes, stops, breaks, over}
 
 -- no hexadecimal digit
-abbrev pub noDigit : ℕ
-noDigit = 16
+abbrev pub no_digit : ℕ
+no_digit = 16
 
--- the value of a hexadecimal digit, or noDigit
-unfoldable pub hexOf : ℕ → ℕ
-hexOf b =
-    cond (ltb b (ch "0")) noDigit
+-- the value of a hexadecimal digit, or no_digit
+unfoldable pub hex_of : ℕ → ℕ
+hex_of b =
+    cond (ltb b (ch "0")) no_digit
     (cond (leb b (ch "9")) (b - ch "0")
-    (cond (ltb b (ch "A")) noDigit
+    (cond (ltb b (ch "A")) no_digit
     (cond (leb b (ch "F")) (b - ch "A" + 10)
-    (cond (ltb b (ch "a")) noDigit
-    (cond (leb b (ch "f")) (b - ch "a" + 10) noDigit)))))
+    (cond (ltb b (ch "a")) no_digit
+    (cond (leb b (ch "f")) (b - ch "a" + 10) no_digit)))))
 
 -- no short escape
-abbrev pub noShort : ℕ
-noShort = 256
+abbrev pub no_short : ℕ
+no_short = 256
 
--- the character of a short escape, or noShort
+-- the character of a short escape, or no_short
 unfoldable pub short_of : ℕ → ℕ
 short_of b =
     cond (eqb b (ch "\"")) 0x22
@@ -40,7 +40,7 @@ short_of b =
     (cond (eqb b (ch "n")) 0x0A
     (cond (eqb b (ch "r")) 0x0D
     (cond (eqb b (ch "t")) 0x09
-    (cond (eqb b (ch "v")) 0x0B noShort))))))))))
+    (cond (eqb b (ch "v")) 0x0B no_short))))))))))
 
 -- the backslash of the first bad escape, if there is one
 pub data Bad : Type 0 where
@@ -71,20 +71,20 @@ abbrev pub lost : Bad → Half → Bad
 lost b whole = b
 lost b (half at h) = first b at
 
-abbrev pub badNow : Ctx → Bad
-badNow k = lost k.bad k.high
+abbrev pub bad_now : Ctx → Bad
+bad_now k = lost k.bad k.high
 
 -- the bytes of a character come
 abbrev pub give : Ctx → List ℕ → Ctx
-give k bs = mk k.quote (badNow k) whole (k.acc ++ bs)
+give k bs = mk k.quote (bad_now k) whole (k.acc ++ bs)
 
 -- the escape at this backslash is bad
 abbrev pub blame : Ctx → ℕ → Ctx
-blame k at = mk k.quote (first (badNow k) at) whole k.acc
+blame k at = mk k.quote (first (bad_now k) at) whole k.acc
 
 -- the escape at this backslash is a high surrogate
 abbrev pub wait : Ctx → ℕ → ℕ → Ctx
-wait k at h = mk k.quote (badNow k) (half at h) k.acc
+wait k at h = mk k.quote (bad_now k) (half at h) k.acc
 
 -- one, two: after so many quotes. lines0, linesCR: after three, and after a CR behind them. lines q n acc: in a
 -- multiline part, after n quotes more. body: between two characters. esc, uni: after a backslash at that place, and its
@@ -95,7 +95,7 @@ pub data St : Type 0 where
   one : ℕ → St
   two : ℕ → St
   lines0 : ℕ → St
-  linesCR : ℕ → St
+  lines_cr : ℕ → St
   lines : ℕ → ℕ → List ℕ → St
   body : Ctx → St
   esc : Ctx → ℕ → St
@@ -124,8 +124,8 @@ unit k at w (half from h) =
     (cond (ltb w 0xE000) (mk k.quote k.bad whole (k.acc ++ encode (joined h w))) (alone k at w))
 
 -- a character in braces
-unfoldable pub inBraces : Ctx → ℕ → ℕ → Ctx
-inBraces k at w =
+unfoldable pub in_braces : Ctx → ℕ → ℕ → Ctx
+in_braces k at w =
     cond (ltb w 0xD800) (give k (encode w))
     (cond (ltb w 0xE000) (blame k at)
     (cond (leb w 0x10FFFF) (give k (encode w)) (blame k at)))
@@ -134,35 +134,35 @@ unfoldable pub hexed : Ctx → ℕ → ℕ → ℕ → St
 hexed k at zero w = body (unit k at w k.high)
 hexed k at (suc n) w = hex k at n w
 
-unfoldable pub onHex : ℕ → Ctx → ℕ → ℕ → ℕ → ℕ → Out St (List ℕ)
-onHex p k at n v x = cond (ltb x noDigit) (takes (hexed k at n (16 * v + x))) (breaks (NotGrammar p))
+unfoldable pub on_hex : ℕ → Ctx → ℕ → ℕ → ℕ → ℕ → Out St (List ℕ)
+on_hex p k at n v x = cond (ltb x no_digit) (takes (hexed k at n (16 * v + x))) (breaks (NotGrammar p))
 
-unfoldable pub onBrace : ℕ → Ctx → ℕ → ℕ → ℕ → Out St (List ℕ)
-onBrace p k at v x = cond (ltb x noDigit) (takes (brace k at (16 * v + x))) (breaks (NotGrammar p))
+unfoldable pub on_brace : ℕ → Ctx → ℕ → ℕ → ℕ → Out St (List ℕ)
+on_brace p k at v x = cond (ltb x no_digit) (takes (brace k at (16 * v + x))) (breaks (NotGrammar p))
 
-unfoldable pub onShort : ℕ → Ctx → ℕ → Out St (List ℕ)
-onShort p k c = cond (ltb c noShort) (takes (body (give k (encode c)))) (breaks (NotGrammar p))
+unfoldable pub on_short : ℕ → Ctx → ℕ → Out St (List ℕ)
+on_short p k c = cond (ltb c no_short) (takes (body (give k (encode c)))) (breaks (NotGrammar p))
 
 -- a plain byte of a string: from U+0020 up
 unfoldable pub plain_byte : ℕ → Bool
 plain_byte b = cond (ltb b 0x20) false (ltb b over)
 
-unfoldable pub onBody : ℕ → Ctx → ℕ → Out St (List ℕ)
-onBody p k b =
+unfoldable pub on_body : ℕ → Ctx → ℕ → Out St (List ℕ)
+on_body p k b =
     cond (eqb b (ch "\\")) (takes (esc k p))
     (cond (eqb b k.quote) (takes (done k))
     (cond (plain_byte b) (takes (body (give k (b ∷ [])))) (breaks (NotGrammar p))))
 
 -- tab, LF, CR, and all from U+0020 up
-unfoldable pub lineByte : ℕ → Bool
-lineByte b = cond (ltb b 0x20) (cond (eqb b (ch "\t")) true (cond (eqb b (ch "\n")) true (eqb b (ch "\r"))))
+unfoldable pub line_byte : ℕ → Bool
+line_byte b = cond (ltb b 0x20) (cond (eqb b (ch "\t")) true (cond (eqb b (ch "\n")) true (eqb b (ch "\r"))))
     (ltb b over)
 
 -- the quotes before a byte that is none are the part's own
-unfoldable pub onLines : ℕ → ℕ → ℕ → List ℕ → ℕ → Out St (List ℕ)
-onLines p q n acc b =
+unfoldable pub on_lines : ℕ → ℕ → ℕ → List ℕ → ℕ → Out St (List ℕ)
+on_lines p q n acc b =
     cond (eqb b q) (takes (cond (eqb n 2) (done (mk q fine whole acc)) (lines q (suc n) acc)))
-    (cond (lineByte b) (takes (lines q 0 (acc ++ (replicate n q ++ (b ∷ []))))) (breaks (NotGrammar p)))
+    (cond (line_byte b) (takes (lines q 0 (acc ++ (replicate n q ++ (b ∷ []))))) (breaks (NotGrammar p)))
 
 -- 4 is given for the first bad escape once the part has closed
 abbrev pub close : List ℕ → Bad → Out St (List ℕ)
@@ -171,16 +171,16 @@ close acc (spoilt at) = breaks (BadEscape at)
 
 unfoldable pub scan : ℕ → St → ℕ → Out St (List ℕ)
 scan p start b = cond (eqb b (ch "\"")) (takes (one b)) (cond (eqb b (ch "'")) (takes (one b)) (breaks (NotGrammar p)))
-scan p (one q) b = cond (eqb b q) (takes (two q)) (onBody p (mk q fine whole []) b)
+scan p (one q) b = cond (eqb b q) (takes (two q)) (on_body p (mk q fine whole []) b)
 scan p (two q) b = cond (eqb b q) (takes (lines0 q)) (stops [])
 scan p (lines0 q) b = cond (eqb b (ch "\n")) (takes (lines q 0 []))
-    (cond (eqb b (ch "\r")) (takes (linesCR q)) (onLines p q 0 [] b))
-scan p (linesCR q) b = cond (eqb b (ch "\n")) (takes (lines q 0 [])) (onLines p q 0 (letters "\r") b)
-scan p (lines q n acc) b = onLines p q n acc b
-scan p (body k) b = onBody p k b
-scan p (esc k at) b = cond (eqb b (ch "u")) (takes (uni k at)) (onShort p k (short_of b))
-scan p (uni k at) b = cond (eqb b (ch "{")) (takes (brace0 k at)) (onHex p k at 3 0 (hexOf b))
-scan p (hex k at n v) b = onHex p k at n v (hexOf b)
-scan p (brace0 k at) b = onBrace p k at 0 (hexOf b)
-scan p (brace k at v) b = cond (eqb b (ch "}")) (takes (body (inBraces k at v))) (onBrace p k at v (hexOf b))
-scan p (done k) b = close k.acc (badNow k)
+    (cond (eqb b (ch "\r")) (takes (lines_cr q)) (on_lines p q 0 [] b))
+scan p (lines_cr q) b = cond (eqb b (ch "\n")) (takes (lines q 0 [])) (on_lines p q 0 (letters "\r") b)
+scan p (lines q n acc) b = on_lines p q n acc b
+scan p (body k) b = on_body p k b
+scan p (esc k at) b = cond (eqb b (ch "u")) (takes (uni k at)) (on_short p k (short_of b))
+scan p (uni k at) b = cond (eqb b (ch "{")) (takes (brace0 k at)) (on_hex p k at 3 0 (hex_of b))
+scan p (hex k at n v) b = on_hex p k at n v (hex_of b)
+scan p (brace0 k at) b = on_brace p k at 0 (hex_of b)
+scan p (brace k at v) b = cond (eqb b (ch "}")) (takes (body (in_braces k at v))) (on_brace p k at v (hex_of b))
+scan p (done k) b = close k.acc (bad_now k)

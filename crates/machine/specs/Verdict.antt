@@ -4,7 +4,7 @@ use Rattle.std.specs.Prelude.{cond, List, ℕ, leb, length}
 use Rattle.rules.specs.declared.Utf8Answer.{Utf8Answer}
 use Rattle.rules.specs.declared.Utf8Answer.TheVariants.{Done, IllFormed}
 use Rattle.rules.specs.Between.Decided.{judged}
-use Rattle.meaning.specs.Limits.{textLimit}
+use Rattle.meaning.specs.Limits.{text_limit}
 use Rattle.meaning.specs.declared.Refusal.TheVariants.{TextTooLong, NotUtf8}
 use Rattle.machine.specs.Machine.{Verdict, No, reading}
 
@@ -15,4 +15,4 @@ decoded (IllFormed k) t = No (NotUtf8 k)
 
 -- 1: over 16,777,216 bytes
 unfoldable pub verdict : List ℕ → Verdict
-verdict t = let v = decoded (judged t) t in cond (leb (length t) textLimit) v (No TextTooLong)
+verdict t = let v = decoded (judged t) t in cond (leb (length t) text_limit) v (No TextTooLong)

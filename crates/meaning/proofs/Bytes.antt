@@ -14,32 +14,32 @@ use Rattle.meaning.specs.Between.Words.{get}
 
 -- ---- lists of bytes
 
-pub bytes-append : (a b : List ℕ) → Bytes a → Bytes b → Bytes (a ++ b)
-bytes-append [] b f g = g
-bytes-append (x ∷ a) b f g = (f.0, bytes-append a b f.1 g)
+pub bytes_append : (a b : List ℕ) → Bytes a → Bytes b → Bytes (a ++ b)
+bytes_append [] b f g = g
+bytes_append (x ∷ a) b f g = (f.0, bytes_append a b f.1 g)
 
 pub bytes_left : (a b : List ℕ) → Bytes (a ++ b) → Bytes a
 bytes_left [] b f = tt
 bytes_left (x ∷ a) b f = (f.0, bytes_left a b f.1)
 
-pub bytes-right : (a b : List ℕ) → Bytes (a ++ b) → Bytes b
-bytes-right [] b f = f
-bytes-right (x ∷ a) b f = bytes-right a b f.1
+pub bytes_right : (a b : List ℕ) → Bytes (a ++ b) → Bytes b
+bytes_right [] b f = f
+bytes_right (x ∷ a) b f = bytes_right a b f.1
 
 pub bytes_of : (s : List ℕ) → ((i : ℕ) → get_or s i 0 < 256) → Bytes s
 bytes_of [] h = tt
 bytes_of (x ∷ s) h = (h 0, bytes_of s (λ i. h (suc i)))
 
 -- the part s of a store, by its place and length
-pub part-is : (store pre s post : List ℕ) → store ≡ pre ++ (s ++ post) → (at : ℕ) → at ≡ length pre → take (length s) (drop at store) ≡ s
-part-is store pre s post e at a = rw (a, e) (rw (drop_at pre (s ++ post) (length pre) refl) (take_at s post (length s) refl))
+pub part_is : (store pre s post : List ℕ) → store ≡ pre ++ (s ++ post) → (at : ℕ) → at ≡ length pre → take (length s) (drop at store) ≡ s
+part_is store pre s post e at a = rw (a, e) (rw (drop_at pre (s ++ post) (length pre) refl) (take_at s post (length s) refl))
 
 -- ---- little-endian
 
-pub le-length : (w v : ℕ) → length (le w v) ≡ w
+pub le_length : (w v : ℕ) → length (le w v) ≡ w
 unfolding le
-le-length zero v = refl
-le-length (suc w) v = ap suc (le-length w (v / 256))
+le_length zero v = refl
+le_length (suc w) v = ap suc (le_length w (v / 256))
 
 pub le_bytes : (w v : ℕ) → Bytes (le w v)
 unfolding le
@@ -47,36 +47,36 @@ le_bytes zero v = tt
 le_bytes (suc w) v = (omega arith, le_bytes w (v / 256))
 
 -- a number of w bytes is below 256 ^ w
-pub get-lt : (w : ℕ) (s : List ℕ) (i : ℕ) → ((j : ℕ) → get_or s j 0 < 256) → get w s i < 256 ^ w
+pub get_lt : (w : ℕ) (s : List ℕ) (i : ℕ) → ((j : ℕ) → get_or s j 0 < 256) → get w s i < 256 ^ w
 unfolding get
-get-lt zero s i h = omega arith
-get-lt (suc w) s i h = subst (λ (x : ℕ). get w s (i + 1) * 256 + get_or s i 0 < x) (sym (pow-suc 256 w)) (digits_lt (get-lt w s (i + 1) h) (h i))
+get_lt zero s i h = omega arith
+get_lt (suc w) s i h = subst (λ (x : ℕ). get w s (i + 1) * 256 + get_or s i 0 < x) (sym (pow-suc 256 w)) (digits_lt (get_lt w s (i + 1) h) (h i))
 
 -- what comes before does not count
-pub get-past : (w : ℕ) (a s : List ℕ) (i : ℕ) → get w (a ++ s) (length a + i) ≡ get w s i
+pub get_past : (w : ℕ) (a s : List ℕ) (i : ℕ) → get w (a ++ s) (length a + i) ≡ get w s i
 unfolding get
-get-past zero a s i = refl
-get-past (suc w) a s i =
+get_past zero a s i = refl
+get_past (suc w) a s i =
     let e : length a + i + 1 ≡ length a + (i + 1) = omega arith in
-    ap₂ (λ (x y : ℕ). x * 256 + y) (ap (λ (k : ℕ). get w (a ++ s) k) e ∙ get-past w a s (i + 1)) (get_or-append-add a s i 0)
+    ap₂ (λ (x y : ℕ). x * 256 + y) (ap (λ (k : ℕ). get w (a ++ s) k) e ∙ get_past w a s (i + 1)) (get_or-append-add a s i 0)
 
 pub get_at : (w : ℕ) (a s : List ℕ) (n i : ℕ) → length a + n ≡ i → get w (a ++ s) i ≡ get w s n
-get_at w a s n i e = subst (λ (k : ℕ). get w (a ++ s) k ≡ get w s n) e (get-past w a s n)
+get_at w a s n i e = subst (λ (k : ℕ). get w (a ++ s) k ≡ get w s n) e (get_past w a s n)
 
 -- the number that was put is the one that is got
-pub get-le : (w v : ℕ) (s : List ℕ) → v < 256 ^ w → get w (le w v ++ s) 0 ≡ v
+pub get_le : (w v : ℕ) (s : List ℕ) → v < 256 ^ w → get w (le w v ++ s) 0 ≡ v
 unfolding get le
-get-le zero v s h = omega arith
-get-le (suc w) v s h =
+get_le zero v s h = omega arith
+get_le (suc w) v s h =
     ap (λ (x : ℕ). x * 256 + v % 256)
-    (get-past w (v % 256 ∷ []) (le w (v / 256) ++ s) 0 ∙ get-le w (v / 256) s ((div-lt_iff_lt-mul (omega arith)).1 (subst (λ (x : ℕ). v < x) (pow-suc 256 w) h)))
+    (get_past w (v % 256 ∷ []) (le w (v / 256) ++ s) 0 ∙ get_le w (v / 256) s ((div-lt_iff_lt-mul (omega arith)).1 (subst (λ (x : ℕ). v < x) (pow-suc 256 w) h)))
     ∙ div-add-mod' v 256
 
 -- the bytes of the number that was got are the bytes that lie there
-pub le-drop : (w : ℕ) (s : List ℕ) (p : ℕ) → ((j : ℕ) → get_or s j 0 < 256) → p + w ≤ length s → le w (get w s p) ++ drop (p + w) s ≡ drop p s
+pub le_drop : (w : ℕ) (s : List ℕ) (p : ℕ) → ((j : ℕ) → get_or s j 0 < 256) → p + w ≤ length s → le w (get w s p) ++ drop (p + w) s ≡ drop p s
 unfolding get le
-le-drop zero s p b h = let z : p + 0 ≡ p = omega arith in ap (λ (k : ℕ). drop k s) z
-le-drop (suc w) s p b h =
+le_drop zero s p b h = let z : p + 0 ≡ p = omega arith in ap (λ (k : ℕ). drop k s) z
+le_drop (suc w) s p b h =
     let y = b p in
     let x = get w s (p + 1) in
     let e : (x * 256 + get_or s p 0) / 256 ≡ x = omega arith in
@@ -84,7 +84,7 @@ le-drop (suc w) s p b h =
     let g : p + suc w ≡ p + 1 + w = omega arith in
     ap₂ (λ (u v : ℕ). u ∷ (le w v ++ drop (p + suc w) s)) f e
     ∙ ap (λ (k : ℕ). get_or s p 0 ∷ (le w x ++ drop k s)) g
-    ∙ ap (λ (l : List ℕ). get_or s p 0 ∷ l) (le-drop w s (p + 1) b (omega arith))
+    ∙ ap (λ (l : List ℕ). get_or s p 0 ∷ l) (le_drop w s (p + 1) b (omega arith))
     ∙ ap (λ (k : ℕ). get_or s p 0 ∷ drop k s) (add-one p)
     ∙ sym (drop-cons s p 0 (omega arith))
 

@@ -7,8 +7,8 @@ use Rattle.meaning.specs.declared.Refusal.{Refusal}
 use Rattle.meaning.specs.declared.Refusal.TheVariants.{TextTooLong, NotUtf8, NotGrammar, BadEscape, BadTime, BadNumber, TooDeep, TapeTooShort}
 use Rattle.meaning.specs.declared.Refusal.TheVariants.{StoreTooShort, NotWellFormed, NoJsonForm, OutputTooShort, WrittenTooLong, NoSuchRecord}
 use Rattle.meaning.specs.declared.Refusal.TheVariants.{RepeatedKey}
-use Rattle.rules.specs.Paper.{Said, numberSaid, placeSaid}
-use Rattle.meaning.specs.Paper.{number_of, place_of, refusalSaid}
+use Rattle.rules.specs.Paper.{Said, number_said, place_said}
+use Rattle.meaning.specs.Paper.{number_of, place_of, refusal_said}
 
 refusal : ℕ → ℕ → Refusal
 refusal n p =
@@ -46,5 +46,5 @@ told (WrittenTooLong p) = refl
 told (NoSuchRecord p) = refl
 told (RepeatedKey p) = refl
 
-pub same-refusal : {X : Type 0} (r s : Refusal) → ◌≡◌ {A = Said X} (refusalSaid r) (refusalSaid s) → r ≡ s
-same-refusal r s e = sym (told r) ∙ ap₂ refusal (ap numberSaid e) (ap placeSaid e) ∙ told s
+pub same_refusal : {X : Type 0} (r s : Refusal) → ◌≡◌ {A = Said X} (refusal_said r) (refusal_said s) → r ≡ s
+same_refusal r s e = sym (told r) ∙ ap₂ refusal (ap number_said e) (ap place_said e) ∙ told s

@@ -4,7 +4,7 @@ use Prim.Native.Nat.{ℕ, zero, suc, ◌+◌, ◌-◌, ◌*◌, ◌%◌, ◌^◌
 use native.Mathlib.Nat.{mul-one, zero-mul, pow-suc, mul_assoc}
 use native.Mathlib.Omega.{arith}
 use lib.IntN.{ℤ, pos, negsuc, nat_abs}
-use Rattle.meaning.specs.Limits.{powerLimit}
+use Rattle.meaning.specs.Limits.{power_limit}
 use Rattle.meaning.specs.Good.{GoodFinite, nought, nonzero}
 
 pub tenfold : (c z : ℕ) → c * 10 ^ suc z ≡ c * 10 ^ z * 10
@@ -20,26 +20,26 @@ once c d (suc z) (suc w) e p q =
     let r = once c d z w (omega arith) p q in
     (r.0, ap suc r.1)
 
-pub not-nought : (c z : ℕ) → c * 10 ^ z ≡ 0 → (c % 10 ≡ 0 → ⊥) → ⊥
-not-nought c zero e p = let f : c ≡ 0 = sym (mul-one c) ∙ e in p (omega arith)
-not-nought c (suc z) e p = let f : c * 10 ^ z * 10 ≡ 0 = sym (tenfold c z) ∙ e in not-nought c z (omega arith) p
+pub not_nought : (c z : ℕ) → c * 10 ^ z ≡ 0 → (c % 10 ≡ 0 → ⊥) → ⊥
+not_nought c zero e p = let f : c ≡ 0 = sym (mul-one c) ∙ e in p (omega arith)
+not_nought c (suc z) e p = let f : c * 10 ^ z * 10 ≡ 0 = sym (tenfold c z) ∙ e in not_nought c z (omega arith) p
 
 -- the power above the least one
 unfoldable pub above : ℤ → ℕ
-above (pos n) = powerLimit + n
-above (negsuc n) = powerLimit - suc n
+above (pos n) = power_limit + n
+above (negsuc n) = power_limit - suc n
 
-above-one : (p q : ℤ) → nat_abs p ≤ powerLimit → nat_abs q ≤ powerLimit → above p ≡ above q → p ≡ q
+above_one : (p q : ℤ) → nat_abs p ≤ power_limit → nat_abs q ≤ power_limit → above p ≡ above q → p ≡ q
 unfolding above
-above-one (pos m) (pos n) h k e = ap pos (omega arith)
-above-one (pos m) (negsuc n) h k e = absurd (omega arith)
-above-one (negsuc m) (pos n) h k e = absurd (omega arith)
-above-one (negsuc m) (negsuc n) h k e = ap negsuc (omega arith)
+above_one (pos m) (pos n) h k e = ap pos (omega arith)
+above_one (pos m) (negsuc n) h k e = absurd (omega arith)
+above_one (negsuc m) (pos n) h k e = absurd (omega arith)
+above_one (negsuc m) (negsuc n) h k e = ap negsuc (omega arith)
 
 pub one_value : {c d : ℕ} {p q : ℤ} → GoodFinite c p → GoodFinite d q → c * 10 ^ above p ≡ d * 10 ^ above q → (c ≡ d) × (p ≡ q)
 one_value nought nought e = (refl, refl)
-one_value {d = d} {q = q} nought (nonzero b n r) e = absurd (not-nought d (above q) (sym e ∙ zero-mul _) n)
-one_value {c = c} {p = p} (nonzero b n r) nought e = absurd (not-nought c (above p) (e ∙ zero-mul _) n)
+one_value {d = d} {q = q} nought (nonzero b n r) e = absurd (not_nought d (above q) (sym e ∙ zero-mul _) n)
+one_value {c = c} {p = p} (nonzero b n r) nought e = absurd (not_nought c (above p) (e ∙ zero-mul _) n)
 one_value {c = c} {d = d} {p = p} {q = q} (nonzero b n r) (nonzero b' n' r') e =
     let o = once c d (above p) (above q) e n n' in
-    (o.0, above-one p q r r' o.1)
+    (o.0, above_one p q r r' o.1)

@@ -8,8 +8,8 @@ use Prim.Native.String.{String}
 use lib.IntN.{ℤ, pos, negsuc, nat_abs}
 use native.Mathlib.Omega.{arith}
 use Rattle.rules.specs.Rfc3339.{Days}
-use Rattle.meaning.proofs.Quotes.{ascii-octets}
-use Rattle.meaning.specs.Limits.{depthLimit, coefficientLimit, powerLimit}
+use Rattle.meaning.proofs.Quotes.{ascii_octets}
+use Rattle.meaning.specs.Limits.{depth_limit, coefficient_limit, power_limit}
 use Rattle.meaning.specs.declared.Number.{Number}
 use Rattle.meaning.specs.declared.Number.TheVariants.{Finite, NotANumber, Infinite}
 use Rattle.meaning.specs.declared.Date.{Date}
@@ -17,15 +17,15 @@ use Rattle.meaning.specs.declared.Time.TheVariants.{LocalDate, LocalTime, LocalD
 use Rattle.meaning.specs.declared.Record.{Record}
 use Rattle.meaning.specs.Letters.{letters}
 use Rattle.meaning.specs.Bytes.{le}
-use Rattle.meaning.specs.Clock.{timeOfDay}
-use Rattle.meaning.specs.Once.{once, onceElements, onceMembers, held, same}
+use Rattle.meaning.specs.Clock.{time_of_day}
+use Rattle.meaning.specs.Once.{once, once_elements, once_members, held, same}
 use Rattle.meaning.specs.Meaning.{Meaning, null, bool, number, string, binary, time, array, object, none, more, bare, member}
 use Rattle.meaning.specs.Good.{GoodFinite, nonzero, GoodDate, most, depth, Good}
-use Rattle.meaning.specs.Tape.{records, elementsCount, membersCount, store_of, bytes, recordsOf, recordBytes}
-use Rattle.meaning.specs.Canonical.{decimalIn, decimal, fixed, trimmed, escaped, escapes, quoted, hexPairs, binaryText, powerText, zeros, pointed}
-use Rattle.meaning.specs.Canonical.{finiteText, numberText, dateText, fractionText, clockText, offsetText, timeText, textWith, canonical}
-use Rattle.meaning.specs.Filed.{filedNumber, filed}
-use Rattle.meaning.specs.Json.{firstWithout, noJson}
+use Rattle.meaning.specs.Tape.{records, elements_count, members_count, store_of, bytes, records_of, record_bytes}
+use Rattle.meaning.specs.Canonical.{decimal_in, decimal, fixed, trimmed, escaped, escapes, quoted, hex_pairs, binary_text, power_text, zeros, pointed}
+use Rattle.meaning.specs.Canonical.{finite_text, number_text, date_text, fraction_text, clock_text, offset_text, time_text, text_with, canonical}
+use Rattle.meaning.specs.Filed.{filed_number, filed}
+use Rattle.meaning.specs.Json.{first_without, no_json}
 
 abbrev pub march : Date
 march = record { year = 2021; month = 3; day = 4 }
@@ -65,7 +65,7 @@ pub record Shown : Type 0 where
 unfoldable pub shows : Meaning → ℕ → ℕ → String → String → Option ℕ → Vector Shown
 shows m count size store text without =
     record {
-      got = record { count = records m; size = bytes m; store = store_of m; text = canonical m; without = noJson m };
+      got = record { count = records m; size = bytes m; store = store_of m; text = canonical m; without = no_json m };
       want = record { count = count; size = size; store = letters store; text = letters text; without = without };
     }
 
@@ -104,20 +104,20 @@ meanings =
     ∷ shows (object (member (member bare (letters "k") (array none)) (letters "k") (binary []))) 5 2 "kk" "{\"k\":[],\"k\":$}" (first 4)
     ∷ []
 
-pub meanings-hold : gots meanings ≡ wants meanings
-unfolding gots wants meanings shows records store_of recordsOf decimalIn decimal fixed trimmed escaped escapes quoted hexPairs binaryText powerText zeros pointed
-    finiteText numberText dateText fractionText clockText offsetText timeText textWith firstWithout noJson
-meanings-hold = refl
+pub meanings_hold : gots meanings ≡ wants meanings
+unfolding gots wants meanings shows records store_of records_of decimal_in decimal fixed trimmed escaped escapes quoted hex_pairs binary_text power_text zeros pointed
+    finite_text number_text date_text fraction_text clock_text offset_text time_text text_with first_without no_json
+meanings_hold = refl
 
 -- the sample as it was filed before ticket 6
-pub filed-sample : filed sample ≡ letters "{\"run\":31,\"eta\":NaN,\"at\":2021-03-04T05:06:07.5Z,\"t\":[5e-1,12505e-1]}"
-unfolding decimalIn decimal fixed trimmed escaped escapes quoted powerText filedNumber dateText fractionText clockText offsetText timeText textWith
-filed-sample = refl
+pub filed_sample : filed sample ≡ letters "{\"run\":31,\"eta\":NaN,\"at\":2021-03-04T05:06:07.5Z,\"t\":[5e-1,12505e-1]}"
+unfolding decimal_in decimal fixed trimmed escaped escapes quoted power_text filed_number date_text fraction_text clock_text offset_text time_text text_with
+filed_sample = refl
 
 -- ---- records: the 16 bytes
 
 unfoldable pub puts : Record → String → Vector (List ℕ)
-puts r s = record { got = recordBytes r; want = letters s }
+puts r s = record { got = record_bytes r; want = letters s }
 
 unfoldable pub marks : List (Vector (List ℕ))
 marks =
@@ -142,33 +142,33 @@ marks =
     ∷ puts (Record.Object 3 258) "ob\0\0\u{3}\0\0\0\u{2}\u{1}\0\0\0\0\0\0"
     ∷ []
 
-pub marks-hold : gots marks ≡ wants marks
-unfolding gots wants marks puts recordBytes le
-marks-hold = refl
+pub marks_hold : gots marks ≡ wants marks
+unfolding gots wants marks puts record_bytes le
+marks_hold = refl
 
 -- ---- the records of the sample
 
-pub sample-time : timeOfDay 5 6 7 500000000 ≡ 18367500000000
-sample-time = refl
+pub sample_time : time_of_day 5 6 7 500000000 ≡ 18367500000000
+sample_time = refl
 
-finite : (c : ℕ) (p : ℤ) → c < coefficientLimit → (c % 10 ≡ 0 → ⊥) → nat_abs p ≤ powerLimit → GoodFinite c p
+finite : (c : ℕ) (p : ℤ) → c < coefficient_limit → (c % 10 ≡ 0 → ⊥) → nat_abs p ≤ power_limit → GoodFinite c p
 finite c p b n r = nonzero b n r
 
-march-good : GoodDate march
-march-good = record { year = omega arith; days = 31; month = Days.march; from = omega arith; to = omega arith }
+march_good : GoodDate march
+march_good = record { year = omega arith; days = 31; month = Days.march; from = omega arith; to = omega arith }
 
-pub sample-good : Good sample
-unfolding depth most depthLimit once onceElements onceMembers held same
-sample-good =
-    let run = ascii-octets (letters "run") (omega arith) in
-    let eta = ascii-octets (letters "eta") (omega arith) in
-    let at = ascii-octets (letters "at") (omega arith) in
-    let t = ascii-octets (letters "t") (omega arith) in
+pub sample_good : Good sample
+unfolding depth most depth_limit once once_elements once_members held same
+sample_good =
+    let run = ascii_octets (letters "run") (omega arith) in
+    let eta = ascii_octets (letters "eta") (omega arith) in
+    let at = ascii_octets (letters "at") (omega arith) in
+    let t = ascii_octets (letters "t") (omega arith) in
     let melt = finite 31 (pos 0) (omega arith) (λ e. omega arith) (omega arith) in
     let half = finite 5 (negsuc 0) (omega arith) (λ e. omega arith) (omega arith) in
     let tenths = finite 12505 (negsuc 0) (omega arith) (λ e. omega arith) (omega arith) in
     record {
-      parts = ((((tt, run, melt), eta, tt), at, (march-good, omega arith, omega arith)), t, ((tt, half), tenths));
+      parts = ((((tt, run, melt), eta, tt), at, (march_good, omega arith, omega arith)), t, ((tt, half), tenths));
       shallow = omega arith;
       single = refl;
     }
@@ -176,7 +176,7 @@ sample-good =
 abbrev one : Number
 one = Finite false 1 (pos 0)
 
-pub sample-records : recordsOf sample 0 0
+pub sample_records : records_of sample 0 0
     ≡ Record.Object 4 11
     ∷ Record.Key 3 0 ∷ Record.Number (Finite false 31 (pos 0))
     ∷ Record.Key 3 3 ∷ Record.Number NotANumber
@@ -184,11 +184,11 @@ pub sample-records : recordsOf sample 0 0
     ∷ Record.Key 1 8 ∷ Record.Array 2 11
     ∷ Record.Number (Finite false 5 (negsuc 0)) ∷ Record.Number (Finite false 12505 (negsuc 0))
     ∷ []
-unfolding recordsOf records store_of elementsCount membersCount
-sample-records = refl
+unfolding records_of records store_of elements_count members_count
+sample_records = refl
 
 -- `[1,[],{a:1}]`: members are counted, and only what is directly inside
-pub counts : recordsOf (array (more (more (more none (number one)) (array none)) (object (member bare (letters "a") (number one))))) 0 0
+pub counts : records_of (array (more (more (more none (number one)) (array none)) (object (member bare (letters "a") (number one))))) 0 0
     ≡ Record.Array 3 6 ∷ Record.Number one ∷ Record.Array 0 3 ∷ Record.Object 1 6 ∷ Record.Key 1 0 ∷ Record.Number one ∷ []
-unfolding recordsOf records store_of elementsCount membersCount
+unfolding records_of records store_of elements_count members_count
 counts = refl

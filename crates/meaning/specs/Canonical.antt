@@ -6,7 +6,7 @@ use Rattle.meaning.specs.declared.Date.{Date}
 use Rattle.meaning.specs.declared.Time.{Time}
 use Rattle.meaning.specs.declared.Time.TheVariants.{LocalDate, LocalTime, LocalDateTime, OffsetDateTime}
 use Rattle.meaning.specs.Letters.{letters, ch}
-use Rattle.meaning.specs.Limits.{plainDigits, fractionDigits, second}
+use Rattle.meaning.specs.Limits.{plain_digits, fraction_digits, second}
 use Rattle.meaning.specs.Meaning.{Meaning, Meanings, Members, null, bool, number, string, binary, time, array}
 use Rattle.meaning.specs.Meaning.{object, none, more, bare, member}
 
@@ -16,15 +16,15 @@ abbrev pub digit : ℕ → ℕ
 digit d = ch "0" + d
 
 -- the decimal digits of n, at most `count` + 1 of them
-unfoldable pub decimalIn : ℕ → ℕ → List ℕ
-decimalIn zero n = digit n ∷ []
-decimalIn (suc count) n =
-    let longer = decimalIn count (n / 10) ++ (digit (n % 10) ∷ []) in
+unfoldable pub decimal_in : ℕ → ℕ → List ℕ
+decimal_in zero n = digit n ∷ []
+decimal_in (suc count) n =
+    let longer = decimal_in count (n / 10) ++ (digit (n % 10) ∷ []) in
     cond (ltb n 10) (digit n ∷ []) longer
 
 -- the decimal digits of n, with no zero in front
 unfoldable pub decimal : ℕ → List ℕ
-decimal n = decimalIn n n
+decimal n = decimal_in n n
 
 -- the last w decimal digits of n, with the zeros in front
 unfoldable pub fixed : ℕ → ℕ → List ℕ
@@ -37,12 +37,12 @@ trimmed zero n = []
 trimmed (suc w) n = cond (eqb (n % 10) 0) (trimmed w (n / 10)) (fixed (suc w) n)
 
 -- a lower-case hex digit
-abbrev pub hexDigit : ℕ → ℕ
-hexDigit d = cond (ltb d 10) (ch "0" + d) (ch "a" + (d - 10))
+abbrev pub hex_digit : ℕ → ℕ
+hex_digit d = cond (ltb d 10) (ch "0" + d) (ch "a" + (d - 10))
 
 -- a byte in two of them
-abbrev pub hexPair : ℕ → List ℕ
-hexPair b = hexDigit (b / 16) ∷ hexDigit (b % 16) ∷ []
+abbrev pub hex_pair : ℕ → List ℕ
+hex_pair b = hex_digit (b / 16) ∷ hex_digit (b % 16) ∷ []
 
 -- ---- strings, keys and binary
 
@@ -57,7 +57,7 @@ escaped b =
     (cond (eqb b (ch "\n")) (letters "\\n")
     (cond (eqb b (ch "\r")) (letters "\\r")
     (cond (eqb b (ch "\t")) (letters "\\t")
-    (cond (ltb b (ch " ")) (letters "\\u00" ++ hexPair b)
+    (cond (ltb b (ch " ")) (letters "\\u00" ++ hex_pair b)
     (b ∷ []))))))))
 
 unfoldable pub escapes : List ℕ → List ℕ
@@ -68,26 +68,26 @@ escapes (b ∷ s) = escaped b ++ escapes s
 unfoldable pub quoted : List ℕ → List ℕ
 quoted s = letters "\"" ++ escapes s ++ letters "\""
 
-unfoldable pub hexPairs : List ℕ → List ℕ
-hexPairs [] = []
-hexPairs (b ∷ s) = hexPair b ++ hexPairs s
+unfoldable pub hex_pairs : List ℕ → List ℕ
+hex_pairs [] = []
+hex_pairs (b ∷ s) = hex_pair b ++ hex_pairs s
 
 -- binary: `$` and lower-case hex
-unfoldable pub binaryText : List ℕ → List ℕ
-binaryText s = letters "$" ++ hexPairs s
+unfoldable pub binary_text : List ℕ → List ℕ
+binary_text s = letters "$" ++ hex_pairs s
 
 -- ---- numbers
 
 -- minus if set
-abbrev pub minusText : Bool → List ℕ
-minusText true = letters "-"
-minusText false = []
+abbrev pub minus_text : Bool → List ℕ
+minus_text true = letters "-"
+minus_text false = []
 
 -- `e` and the power where it isn't 0
-unfoldable pub powerText : ℤ → List ℕ
-powerText (pos zero) = []
-powerText (pos (suc n)) = letters "e" ++ decimal (suc n)
-powerText (negsuc n) = letters "e-" ++ decimal (suc n)
+unfoldable pub power_text : ℤ → List ℕ
+power_text (pos zero) = []
+power_text (pos (suc n)) = letters "e" ++ decimal (suc n)
+power_text (negsuc n) = letters "e-" ++ decimal (suc n)
 
 -- so many zeros
 unfoldable pub zeros : ℕ → List ℕ
@@ -100,85 +100,85 @@ pointed n c = decimal (c / 10 ^ n) ++ letters "." ++ fixed n c
 
 -- Of a coefficient of d digits and the power p: where p is 0 or more and d + p is at most 20, the digits and p zeros;
 -- where p is from -20 to -1, the digits with the last -p of them after a decimal point; otherwise the `e` form.
-unfoldable pub finiteText : ℕ → ℤ → List ℕ
-finiteText c (pos p) = decimal c ++ cond (leb (length (decimal c) + p) plainDigits) (zeros p) (powerText (pos p))
-finiteText c (negsuc n) = cond (leb (suc n) plainDigits) (pointed (suc n) c) (decimal c ++ powerText (negsuc n))
+unfoldable pub finite_text : ℕ → ℤ → List ℕ
+finite_text c (pos p) = decimal c ++ cond (leb (length (decimal c) + p) plain_digits) (zeros p) (power_text (pos p))
+finite_text c (negsuc n) = cond (leb (suc n) plain_digits) (pointed (suc n) c) (decimal c ++ power_text (negsuc n))
 
 -- minus if set, then the coefficient and the power; words `NaN`, `Infinity`, `-Infinity`
-unfoldable pub numberText : Number → List ℕ
-numberText (Finite minus coefficient power) = minusText minus ++ finiteText coefficient power
-numberText NotANumber = letters "NaN"
-numberText (Infinite minus) = minusText minus ++ letters "Infinity"
+unfoldable pub number_text : Number → List ℕ
+number_text (Finite minus coefficient power) = minus_text minus ++ finite_text coefficient power
+number_text NotANumber = letters "NaN"
+number_text (Infinite minus) = minus_text minus ++ letters "Infinity"
 
 -- ---- times
 
-unfoldable pub dateText : Date → List ℕ
-dateText d = fixed 4 d.year ++ letters "-" ++ fixed 2 d.month ++ letters "-" ++ fixed 2 d.day
+unfoldable pub date_text : Date → List ℕ
+date_text d = fixed 4 d.year ++ letters "-" ++ fixed 2 d.month ++ letters "-" ++ fixed 2 d.day
 
 -- fraction only if not 0, without closing zeros
-unfoldable pub fractionText : ℕ → List ℕ
-fractionText n = cond (eqb n 0) [] (letters "." ++ trimmed fractionDigits n)
+unfoldable pub fraction_text : ℕ → List ℕ
+fraction_text n = cond (eqb n 0) [] (letters "." ++ trimmed fraction_digits n)
 
 -- a time of day is ((hour x 60 + minute) x 60 + second) x 10^9 + nanoseconds
-unfoldable pub clockText : ℕ → List ℕ
-clockText t =
+unfoldable pub clock_text : ℕ → List ℕ
+clock_text t =
     fixed 2 (t / (60 * 60 * second)) ++ letters ":" ++ fixed 2 (t / (60 * second) % 60) ++ letters ":"
     ++ fixed 2 (t / second % 60)
-    ++ fractionText (t % second)
+    ++ fraction_text (t % second)
 
 -- hh:mm
-abbrev pub minutesText : ℕ → List ℕ
-minutesText n = fixed 2 (n / 60) ++ letters ":" ++ fixed 2 (n % 60)
+abbrev pub minutes_text : ℕ → List ℕ
+minutes_text n = fixed 2 (n / 60) ++ letters ":" ++ fixed 2 (n % 60)
 
 -- offset 0 as `Z`, otherwise sign and hh:mm
-unfoldable pub offsetText : ℤ → List ℕ
-offsetText (pos zero) = letters "Z"
-offsetText (pos (suc n)) = letters "+" ++ minutesText (suc n)
-offsetText (negsuc n) = letters "-" ++ minutesText (suc n)
+unfoldable pub offset_text : ℤ → List ℕ
+offset_text (pos zero) = letters "Z"
+offset_text (pos (suc n)) = letters "+" ++ minutes_text (suc n)
+offset_text (negsuc n) = letters "-" ++ minutes_text (suc n)
 
-unfoldable pub timeText : Time → List ℕ
-timeText (LocalDate d) = dateText d
-timeText (LocalTime t) = clockText t
-timeText (LocalDateTime d t) = dateText d ++ letters "T" ++ clockText t
-timeText (OffsetDateTime d t offset) = dateText d ++ letters "T" ++ clockText t ++ offsetText offset
+unfoldable pub time_text : Time → List ℕ
+time_text (LocalDate d) = date_text d
+time_text (LocalTime t) = clock_text t
+time_text (LocalDateTime d t) = date_text d ++ letters "T" ++ clock_text t
+time_text (OffsetDateTime d t offset) = date_text d ++ letters "T" ++ clock_text t ++ offset_text offset
 
 -- ---- the whole text, no layout
 
 -- a comma after all that stands before
-abbrev pub elementsComma : Meanings → List ℕ
-elementsComma none = []
-elementsComma (more ms m) = letters ","
+abbrev pub elements_comma : Meanings → List ℕ
+elements_comma none = []
+elements_comma (more ms m) = letters ","
 
-abbrev pub membersComma : Members → List ℕ
-membersComma bare = []
-membersComma (member ms k m) = letters ","
+abbrev pub members_comma : Members → List ℕ
+members_comma bare = []
+members_comma (member ms k m) = letters ","
 
 -- with f for the text of a number
 unfoldable mutual
-  pub textWith : (Number → List ℕ) → Meaning → List ℕ
-  textWith f null = letters "null"
-  textWith f (bool b) = cond b (letters "true") (letters "false")
-  textWith f (number n) = f n
-  textWith f (string s) = quoted s
-  textWith f (binary s) = binaryText s
-  textWith f (time t) = timeText t
-  textWith f (array ms) = letters "[" ++ elementsWith f ms ++ letters "]"
-  textWith f (object ms) = letters "{" ++ membersWith f ms ++ letters "}"
+  pub text_with : (Number → List ℕ) → Meaning → List ℕ
+  text_with f null = letters "null"
+  text_with f (bool b) = cond b (letters "true") (letters "false")
+  text_with f (number n) = f n
+  text_with f (string s) = quoted s
+  text_with f (binary s) = binary_text s
+  text_with f (time t) = time_text t
+  text_with f (array ms) = letters "[" ++ elements_with f ms ++ letters "]"
+  text_with f (object ms) = letters "{" ++ members_with f ms ++ letters "}"
 
-  pub elementsWith : (Number → List ℕ) → Meanings → List ℕ
-  elementsWith f none = []
-  elementsWith f (more ms m) = elementsWith f ms ++ elementsComma ms ++ textWith f m
+  pub elements_with : (Number → List ℕ) → Meanings → List ℕ
+  elements_with f none = []
+  elements_with f (more ms m) = elements_with f ms ++ elements_comma ms ++ text_with f m
 
-  pub membersWith : (Number → List ℕ) → Members → List ℕ
-  membersWith f bare = []
-  membersWith f (member ms k m) =
-      membersWith f ms ++ membersComma ms ++ quoted k ++ letters ":" ++ textWith f m
+  pub members_with : (Number → List ℕ) → Members → List ℕ
+  members_with f bare = []
+  members_with f (member ms k m) =
+      members_with f ms ++ members_comma ms ++ quoted k ++ letters ":" ++ text_with f m
 
 abbrev pub canonical : Meaning → List ℕ
-canonical m = textWith numberText m
+canonical m = text_with number_text m
 
-abbrev pub elementsText : Meanings → List ℕ
-elementsText ms = elementsWith numberText ms
+abbrev pub elements_text : Meanings → List ℕ
+elements_text ms = elements_with number_text ms
 
-abbrev pub membersText : Members → List ℕ
-membersText ms = membersWith numberText ms
+abbrev pub members_text : Members → List ℕ
+members_text ms = members_with number_text ms

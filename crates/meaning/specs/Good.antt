@@ -8,7 +8,7 @@ use Rattle.meaning.specs.declared.Number.TheVariants.{Finite, NotANumber, Infini
 use Rattle.meaning.specs.declared.Date.{Date}
 use Rattle.meaning.specs.declared.Time.{Time}
 use Rattle.meaning.specs.declared.Time.TheVariants.{LocalDate, LocalTime, LocalDateTime, OffsetDateTime}
-use Rattle.meaning.specs.Limits.{depthLimit, coefficientLimit, powerLimit, offsetLimit, day}
+use Rattle.meaning.specs.Limits.{depth_limit, coefficient_limit, power_limit, offset_limit, day}
 use Rattle.meaning.specs.Meaning.{Meaning, Meanings, Members, null, bool, number, string, binary, time, array}
 use Rattle.meaning.specs.Meaning.{object, none, more, bare, member}
 use Rattle.meaning.specs.Once.{once}
@@ -17,7 +17,7 @@ use Rattle.meaning.specs.Once.{once}
 -- -9,999 to 9,999. Zero has coefficient 0 and power 0.
 pub data GoodFinite : ℕ → ℤ → Type 0 where
   nought : GoodFinite 0 (pos 0)
-  nonzero : {c : ℕ} {p : ℤ} → c < coefficientLimit → (c % 10 ≡ 0 → ⊥) → nat_abs p ≤ powerLimit → GoodFinite c p
+  nonzero : {c : ℕ} {p : ℤ} → c < coefficient_limit → (c % 10 ≡ 0 → ⊥) → nat_abs p ≤ power_limit → GoodFinite c p
 
 -- Minus zero is apart from zero, and so the sign is free.
 abbrev pub GoodNumber : Number → Type 0
@@ -33,7 +33,7 @@ abbrev pub GoodTime : Time → Type 0
 GoodTime (LocalDate d) = GoodDate d
 GoodTime (LocalTime t) = t < day
 GoodTime (LocalDateTime d t) = GoodDate d × (t < day)
-GoodTime (OffsetDateTime d t o) = GoodDate d × (t < day) × (nat_abs o ≤ offsetLimit)
+GoodTime (OffsetDateTime d t o) = GoodDate d × (t < day) × (nat_abs o ≤ offset_limit)
 
 -- each is a byte
 abbrev pub Bytes : List ℕ → Type 0
@@ -73,18 +73,18 @@ unfoldable mutual
   depth (string s) = 0
   depth (binary s) = 0
   depth (time t) = 0
-  depth (array ms) = 1 + elementsDepth ms
-  depth (object ms) = 1 + membersDepth ms
+  depth (array ms) = 1 + elements_depth ms
+  depth (object ms) = 1 + members_depth ms
 
-  pub elementsDepth : Meanings → ℕ
-  elementsDepth none = 0
-  elementsDepth (more ms m) = most (elementsDepth ms) (depth m)
+  pub elements_depth : Meanings → ℕ
+  elements_depth none = 0
+  elements_depth (more ms m) = most (elements_depth ms) (depth m)
 
-  pub membersDepth : Members → ℕ
-  membersDepth bare = 0
-  membersDepth (member ms k m) = most (membersDepth ms) (depth m)
+  pub members_depth : Members → ℕ
+  members_depth bare = 0
+  members_depth (member ms k m) = most (members_depth ms) (depth m)
 
 pub record Good (m : Meaning) : Type 0 where
   pub parts : GoodParts m
-  pub shallow : depth m ≤ depthLimit
+  pub shallow : depth m ≤ depth_limit
   pub single : once m ≡ true

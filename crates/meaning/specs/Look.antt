@@ -8,7 +8,7 @@ use Rattle.meaning.specs.declared.Date.{Date}
 use Rattle.meaning.specs.declared.Time.TheVariants.{LocalDate, LocalTime, LocalDateTime, OffsetDateTime}
 use Rattle.meaning.specs.declared.Record.{Record}
 use Rattle.meaning.specs.Good.{GoodNumber, GoodTime}
-use Rattle.meaning.specs.Tape.{recordBytes}
+use Rattle.meaning.specs.Tape.{record_bytes}
 
 -- its bytes lie inside the store
 abbrev pub Inside : ℕ → ℕ → List ℕ → Type 0
@@ -35,8 +35,8 @@ OwnFields (Record.Array count end) index whole store = Ends end index whole
 OwnFields (Record.Object count end) index whole store = Ends end index whole
 
 -- the number of whole records
-abbrev pub wholeRecords : List ℕ → ℕ
-wholeRecords tape = length tape / 16
+abbrev pub whole_records : List ℕ → ℕ
+whole_records tape = length tape / 16
 
 -- the fields fit their places
 abbrev pub FitDate : Date → Type 0
@@ -61,7 +61,7 @@ Fit (Record.Object count end) = (count < 2 ^ 32) × (end < 2 ^ 64)
 -- The record r at this index: the sixteen bytes are its mark and fields, with unnamed bytes zero; each field fits its
 -- place, and is as it must be.
 pub record RecordAt (tape store : List ℕ) (index : ℕ) (r : Record) : Type 0 where
-  pub within : index < wholeRecords tape
-  pub lies : take 16 (drop (index * 16) tape) ≡ recordBytes r
+  pub within : index < whole_records tape
+  pub lies : take 16 (drop (index * 16) tape) ≡ record_bytes r
   pub fits : Fit r
-  pub own : OwnFields r index (wholeRecords tape) store
+  pub own : OwnFields r index (whole_records tape) store

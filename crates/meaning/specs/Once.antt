@@ -23,13 +23,13 @@ unfoldable mutual
   once (string s) = true
   once (binary s) = true
   once (time t) = true
-  once (array x) = onceElements x
-  once (object x) = onceMembers x
+  once (array x) = once_elements x
+  once (object x) = once_members x
 
-  pub onceElements : Meanings → Bool
-  onceElements none = true
-  onceElements (more x m) = onceElements x && once m
+  pub once_elements : Meanings → Bool
+  once_elements none = true
+  once_elements (more x m) = once_elements x && once m
 
-  pub onceMembers : Members → Bool
-  onceMembers bare = true
-  onceMembers (member x u m) = (onceMembers x && not (held u x)) && once m
+  pub once_members : Members → Bool
+  once_members bare = true
+  once_members (member x u m) = (once_members x && not (held u x)) && once m

@@ -6,11 +6,11 @@ use Rattle.meaning.specs.declared.Refusal.TheVariants.{BadNumber, TooDeep, TapeT
 use Rattle.meaning.specs.declared.Refusal.TheVariants.{NotWellFormed, NoJsonForm, OutputTooShort}
 use Rattle.meaning.specs.declared.Refusal.TheVariants.{WrittenTooLong, NoSuchRecord, RepeatedKey}
 use Rattle.rules.specs.Paper.{Said, refused}
-use Rattle.meaning.specs.Limits.{textLimit}
+use Rattle.meaning.specs.Limits.{text_limit}
 
 abbrev pub row : Refusal → ℕ × ℕ
 -- text over 16,777,216 bytes
-row TextTooLong = (1, textLimit)
+row TextTooLong = (1, text_limit)
 -- not UTF-8: first byte of the first ill-formed sequence
 row (NotUtf8 place) = (2, place)
 -- not the grammar: first byte no rule allows there, or the text's length
@@ -47,5 +47,5 @@ abbrev pub place_of : Refusal → ℕ
 place_of why = (row why).1
 
 -- a refusal, in the table's terms
-abbrev pub refusalSaid : {X : Type 0} → Refusal → Said X
-refusalSaid why = refused (number_of why) (place_of why)
+abbrev pub refusal_said : {X : Type 0} → Refusal → Said X
+refusal_said why = refused (number_of why) (place_of why)

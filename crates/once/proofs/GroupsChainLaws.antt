@@ -8,9 +8,9 @@ use native.Mathlib.Nat.{mod-lt}
 use lib.Dec.{eqb}
 use lib.ListN.{length, get_or, length-append}
 use borrow.Author.Tests.{eqb-true, eqb-false}
-use Rattle.once.specs.Table.{Slot, room, newestOf, Table}
+use Rattle.once.specs.Table.{Slot, room, newest_of, Table}
 use Rattle.once.specs.Groups.{flat, base_of, State, Holds, Sane, Owns, own, At, Next, Newest, Stands, Earlier, Placed, Tagged}
-use Rattle.once.proofs.GroupsLaws.{slot_at, table_fits, held, Owned, owned-is, no_table}
+use Rattle.once.proofs.GroupsLaws.{slot_at, table_fits, held, Owned, owned_is, no_table}
 
 pub head_of : {x y : Slot} {a b : List Slot} → x ∷ a ≡ y ∷ b → x ≡ y
 head_of e = cc
@@ -18,8 +18,8 @@ head_of e = cc
 pub tail_of : {x y : Slot} {a b : List Slot} → x ∷ a ≡ y ∷ b → a ≡ b
 tail_of e = cc
 
-pub no-nil : {x : Slot} {a : List Slot} → [] ≡ x ∷ a → ⊥
-no-nil e = let z : ◌≡◌ {A = ℕ} 0 1 = cc in omega arith
+pub no_nil : {x : Slot} {a : List Slot} → [] ≡ x ∷ a → ⊥
+no_nil e = let z : ◌≡◌ {A = ℕ} 0 1 = cc in omega arith
 
 -- r is the newest of bucket h, or 0
 pub record Chain (n h : ℕ) (k : List Slot) (r : ℕ) : Type 0 where
@@ -27,16 +27,16 @@ pub record Chain (n h : ℕ) (k : List Slot) (r : ℕ) : Type 0 where
   pub is : 0 < r → (a : List Slot) × ((x : Slot) × ((b : List Slot) × ((k ≡ a ++ (x ∷ b)) × (suc (length b) ≡ r) × (x.1 % n ≡ h))))
   pub none : (a : List Slot) (x : Slot) (b : List Slot) → k ≡ a ++ (x ∷ b) → x.1 % n ≡ h → suc (length b) ≤ r
 
-pub chain : (n h : ℕ) (k : List Slot) → Chain n h k (newestOf n h k)
-unfolding newestOf
+pub chain : (n h : ℕ) (k : List Slot) → Chain n h k (newest_of n h k)
+unfolding newest_of
 chain n h [] = record { below = omega arith; is = λ p. absurd (omega arith); none = λ a x b e f. absurd (nothing a x b e) }
   where
     nothing : (a : List Slot) (x : Slot) (b : List Slot) → [] ≡ a ++ (x ∷ b) → ⊥
-    nothing [] x b e = no-nil e
-    nothing (y ∷ a) x b e = no-nil e
+    nothing [] x b e = no_nil e
+    nothing (y ∷ a) x b e = no_nil e
 chain n h (s ∷ k) = go (eqb (s.1 % n) h) refl (chain n h k)
   where
-    go : (t : Bool) → eqb (s.1 % n) h ≡ t → Chain n h k (newestOf n h k) → Chain n h (s ∷ k) (cond t (suc (length k)) (newestOf n h k))
+    go : (t : Bool) → eqb (s.1 % n) h ≡ t → Chain n h k (newest_of n h k) → Chain n h (s ∷ k) (cond t (suc (length k)) (newest_of n h k))
     go true e c = record { below = omega arith; is = λ p. ([], (s, (k, (refl, refl, eqb-true (s.1 % n) h e)))); none = top }
       where
         top : (a : List Slot) (x : Slot) (b : List Slot) → s ∷ k ≡ a ++ (x ∷ b) → x.1 % n ≡ h → suc (length b) ≤ suc (length k)
@@ -50,18 +50,18 @@ chain n h (s ∷ k) = go (eqb (s.1 % n) h) refl (chain n h k)
       none = more;
     }
       where
-        more : (a : List Slot) (x : Slot) (b : List Slot) → s ∷ k ≡ a ++ (x ∷ b) → x.1 % n ≡ h → suc (length b) ≤ newestOf n h k
+        more : (a : List Slot) (x : Slot) (b : List Slot) → s ∷ k ≡ a ++ (x ∷ b) → x.1 % n ≡ h → suc (length b) ≤ newest_of n h k
         more [] x b w f = absurd (eqb-false (s.1 % n) h e (ap (λ (q : Slot). q.1 % n) (head_of w) ∙ f))
         more (y ∷ a) x b w f = c.none a x b (tail_of w) f
 
 -- ---- cutting
 
 -- x stands in the first part of k ++ m
-cut-first : (k m a : List Slot) (x : Slot) (b : List Slot) → k ++ m ≡ a ++ (x ∷ b) → length m ≤ length b → (c : List Slot) × ((k ≡ a ++ (x ∷ c)) × (b ≡ c ++ m))
-cut-first [] m a x b e l = absurd (omega (arith, ap length e, length-append a (x ∷ b)))
-cut-first (y ∷ k) m [] x b e l = (k, (ap (λ (q : Slot). q ∷ k) (head_of e), sym (tail_of e)))
-cut-first (y ∷ k) m (z ∷ a) x b e l =
-    let h = cut-first k m a x b (tail_of e) l in
+cut_first : (k m a : List Slot) (x : Slot) (b : List Slot) → k ++ m ≡ a ++ (x ∷ b) → length m ≤ length b → (c : List Slot) × ((k ≡ a ++ (x ∷ c)) × (b ≡ c ++ m))
+cut_first [] m a x b e l = absurd (omega (arith, ap length e, length-append a (x ∷ b)))
+cut_first (y ∷ k) m [] x b e l = (k, (ap (λ (q : Slot). q ∷ k) (head_of e), sym (tail_of e)))
+cut_first (y ∷ k) m (z ∷ a) x b e l =
+    let h = cut_first k m a x b (tail_of e) l in
     (h.0, (ap (λ (q : Slot). q ∷ k) (head_of e) ∙ ap (λ (q : List Slot). z ∷ q) h.1.0, h.1.1))
 
 -- y stands below x
@@ -80,7 +80,7 @@ pub record Sits (s : State) (j : ℕ) (x : Slot) : Type 0 where
   pub under : List Slot
   pub split : flat s.groups ≡ above ++ (x ∷ under)
   pub size : suc (length under) ≡ j
-  pub past-base : base_of s.groups ≤ length under
+  pub past_base : base_of s.groups ≤ length under
 
 pub sits : (s : State) (j : ℕ) (x : Slot) → At s j x → Sits s j x
 unfolding flat base_of
@@ -92,7 +92,7 @@ sits s j x (At.key {g = g} {gs = gs} a b e l k) =
       under = b ++ ((base_of gs, g.level) ∷ flat gs);
       split = ap flat e ∙ ap (λ (q : List Slot). q ++ ((base_of gs, g.level) ∷ flat gs)) k ∙ append_assoc a (x ∷ b) ((base_of gs, g.level) ∷ flat gs);
       size = omega (arith, z, length-append b ((base_of gs, g.level) ∷ flat gs));
-      past-base = omega (arith, z, length-append b ((base_of gs, g.level) ∷ flat gs));
+      past_base = omega (arith, z, length-append b ((base_of gs, g.level) ∷ flat gs));
     }
 
 pub sat : (s : State) (o : Owned s) (a : List Slot) (x : Slot) (b : List Slot) (r : ℕ) → flat s.groups ≡ a ++ (x ∷ b) → suc (length b) ≡ r
@@ -100,7 +100,7 @@ pub sat : (s : State) (o : Owned s) (a : List Slot) (x : Slot) (b : List Slot) (
 unfolding flat base_of
 sat s o a x b r e f l =
     let z : base_of s.groups ≡ suc (length (flat o.rest)) = ap base_of o.groups in
-    let h = cut-first o.group.keys ((base_of o.rest, o.group.level) ∷ flat o.rest) a x b (sym (ap flat o.groups) ∙ e) (omega (arith, z)) in
+    let h = cut_first o.group.keys ((base_of o.rest, o.group.level) ∷ flat o.rest) a x b (sym (ap flat o.groups) ∙ e) (omega (arith, z)) in
     let n = ap length h.1.1 ∙ length-append h.0 ((base_of o.rest, o.group.level) ∷ flat o.rest) in
     let w : suc (base_of s.groups + length h.0) ≡ r = omega (arith, z, n) in
     subst (λ (q : ℕ). At s q x) w (At.key a h.0 o.groups o.level h.1.0)
@@ -110,9 +110,9 @@ pub data Picked (base i : ℕ) : ℕ → Type 0 where
   it : base < i → Picked base i i
   none : i ≤ base → Picked base i 0
 
-pub next-newest : (s : State) (o : Owned s) (n tag i r : ℕ) → 0 < n → i ≡ newestOf n (tag % n) (flat s.groups) → Picked (base_of s.groups) i r
+pub next_newest : (s : State) (o : Owned s) (n tag i r : ℕ) → 0 < n → i ≡ newest_of n (tag % n) (flat s.groups) → Picked (base_of s.groups) i r
     → Next s n (tag % n) (length (flat s.groups)) r
-next-newest s o n tag i r p e (Picked.it l) = go (subst (λ (q : ℕ). Chain n (tag % n) (flat s.groups) q) (sym e) (chain n (tag % n) (flat s.groups)))
+next_newest s o n tag i r p e (Picked.it l) = go (subst (λ (q : ℕ). Chain n (tag % n) (flat s.groups) q) (sym e) (chain n (tag % n) (flat s.groups)))
   where
     go : Chain n (tag % n) (flat s.groups) i → Next s n (tag % n) (length (flat s.groups)) i
     go c = record {
@@ -120,30 +120,30 @@ next-newest s o n tag i r p e (Picked.it l) = go (subst (λ (q : ℕ). Chain n (
       is = λ q. ((c.is q).1.0, (sat s o (c.is q).0 (c.is q).1.0 (c.is q).1.1.0 i (c.is q).1.1.1.0 (c.is q).1.1.1.1 l, (c.is q).1.1.1.2));
       none = λ j x a u v w. let h = sits s j x a in omega (arith, c.none h.above x h.under h.split w, h.size);
     }
-next-newest s o n tag i r p e (Picked.none l) = go (subst (λ (q : ℕ). Chain n (tag % n) (flat s.groups) q) (sym e) (chain n (tag % n) (flat s.groups)))
+next_newest s o n tag i r p e (Picked.none l) = go (subst (λ (q : ℕ). Chain n (tag % n) (flat s.groups) q) (sym e) (chain n (tag % n) (flat s.groups)))
   where
     go : Chain n (tag % n) (flat s.groups) i → Next s n (tag % n) (length (flat s.groups)) 0
     go c = record {
       below = omega arith;
       is = λ q. absurd (omega arith);
-      none = λ j x a u v w. let h = sits s j x a in omega (arith, c.none h.above x h.under h.split w, h.size, h.past-base);
+      none = λ j x a u v w. let h = sits s j x a in omega (arith, c.none h.above x h.under h.split w, h.size, h.past_base);
     }
 
 -- no group: no key
-pub next-none : (s : State) (n h top : ℕ) → own s.depth s.groups ≡ false → Next s n h top 0
+pub next_none : (s : State) (n h top : ℕ) → own s.depth s.groups ≡ false → Next s n h top 0
 unfolding own
-next-none s n h top f = record { below = omega arith; is = λ q. absurd (omega arith); none = λ j x a u v w. go j x a }
+next_none s n h top f = record { below = omega arith; is = λ q. absurd (omega arith); none = λ j x a u v w. go j x a }
   where
     go : (j : ℕ) (x : Slot) → At s j x → ⊥
     go j x (At.key {g = g} {gs = gs} a b e l k) = eqb-false g.level s.depth (sym (ap (own s.depth) e) ∙ f) l
 
 -- a key's object has a group
-pub at-owned : (s : State) (j : ℕ) (x : Slot) → At s j x → Owned s
-at-owned s j x (At.key {g = g} {gs = gs} a b e l k) = record { group = g; rest = gs; groups = e; level = l }
+pub at_owned : (s : State) (j : ℕ) (x : Slot) → At s j x → Owned s
+at_owned s j x (At.key {g = g} {gs = gs} a b e l k) = record { group = g; rest = gs; groups = e; level = l }
 
-pub next-earlier : (s : State) (j : ℕ) (x : Slot) (t : At s j x) (n i r : ℕ) → i ≡ newestOf n (x.1 % n) (sits s j x t).under → Picked (base_of s.groups) i r
+pub next_earlier : (s : State) (j : ℕ) (x : Slot) (t : At s j x) (n i r : ℕ) → i ≡ newest_of n (x.1 % n) (sits s j x t).under → Picked (base_of s.groups) i r
     → Next s n (x.1 % n) (j - 1) r
-next-earlier s j x t n i r e (Picked.it l) = go (sits s j x t) (subst (λ (q : ℕ). Chain n (x.1 % n) (sits s j x t).under q) (sym e)
+next_earlier s j x t n i r e (Picked.it l) = go (sits s j x t) (subst (λ (q : ℕ). Chain n (x.1 % n) (sits s j x t).under q) (sym e)
     (chain n (x.1 % n) (sits s j x t).under))
   where
     go : (h : Sits s j x) → Chain n (x.1 % n) h.under i → Next s n (x.1 % n) (j - 1) i
@@ -152,7 +152,7 @@ next-earlier s j x t n i r e (Picked.it l) = go (sits s j x t) (subst (λ (q : �
       is = λ q. (
         (c.is q).1.0,
         (
-          sat s (at-owned s j x t) (h.above ++ (x ∷ (c.is q).0)) (c.is q).1.0 (c.is q).1.1.0 i
+          sat s (at_owned s j x t) (h.above ++ (x ∷ (c.is q).0)) (c.is q).1.0 (c.is q).1.1.0 i
               (h.split ∙ ap (λ (z : List Slot). h.above ++ (x ∷ z)) (c.is q).1.1.1.0
               ∙ sym (append_assoc h.above (x ∷ (c.is q).0) ((c.is q).1.0 ∷ (c.is q).1.1.0))) (c.is q).1.1.1.1 l,
           (c.is q).1.1.1.2,
@@ -163,7 +163,7 @@ next-earlier s j x t n i r e (Picked.it l) = go (sits s j x t) (subst (λ (q : �
           let d = cut_below h.above x h.under g.above y g.under (sym h.split ∙ g.split) (omega (arith, h.size, g.size)) in
           omega (arith, c.none d.0 y g.under d.1 w, g.size);
     }
-next-earlier s j x t n i r e (Picked.none l) = go (sits s j x t) (subst (λ (q : ℕ). Chain n (x.1 % n) (sits s j x t).under q) (sym e)
+next_earlier s j x t n i r e (Picked.none l) = go (sits s j x t) (subst (λ (q : ℕ). Chain n (x.1 % n) (sits s j x t).under q) (sym e)
     (chain n (x.1 % n) (sits s j x t).under))
   where
     go : (h : Sits s j x) → Chain n (x.1 % n) h.under i → Next s n (x.1 % n) (j - 1) 0
@@ -173,14 +173,14 @@ next-earlier s j x t n i r e (Picked.none l) = go (sits s j x t) (subst (λ (q :
       none = λ m y a u v w.
           let g = sits s m y a in
           let d = cut_below h.above x h.under g.above y g.under (sym h.split ∙ g.split) (omega (arith, h.size, g.size)) in
-          omega (arith, c.none d.0 y g.under d.1 w, g.size, g.past-base);
+          omega (arith, c.none d.0 y g.under d.1 w, g.size, g.past_base);
     }
 
 -- a key's numbers in the table
-pub key-slot : (seen : List ℕ) (s : State) → Holds seen s → (j : ℕ) (x : Slot) (t : At s j x) → (get_or seen (8 + 4 * (j - 1)) 0 ≡ x.0)
-    × (get_or seen (9 + 4 * (j - 1)) 0 ≡ x.1) × (get_or seen (10 + 4 * (j - 1)) 0 ≡ newestOf (room seen) (x.1 % room seen) (sits s j x t).under) × (0 < j)
+pub key_slot : (seen : List ℕ) (s : State) → Holds seen s → (j : ℕ) (x : Slot) (t : At s j x) → (get_or seen (8 + 4 * (j - 1)) 0 ≡ x.0)
+    × (get_or seen (9 + 4 * (j - 1)) 0 ≡ x.1) × (get_or seen (10 + 4 * (j - 1)) 0 ≡ newest_of (room seen) (x.1 % room seen) (sits s j x t).under) × (0 < j)
     × (12 + 4 * (j - 1) ≤ length seen) × (length seen < 2 ^ 32)
-key-slot seen s h j x t =
+key_slot seen s h j x t =
     let y = sits s j x t in
     let z : j - 1 ≡ length y.under = omega (arith, y.size) in
     let u = subst (λ (q : List Slot). Table (room seen) seen q) y.split h.table in
@@ -192,63 +192,63 @@ key-slot seen s h j x t =
 
 -- ---- as the code does it
 
-module _ (seen : List ℕ) (tag head n r : ℕ) (e : n ≡ room seen) (f : head ≡ 11 + 4 * (tag % n)) (own-all : Owns seen true) where
-  newest-by : ((s : State) → Holds seen s → Picked (base_of s.groups) (get_or seen head 0) r) → (s : State) → Holds seen s
+module _ (seen : List ℕ) (tag head n r : ℕ) (e : n ≡ room seen) (f : head ≡ 11 + 4 * (tag % n)) (own_all : Owns seen true) where
+  newest_by : ((s : State) → Holds seen s → Picked (base_of s.groups) (get_or seen head 0) r) → (s : State) → Holds seen s
       → Next s (room seen) (tag % room seen) (length (flat s.groups)) r
-  newest-by p s h =
-      let o = owned-is s (sym (own-all s h)) in
+  newest_by p s h =
+      let o = owned_is s (sym (own_all s h)) in
       let t = h.table in
       let z : head ≡ 11 + 4 * (tag % room seen) = f ∙ ap (λ (q : ℕ). 11 + 4 * (tag % q)) e in
-      next-newest s o (room seen) tag (get_or seen head 0) r t.some (ap (λ (q : ℕ). get_or seen q 0) z ∙ t.heads (tag % room seen) (mod-lt tag t.some))
+      next_newest s o (room seen) tag (get_or seen head 0) r t.some (ap (λ (q : ℕ). get_or seen q 0) z ∙ t.heads (tag % room seen) (mod-lt tag t.some))
       (p s h)
 
-pub newest-it : (seen : List ℕ) (tag head n : ℕ) → 12 ≤ length seen → n ≡ room seen → head ≡ 11 + 4 * (tag % n) → Owns seen true
+pub newest_it : (seen : List ℕ) (tag head n : ℕ) → 12 ≤ length seen → n ≡ room seen → head ≡ 11 + 4 * (tag % n) → Owns seen true
     → get_or seen 1 0 < get_or seen head 0 → Newest seen tag (get_or seen head 0)
-newest-it seen tag head n m e f o l = (
+newest_it seen tag head n m e f o l = (
   (λ y. absurd (omega arith)),
-  newest-by seen tag head n (get_or seen head 0) e f o
+  newest_by seen tag head n (get_or seen head 0) e f o
       (λ s h. Picked.it (omega (arith, l, h.base))),
 )
 
-pub newest-zero : (seen : List ℕ) (tag head n : ℕ) → 12 ≤ length seen → n ≡ room seen → head ≡ 11 + 4 * (tag % n) → Owns seen true
+pub newest_zero : (seen : List ℕ) (tag head n : ℕ) → 12 ≤ length seen → n ≡ room seen → head ≡ 11 + 4 * (tag % n) → Owns seen true
     → get_or seen head 0 ≤ get_or seen 1 0 → Newest seen tag 0
-newest-zero seen tag head n m e f o l = ((λ y. absurd (omega arith)), newest-by seen tag head n 0 e f o (λ s h. Picked.none (omega (arith, l, h.base))))
+newest_zero seen tag head n m e f o l = ((λ y. absurd (omega arith)), newest_by seen tag head n 0 e f o (λ s h. Picked.none (omega (arith, l, h.base))))
 
-pub newest-short : (seen : List ℕ) (tag : ℕ) → length seen < 12 → Newest seen tag 0
-newest-short seen tag l = ((λ y. refl), λ s h. absurd (no_table seen s l h))
+pub newest_short : (seen : List ℕ) (tag : ℕ) → length seen < 12 → Newest seen tag 0
+newest_short seen tag l = ((λ y. refl), λ s h. absurd (no_table seen s l h))
 
-pub newest-other : (seen : List ℕ) (tag : ℕ) → Owns seen false → Newest seen tag 0
-newest-other seen tag o = ((λ y. refl), λ s h. next-none s (room seen) (tag % room seen) (length (flat s.groups)) (sym (o s h)))
+pub newest_other : (seen : List ℕ) (tag : ℕ) → Owns seen false → Newest seen tag 0
+newest_other seen tag o = ((λ y. refl), λ s h. next_none s (room seen) (tag % room seen) (length (flat s.groups)) (sym (o s h)))
 
-pub set-short : (seen : List ℕ) → 12 ≤ length seen → Sane seen → length seen < 2 ^ 32
-set-short seen l w = (held seen l w).1.table.short
+pub set_short : (seen : List ℕ) → 12 ≤ length seen → Sane seen → length seen < 2 ^ 32
+set_short seen l w = (held seen l w).1.table.short
 
-pub earlier-it : (seen : List ℕ) (j here : ℕ) → here ≡ 8 + 4 * (j - 1) → get_or seen 1 0 < get_or seen (here + 2) 0 → Earlier seen j (get_or seen (here + 2) 0)
-earlier-it seen j here e l s h x t =
-    let k = key-slot seen s h j x t in
+pub earlier_it : (seen : List ℕ) (j here : ℕ) → here ≡ 8 + 4 * (j - 1) → get_or seen 1 0 < get_or seen (here + 2) 0 → Earlier seen j (get_or seen (here + 2) 0)
+earlier_it seen j here e l s h x t =
+    let k = key_slot seen s h j x t in
     let i : here + 2 ≡ 10 + 4 * (j - 1) = omega arith in
-    next-earlier s j x t (room seen) (get_or seen (here + 2) 0) (get_or seen (here + 2) 0) (ap (λ (q : ℕ). get_or seen q 0) i ∙ k.2)
+    next_earlier s j x t (room seen) (get_or seen (here + 2) 0) (get_or seen (here + 2) 0) (ap (λ (q : ℕ). get_or seen q 0) i ∙ k.2)
     (Picked.it (omega (arith, l, h.base)))
 
-pub earlier-zero : (seen : List ℕ) (j here : ℕ) → here ≡ 8 + 4 * (j - 1) → get_or seen (here + 2) 0 ≤ get_or seen 1 0 → Earlier seen j 0
-earlier-zero seen j here e l s h x t =
-    let k = key-slot seen s h j x t in
+pub earlier_zero : (seen : List ℕ) (j here : ℕ) → here ≡ 8 + 4 * (j - 1) → get_or seen (here + 2) 0 ≤ get_or seen 1 0 → Earlier seen j 0
+earlier_zero seen j here e l s h x t =
+    let k = key_slot seen s h j x t in
     let i : here + 2 ≡ 10 + 4 * (j - 1) = omega arith in
-    next-earlier s j x t (room seen) (get_or seen (here + 2) 0) 0 (ap (λ (q : ℕ). get_or seen q 0) i ∙ k.2) (Picked.none (omega (arith, l, h.base)))
+    next_earlier s j x t (room seen) (get_or seen (here + 2) 0) 0 (ap (λ (q : ℕ). get_or seen q 0) i ∙ k.2) (Picked.none (omega (arith, l, h.base)))
 
 pub place_is : (seen : List ℕ) (j here : ℕ) → here ≡ 8 + 4 * (j - 1) → Placed seen j (get_or seen here 0)
-place_is seen j here e s h x t = ap (λ (q : ℕ). get_or seen q 0) e ∙ (key-slot seen s h j x t).0
+place_is seen j here e s h x t = ap (λ (q : ℕ). get_or seen q 0) e ∙ (key_slot seen s h j x t).0
 
 pub tag_is : (seen : List ℕ) (j here : ℕ) → here ≡ 8 + 4 * (j - 1) → Tagged seen j (get_or seen (here + 1) 0)
-tag_is seen j here e s h x t = ap (λ (q : ℕ). get_or seen q 0) (let i : here + 1 ≡ 9 + 4 * (j - 1) = omega arith in i) ∙ (key-slot seen s h j x t).1
+tag_is seen j here e s h x t = ap (λ (q : ℕ). get_or seen q 0) (let i : here + 1 ≡ 9 + 4 * (j - 1) = omega arith in i) ∙ (key_slot seen s h j x t).1
 
-pub stands-fits : (seen : List ℕ) (j : ℕ) → Stands seen j → (0 < j) × (12 + 4 * (j - 1) ≤ length seen) × (length seen < 2 ^ 32)
-stands-fits seen j w = let k = key-slot seen w.0 w.1.0 j w.1.1.0 w.1.1.1 in (k.3, k.4, k.5)
+pub stands_fits : (seen : List ℕ) (j : ℕ) → Stands seen j → (0 < j) × (12 + 4 * (j - 1) ≤ length seen) × (length seen < 2 ^ 32)
+stands_fits seen j w = let k = key_slot seen w.0 w.1.0 j w.1.1.0 w.1.1.1 in (k.3, k.4, k.5)
 
 -- ---- from one slot of a chain to the next
 
-pub newest-stands : (seen : List ℕ) (tag r : ℕ) → 12 ≤ length seen → Sane seen → Newest seen tag r → 0 < r → Stands seen r
-newest-stands seen tag r l w n p = let h = held seen l w in let q = (n.1 h.0 h.1).is p in (h.0, (h.1, (q.0, q.1.0)))
+pub newest_stands : (seen : List ℕ) (tag r : ℕ) → 12 ≤ length seen → Sane seen → Newest seen tag r → 0 < r → Stands seen r
+newest_stands seen tag r l w n p = let h = held seen l w in let q = (n.1 h.0 h.1).is p in (h.0, (h.1, (q.0, q.1.0)))
 
-pub earlier-stands : (seen : List ℕ) (j r : ℕ) → Stands seen j → Earlier seen j r → 0 < r → Stands seen r
-earlier-stands seen j r (s, (h, (x, a))) e p = let q = (e s h x a).is p in (s, (h, (q.0, q.1.0)))
+pub earlier_stands : (seen : List ℕ) (j r : ℕ) → Stands seen j → Earlier seen j r → 0 < r → Stands seen r
+earlier_stands seen j r (s, (h, (x, a))) e p = let q = (e s h x a).is p in (s, (h, (q.0, q.1.0)))

@@ -8,44 +8,44 @@ use lib.Dec.{eqb}
 use lib.ListN.{length, get_or, set, length-set, replicate, length-replicate}
 use lib.Seq.{get_or-set_same}
 use borrow.Author.Tests.{eqb-true, eqb-false, le-leb, eq-eqb, ne_eqb, lt-leb}
-use Rattle.once.specs.Table.{Slot, room, newestOf, Table, Pushes, Roomy}
-use Rattle.once.specs.Groups.{Group, flat, base_of, State, Holds, Sane, Does, Begun, start, Owns, own, add, need, takenIn, stoppedAt, taken}
+use Rattle.once.specs.Table.{Slot, room, newest_of, Table, Pushes, Roomy}
+use Rattle.once.specs.Groups.{Group, flat, base_of, State, Holds, Sane, Does, Begun, start, Owns, own, add, need, taken_in, stopped_at, taken}
 use Rattle.once.specs.Groups.{noticed, marked, naming, Crowds, Names}
 use mathlib.Core.Logic.{inl, inr}
 use Rattle.once.proofs.TableLaws.{past}
-use Rattle.once.proofs.GroupsLaws.{then-does, header-table, long, held}
+use Rattle.once.proofs.GroupsLaws.{then_does, header_table, long, held}
 
 -- ---- the groups with one key more
 
-add-own : (d : ℕ) (x : Slot) (gs : List Group) → own d gs ≡ true → (flat (add d x gs) ≡ x ∷ flat gs) × (base_of (add d x gs) ≡ base_of gs)
+add_own : (d : ℕ) (x : Slot) (gs : List Group) → own d gs ≡ true → (flat (add d x gs) ≡ x ∷ flat gs) × (base_of (add d x gs) ≡ base_of gs)
 unfolding own add flat base_of
-add-own d x [] e = absurd (let z : ◌≡◌ {A = ℕ} 0 1 = cc in omega arith)
-add-own d x (g ∷ gs) e = (rw e, rw e)
+add_own d x [] e = absurd (let z : ◌≡◌ {A = ℕ} 0 1 = cc in omega arith)
+add_own d x (g ∷ gs) e = (rw e, rw e)
 
-add-new : (d : ℕ) (x : Slot) (gs : List Group) → own d gs ≡ false → (flat (add d x gs) ≡ x ∷ ((base_of gs, d) ∷ flat gs))
+add_new : (d : ℕ) (x : Slot) (gs : List Group) → own d gs ≡ false → (flat (add d x gs) ≡ x ∷ ((base_of gs, d) ∷ flat gs))
     × (base_of (add d x gs) ≡ suc (length (flat gs)))
 unfolding own add flat base_of
-add-new d x [] e = (refl, refl)
-add-new d x (g ∷ gs) e = (rw e, rw e)
+add_new d x [] e = (refl, refl)
+add_new d x (g ∷ gs) e = (rw e, rw e)
 
-need-own : (d : ℕ) (gs : List Group) → own d gs ≡ true → need d gs ≡ 1
+need_own : (d : ℕ) (gs : List Group) → own d gs ≡ true → need d gs ≡ 1
 unfolding need
-need-own d gs e = rw e
+need_own d gs e = rw e
 
-need-new : (d : ℕ) (gs : List Group) → own d gs ≡ false → need d gs ≡ 2
+need_new : (d : ℕ) (gs : List Group) → own d gs ≡ false → need d gs ≡ 2
 unfolding need
-need-new d gs e = rw e
+need_new d gs e = rw e
 
 -- ---- what is taken
 
 module _ (n : ℕ) (x : Slot) (s : State) where
-  pub taken_in : s.stop ≡ 0 → length (flat s.groups) + need s.depth s.groups ≤ n → takenIn x s ≡ taken n x s
+  pub taken_in_lem : s.stop ≡ 0 → length (flat s.groups) + need s.depth s.groups ≤ n → taken_in x s ≡ taken n x s
   unfolding taken
-  taken_in z l = rw (eq-eqb s.stop 0 z, le-leb (length (flat s.groups) + need s.depth s.groups) n l)
+  taken_in_lem z l = rw (eq-eqb s.stop 0 z, le-leb (length (flat s.groups) + need s.depth s.groups) n l)
 
-  pub taken-full : s.stop ≡ 0 → n < length (flat s.groups) + need s.depth s.groups → stoppedAt x.0 s ≡ taken n x s
+  pub taken_full : s.stop ≡ 0 → n < length (flat s.groups) + need s.depth s.groups → stopped_at x.0 s ≡ taken n x s
   unfolding taken
-  taken-full z l = rw (eq-eqb s.stop 0 z, lt-leb (length (flat s.groups) + need s.depth s.groups) n l)
+  taken_full z l = rw (eq-eqb s.stop 0 z, lt-leb (length (flat s.groups) + need s.depth s.groups) n l)
 
   pub taken_not : (s.stop ≡ 0 → ⊥) → s ≡ taken n x s
   unfolding taken
@@ -54,12 +54,12 @@ module _ (n : ℕ) (x : Slot) (s : State) where
 holds_as : (seen : List ℕ) (s r : State) → s ≡ r → Holds seen s → Holds seen r
 holds_as seen s r e h = subst (λ (q : State). Holds seen q) e h
 
-pub take-stopped : (seen : List ℕ) (x : Slot) → (get_or seen 5 0 ≡ 0 → ⊥) → Does (taken (room seen) x) seen seen
-take-stopped seen x z = (refl, λ s h. holds_as seen s (taken (room seen) x s) (taken_not (room seen) x s (λ y. z (h.stop ∙ y))) h)
+pub take_stopped : (seen : List ℕ) (x : Slot) → (get_or seen 5 0 ≡ 0 → ⊥) → Does (taken (room seen) x) seen seen
+take_stopped seen x z = (refl, λ s h. holds_as seen s (taken (room seen) x s) (taken_not (room seen) x s (λ y. z (h.stop ∙ y))) h)
 
-stop-holds : (seen : List ℕ) (p : ℕ) (s : State) → Holds seen s → Holds (set seen 5 p) (stoppedAt p s)
-stop-holds seen p s h = record {
-  table = header-table seen (flat s.groups) 5 p (omega arith) (omega arith) h.table;
+stop_holds : (seen : List ℕ) (p : ℕ) (s : State) → Holds seen s → Holds (set seen 5 p) (stopped_at p s)
+stop_holds seen p s h = record {
+  table = header_table seen (flat s.groups) 5 p (omega arith) (omega arith) h.table;
   base = past seen 5 1 p (λ y. omega arith) ∙ h.base;
   depth = past seen 5 2 p (λ y. omega arith) ∙ h.depth;
   from = past seen 5 3 p (λ y. omega arith) ∙ h.from;
@@ -68,31 +68,31 @@ stop-holds seen p s h = record {
 }
 
 module _ (seen : List ℕ) (place tag n : ℕ) (size : n ≡ room seen) (free : get_or seen 5 0 ≡ 0) where
-  pub full-own : Owns seen true → n ≤ get_or seen 0 0 → Does (taken (room seen) (place, tag)) seen (set seen 5 place)
-  full-own o l = (
+  pub full_own : Owns seen true → n ≤ get_or seen 0 0 → Does (taken (room seen) (place, tag)) seen (set seen 5 place)
+  full_own o l = (
     length-set seen 5 place,
     λ s h.
-        holds_as (set seen 5 place) (stoppedAt place s) (taken (room seen) (place, tag) s)
-        (taken-full (room seen) (place, tag) s (sym h.stop ∙ free) (omega (arith, l, size, h.table.top, need-own s.depth s.groups (sym (o s h)))))
-        (stop-holds seen place s h),
+        holds_as (set seen 5 place) (stopped_at place s) (taken (room seen) (place, tag) s)
+        (taken_full (room seen) (place, tag) s (sym h.stop ∙ free) (omega (arith, l, size, h.table.top, need_own s.depth s.groups (sym (o s h)))))
+        (stop_holds seen place s h),
   )
 
-  pub full-new : Owns seen false → n ≤ get_or seen 0 0 + 1 → Does (taken (room seen) (place, tag)) seen (set seen 5 place)
-  full-new o l = (
+  pub full_new : Owns seen false → n ≤ get_or seen 0 0 + 1 → Does (taken (room seen) (place, tag)) seen (set seen 5 place)
+  full_new o l = (
     length-set seen 5 place,
     λ s h.
-        holds_as (set seen 5 place) (stoppedAt place s) (taken (room seen) (place, tag) s)
-        (taken-full (room seen) (place, tag) s (sym h.stop ∙ free) (omega (arith, l, size, h.table.top, need-new s.depth s.groups (sym (o s h)))))
-        (stop-holds seen place s h),
+        holds_as (set seen 5 place) (stopped_at place s) (taken (room seen) (place, tag) s)
+        (taken_full (room seen) (place, tag) s (sym h.stop ∙ free) (omega (arith, l, size, h.table.top, need_new s.depth s.groups (sym (o s h)))))
+        (stop_holds seen place s h),
   )
 
   pub take_own : (seen' : List ℕ) → Owns seen true → get_or seen 0 0 < n → Pushes seen seen' place tag → Does (taken (room seen) (place, tag)) seen seen'
   take_own seen' o l p = (
     p.0.0,
     λ s h.
-        let w = add-own s.depth (place, tag) s.groups (sym (o s h)) in
-        holds_as seen' (takenIn (place, tag) s) (taken (room seen) (place, tag) s)
-        (taken_in (room seen) (place, tag) s (sym h.stop ∙ free) (omega (arith, l, size, h.table.top, need-own s.depth s.groups (sym (o s h)))))
+        let w = add_own s.depth (place, tag) s.groups (sym (o s h)) in
+        holds_as seen' (taken_in (place, tag) s) (taken (room seen) (place, tag) s)
+        (taken_in_lem (room seen) (place, tag) s (sym h.stop ∙ free) (omega (arith, l, size, h.table.top, need_own s.depth s.groups (sym (o s h)))))
         (record {
           table = subst (λ (q : List Slot). Table (room seen') seen' q) (sym w.0)
               (p.1 (flat s.groups) h.table (omega (arith, l, size, h.table.top)));
@@ -104,22 +104,22 @@ module _ (seen : List ℕ) (place tag n : ℕ) (size : n ≡ room seen) (free : 
         }),
   )
 
-  pub take-new : (seen1 seen3 : List ℕ) → Owns seen false → get_or seen 0 0 + 1 < n → Pushes seen seen1 (get_or seen 1 0) (get_or seen 2 0)
+  pub take_new : (seen1 seen3 : List ℕ) → Owns seen false → get_or seen 0 0 + 1 < n → Pushes seen seen1 (get_or seen 1 0) (get_or seen 2 0)
       → Pushes (set seen1 1 (get_or seen 0 0 + 1)) seen3 place tag → Does (taken (room seen) (place, tag)) seen seen3
-  take-new seen1 seen3 o l p q = (q.0.0 ∙ length-set seen1 1 (get_or seen 0 0 + 1) ∙ p.0.0, λ s h. go s h)
+  take_new seen1 seen3 o l p q = (q.0.0 ∙ length-set seen1 1 (get_or seen 0 0 + 1) ∙ p.0.0, λ s h. go s h)
     where
       go : (s : State) → Holds seen s → Holds seen3 (taken (room seen) (place, tag) s)
       go s h =
-          let w = add-new s.depth (place, tag) s.groups (sym (o s h)) in
+          let w = add_new s.depth (place, tag) s.groups (sym (o s h)) in
           let m : Table (room seen1) seen1 ((base_of s.groups, s.depth) ∷ flat s.groups) =
           subst (λ (y : Slot). Table (room seen1) seen1 (y ∷ flat s.groups)) (ap₂ (λ (a b : ℕ). (a, b)) h.base h.depth)
           (p.1 (flat s.groups) h.table (omega (arith, l, size, h.table.top))) in
-          let k = header-table seen1 ((base_of s.groups, s.depth) ∷ flat s.groups) 1 (get_or seen 0 0 + 1) (omega arith) (omega arith) m in
+          let k = header_table seen1 ((base_of s.groups, s.depth) ∷ flat s.groups) 1 (get_or seen 0 0 + 1) (omega arith) (omega arith) m in
           let r1 : room seen1 ≡ room seen = ap (λ (y : ℕ). (y - 8) / 4) p.0.0 in
           let r2 : room (set seen1 1 (get_or seen 0 0 + 1)) ≡ room seen = ap (λ (y : ℕ). (y - 8) / 4) (length-set seen1 1 (get_or seen 0 0 + 1) ∙ p.0.0) in
           let t = q.1 ((base_of s.groups, s.depth) ∷ flat s.groups) k (omega (arith, l, size, h.table.top, r2)) in
-          holds_as seen3 (takenIn (place, tag) s) (taken (room seen) (place, tag) s)
-          (taken_in (room seen) (place, tag) s (sym h.stop ∙ free) (omega (arith, l, size, h.table.top, need-new s.depth s.groups (sym (o s h)))))
+          holds_as seen3 (taken_in (place, tag) s) (taken (room seen) (place, tag) s)
+          (taken_in_lem (room seen) (place, tag) s (sym h.stop ∙ free) (omega (arith, l, size, h.table.top, need_new s.depth s.groups (sym (o s h)))))
           (record {
             table = subst (λ (y : List Slot). Table (room seen3) seen3 y) (sym w.0) t;
             base = q.0.1 1 (omega arith) (omega arith) ∙ get_or-set_same seen1 1 (get_or seen 0 0 + 1) 0 (omega (arith, long m))
@@ -141,67 +141,67 @@ roomy seen n l w e p =
     (flat h.0.groups, (h.1.table, omega (arith, p, e, h.1.table.top)))
 
 -- and for one more after a mark
-pub roomy-more : (seen seen1 : List ℕ) (a b n : ℕ) → 12 ≤ length seen → Sane seen → n ≡ room seen → get_or seen 0 0 + 1 < n → Pushes seen seen1 a b
+pub roomy_more : (seen seen1 : List ℕ) (a b n : ℕ) → 12 ≤ length seen → Sane seen → n ≡ room seen → get_or seen 0 0 + 1 < n → Pushes seen seen1 a b
     → Roomy (set seen1 1 (get_or seen 0 0 + 1))
-roomy-more seen seen1 a b n l w e p q =
+roomy_more seen seen1 a b n l w e p q =
     let h = held seen l w in
     let t = q.1 (flat h.0.groups) h.1.table (omega (arith, p, e, h.1.table.top)) in
     let r : room (set seen1 1 (get_or seen 0 0 + 1)) ≡ room seen = ap (λ (y : ℕ). (y - 8) / 4) (length-set seen1 1 (get_or seen 0 0 + 1) ∙ q.0.0) in (
       (a, b) ∷ flat h.0.groups,
       (
-        header-table seen1 ((a, b) ∷ flat h.0.groups) 1 (get_or seen 0 0 + 1) (omega arith) (omega arith) t,
+        header_table seen1 ((a, b) ∷ flat h.0.groups) 1 (get_or seen 0 0 + 1) (omega arith) (omega arith) t,
         omega (arith, p, e, r, h.1.table.top),
       ),
     )
 
 -- ---- a key is named
 
-pub does-sane : (f : State → State) (a b : List ℕ) → Sane a → Does f a b → Sane b
-does-sane f a b (inl l) d = inl (omega (arith, d.0))
-does-sane f a b (inr h) d = inr (f h.0, d.1 h.0 h.1)
+pub does_sane : (f : State → State) (a b : List ℕ) → Sane a → Does f a b → Sane b
+does_sane f a b (inl l) d = inl (omega (arith, d.0))
+does_sane f a b (inr h) d = inr (f h.0, d.1 h.0 h.1)
 
-pub marked-so : (again : Bool) (p : ℕ) (a b : List ℕ) → again ≡ true → Does (noticed p) a b → Does (marked again p) a b
+pub marked_so : (again : Bool) (p : ℕ) (a b : List ℕ) → again ≡ true → Does (noticed p) a b → Does (marked again p) a b
 unfolding marked
-marked-so again p a b e d = rw e d
+marked_so again p a b e d = rw e d
 
-pub marked-not : (again : Bool) (p : ℕ) (a : List ℕ) → again ≡ false → Does (marked again p) a a
+pub marked_not : (again : Bool) (p : ℕ) (a : List ℕ) → again ≡ false → Does (marked again p) a a
 unfolding marked
-marked-not again p a e = rw e (refl, λ s h. h)
+marked_not again p a e = rw e (refl, λ s h. h)
 
-naming-does : (again : Bool) (x : Slot) (a b c : List ℕ) → Does (marked again x.0) a b → Does (taken (room b) x) b c → Does (naming again (room a) x) a c
-naming-does again x a b c p q =
-    subst (λ (n : ℕ). Does (naming again n x) a c) (ap (λ (m : ℕ). (m - 8) / 4) p.0) (then-does (marked again x.0) (taken (room b) x) a b c p q)
+naming_does : (again : Bool) (x : Slot) (a b c : List ℕ) → Does (marked again x.0) a b → Does (taken (room b) x) b c → Does (naming again (room a) x) a c
+naming_does again x a b c p q =
+    subst (λ (n : ℕ). Does (naming again n x) a c) (ap (λ (m : ℕ). (m - 8) / 4) p.0) (then_does (marked again x.0) (taken (room b) x) a b c p q)
 
 -- ---- a chain that is too long
 
-need-some : (d : ℕ) (gs : List Group) → 1 ≤ need d gs
+need_some : (d : ℕ) (gs : List Group) → 1 ≤ need d gs
 unfolding need
-need-some d gs = go (own d gs)
+need_some d gs = go (own d gs)
   where
     go : (b : Bool) → 1 ≤ cond b 1 2
     go true = omega arith
     go false = omega arith
 
-pub crowds-not : (seen : List ℕ) → Crowds seen false
-crowds-not seen e = absurd (let z : ◌≡◌ {A = ℕ} 0 1 = cc in omega arith)
+pub crowds_not : (seen : List ℕ) → Crowds seen false
+crowds_not seen e = absurd (let z : ◌≡◌ {A = ℕ} 0 1 = cc in omega arith)
 
 -- two slots are taken, so that a table of two would be full
-crowd-does : (seen : List ℕ) (x : Slot) → Crowds seen true → Does (taken 2 x) seen (set seen 5 x.0)
-crowd-does seen x w = let y = w refl in (
+crowd_does : (seen : List ℕ) (x : Slot) → Crowds seen true → Does (taken 2 x) seen (set seen 5 x.0)
+crowd_does seen x w = let y = w refl in (
   length-set seen 5 x.0,
   λ s h.
-      holds_as (set seen 5 x.0) (stoppedAt x.0 s) (taken 2 x s)
-      (taken-full 2 x s (sym h.stop ∙ y.1) (omega (arith, y.2, h.table.top, need-some s.depth s.groups)))
-      (stop-holds seen x.0 s h),
+      holds_as (set seen 5 x.0) (stopped_at x.0 s) (taken 2 x s)
+      (taken_full 2 x s (sym h.stop ∙ y.1) (omega (arith, y.2, h.table.top, need_some s.depth s.groups)))
+      (stop_holds seen x.0 s h),
 )
 
-pub names-crowded : (again : Bool) (x : Slot) (a b : List ℕ) (r : Bool) → Does (marked again x.0) a b → r ≡ true → Crowds b r
+pub names_crowded : (again : Bool) (x : Slot) (a b : List ℕ) (r : Bool) → Does (marked again x.0) a b → r ≡ true → Crowds b r
     → Names again x a (set b 5 x.0)
-names-crowded again x a b r p e w =
-    (2, (inr refl, then-does (marked again x.0) (taken 2 x) a b (set b 5 x.0) p (crowd-does b x (subst (Crowds b) e w))))
+names_crowded again x a b r p e w =
+    (2, (inr refl, then_does (marked again x.0) (taken 2 x) a b (set b 5 x.0) p (crowd_does b x (subst (Crowds b) e w))))
 
-pub names-taken : (again : Bool) (x : Slot) (a b c : List ℕ) → Does (marked again x.0) a b → Does (taken (room b) x) b c → Names again x a c
-names-taken again x a b c p q = (room a, (inl refl, naming-does again x a b c p q))
+pub names_taken : (again : Bool) (x : Slot) (a b c : List ℕ) → Does (marked again x.0) a b → Does (taken (room b) x) b c → Names again x a c
+names_taken again x a b c p q = (room a, (inl refl, naming_does again x a b c p q))
 
 -- ---- an empty table
 
@@ -218,8 +218,8 @@ pub record Clearing (before seen : List ℕ) (from i : ℕ) : Type 0 where
 abbrev pub headed : List ℕ → ℕ → List ℕ
 headed s from = set (set (set (set (set (set s 0 0) 1 0) 2 0) 3 from) 4 0) 5 0
 
-pub clear-begin : (s : List ℕ) (from : ℕ) → 12 ≤ length s → Clearing (headed s from) (headed s from) from 0
-clear-begin s from l =
+pub clear_begin : (s : List ℕ) (from : ℕ) → 12 ≤ length s → Clearing (headed s from) (headed s from) from 0
+clear_begin s from l =
     let a = set s 0 0 in
     let b = set (set s 0 0) 1 0 in
     let c = set (set (set s 0 0) 1 0) 2 0 in
@@ -247,9 +247,9 @@ clear-begin s from l =
 less : (h i : ℕ) → h < i + 1 → (h ≡ i → ⊥) → h < i
 less h i q n = omega arith
 
-pub clear-on : (before seen : List ℕ) (from i : ℕ) → Clearing before seen from i → 11 + 4 * i < length seen
+pub clear_on : (before seen : List ℕ) (from i : ℕ) → Clearing before seen from i → 11 + 4 * i < length seen
     → Clearing before (set seen (11 + 4 * i) 0) from (i + 1)
-clear-on before seen from i c l = record {
+clear_on before seen from i c l = record {
   len = length-set seen (11 + 4 * i) 0 ∙ c.len;
   top = past seen (11 + 4 * i) 0 0 (λ y. omega arith) ∙ c.top;
   base = past seen (11 + 4 * i) 1 0 (λ y. omega arith) ∙ c.base;
@@ -264,10 +264,10 @@ clear-on before seen from i c l = record {
     go h q true e = let z = eqb-true h i e in ap (λ (y : ℕ). get_or (set seen (11 + 4 * i) 0) (11 + 4 * y) 0) z ∙ get_or-set_same seen (11 + 4 * i) 0 0 l
     go h q false e = past seen (11 + 4 * i) (11 + 4 * h) 0 (λ y. eqb-false h i e (omega arith)) ∙ c.heads h (less h i q (λ y. eqb-false h i e y))
 
-pub clear-done : (before seen : List ℕ) (from i n : ℕ) → Clearing before seen from i → 12 ≤ length before → length before < 2 ^ 32 → n ≡ room before → n ≤ i
+pub clear_done : (before seen : List ℕ) (from i n : ℕ) → Clearing before seen from i → 12 ≤ length before → length before < 2 ^ 32 → n ≡ room before → n ≤ i
     → Holds seen (start from)
-unfolding start flat base_of newestOf
-clear-done before seen from i n c l m e p = record {
+unfolding start flat base_of newest_of
+clear_done before seen from i n c l m e p = record {
   table = record {
     some = omega (arith, c.len);
     size = refl;
@@ -284,36 +284,36 @@ clear-done before seen from i n c l m e p = record {
   stop = c.stop;
 }
 
-pub headed-length : (s : List ℕ) (from : ℕ) → length (headed s from) ≡ length s
-headed-length s from = simp length-set
+pub headed_length : (s : List ℕ) (from : ℕ) → length (headed s from) ≡ length s
+headed_length s from = simp length-set
 
-pub clear-all : (s seen : List ℕ) (from i n : ℕ) → Clearing (headed s from) seen from i → 12 ≤ length s → length s < 2 ^ 32 → n ≡ room s → n ≤ i
+pub clear_all : (s seen : List ℕ) (from i n : ℕ) → Clearing (headed s from) seen from i → 12 ≤ length s → length s < 2 ^ 32 → n ≡ room s → n ≤ i
     → Begun from s seen
-clear-all s seen from i n c l m e p =
-    let z = headed-length s from in
-    (c.len ∙ z, λ q. clear-done (headed s from) seen from i n c (omega arith) (omega arith) (e ∙ ap (λ (y : ℕ). (y - 8) / 4) (sym z)) p)
+clear_all s seen from i n c l m e p =
+    let z = headed_length s from in
+    (c.len ∙ z, λ q. clear_done (headed s from) seen from i n c (omega arith) (omega arith) (e ∙ ap (λ (y : ℕ). (y - 8) / 4) (sym z)) p)
 
 -- ---- a table of zeroes is an empty one
 
 abbrev zeroes : ℕ → List ℕ
 zeroes n = replicate n 0
 
-zero-at : (n i : ℕ) → get_or (zeroes n) i 0 ≡ 0
-zero-at zero i = refl
-zero-at (suc n) zero = refl
-zero-at (suc n) (suc i) = zero-at n i
+zero_at : (n i : ℕ) → get_or (zeroes n) i 0 ≡ 0
+zero_at zero i = refl
+zero_at (suc n) zero = refl
+zero_at (suc n) (suc i) = zero_at n i
 
-pub zeroes-hold : (n : ℕ) → 12 ≤ n → n < 2 ^ 32 → Holds (replicate n 0) (start 0)
-zeroes-hold n l m =
-    clear-done (zeroes n) (zeroes n) 0 (room (zeroes n)) (room (zeroes n))
+pub zeroes_hold : (n : ℕ) → 12 ≤ n → n < 2 ^ 32 → Holds (replicate n 0) (start 0)
+zeroes_hold n l m =
+    clear_done (zeroes n) (zeroes n) 0 (room (zeroes n)) (room (zeroes n))
     (record {
       len = refl;
-      top = zero-at n 0;
-      base = zero-at n 1;
-      depth = zero-at n 2;
-      since = zero-at n 3;
-      twice = zero-at n 4;
-      stop = zero-at n 5;
-      heads = λ h q. zero-at n (11 + 4 * h);
+      top = zero_at n 0;
+      base = zero_at n 1;
+      depth = zero_at n 2;
+      since = zero_at n 3;
+      twice = zero_at n 4;
+      stop = zero_at n 5;
+      heads = λ h q. zero_at n (11 + 4 * h);
     })
     (omega (arith, length-replicate {A = ℕ} n 0)) (omega (arith, length-replicate {A = ℕ} n 0)) refl (omega arith)

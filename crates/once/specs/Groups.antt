@@ -97,8 +97,8 @@ unfoldable pub need : ℕ → List Group → ℕ
 need d gs = cond (own d gs) 1 2
 
 -- a further key of the present object is taken in, or is the first that is not
-abbrev pub takenIn : Slot → State → State
-takenIn x s = record {
+abbrev pub taken_in : Slot → State → State
+taken_in x s = record {
   groups = add s.depth x s.groups;
   depth = s.depth;
   from = s.from;
@@ -106,12 +106,12 @@ takenIn x s = record {
   stop = s.stop;
 }
 
-abbrev pub stoppedAt : ℕ → State → State
-stoppedAt p s = record { groups = s.groups; depth = s.depth; from = s.from; twice = s.twice; stop = p }
+abbrev pub stopped_at : ℕ → State → State
+stopped_at p s = record { groups = s.groups; depth = s.depth; from = s.from; twice = s.twice; stop = p }
 
 unfoldable pub taken : ℕ → Slot → State → State
 taken n x s = cond (eqb s.stop 0) (cond (leb (length (flat s.groups) + need s.depth s.groups) n)
-    (takenIn x s) (stoppedAt x.0 s)) s
+    (taken_in x s) (stopped_at x.0 s)) s
 
 -- ---- the present object's keys
 

@@ -21,5 +21,5 @@ unfoldable pub mixes : ℕ → List ℕ → ℕ
 mixes h [] = h
 mixes h (b ∷ u) = mixes (mix h b) u
 
-unfoldable pub hashOf : ℕ → List ℕ → ℕ
-hashOf salt u = finish (mixes (seed salt) u)
+unfoldable pub hash_of : ℕ → List ℕ → ℕ
+hash_of salt u = finish (mixes (seed salt) u)

@@ -12,12 +12,12 @@ abbrev pub slots_of : (List ℕ → ℕ) → List Key → List Slot
 slots_of tag [] = []
 slots_of tag (k ∷ o) = (k.0, tag k.1) ∷ slots_of tag o
 
-abbrev pub allSlots : (List ℕ → ℕ) → List (List Key) → List (List Slot)
-allSlots tag [] = []
-allSlots tag (o ∷ os) = slots_of tag o ∷ allSlots tag os
+abbrev pub all_slots : (List ℕ → ℕ) → List (List Key) → List (List Slot)
+all_slots tag [] = []
+all_slots tag (o ∷ os) = slots_of tag o ∷ all_slots tag os
 
 abbrev pub held_of : (List ℕ → ℕ) → ℕ → Kept → State
-held_of tag f s = state_of (allSlots tag s.keys) f s.twice s.stop
+held_of tag f s = state_of (all_slots tag s.keys) f s.twice s.stop
 
 -- a key that is there, before a place
 abbrev pub Before : (ℕ → List ℕ → Type 0) → ℕ → Key → Type 0

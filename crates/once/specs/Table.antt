@@ -11,9 +11,9 @@ abbrev pub room : List ℕ → ℕ
 room seen = (length seen - 8) / 4
 
 -- of the slots, the newest first: one more than how many are below the newest of bucket h of n; 0 where there is none
-unfoldable pub newestOf : ℕ → ℕ → List Slot → ℕ
-newestOf n h [] = 0
-newestOf n h (s ∷ k) = cond (eqb (s.1 % n) h) (suc (length k)) (newestOf n h k)
+unfoldable pub newest_of : ℕ → ℕ → List Slot → ℕ
+newest_of n h [] = 0
+newest_of n h (s ∷ k) = cond (eqb (s.1 % n) h) (suc (length k)) (newest_of n h k)
 
 -- each slot's place, tag and link
 abbrev pub Slotted : ℕ → List ℕ → List Slot → Type 0
@@ -21,7 +21,7 @@ Slotted n seen [] = Unit {0}
 Slotted n seen (s ∷ k) =
     (get_or seen (8 + 4 * length k) 0 ≡ s.0)
     × (get_or seen (9 + 4 * length k) 0 ≡ s.1)
-    × (get_or seen (10 + 4 * length k) 0 ≡ newestOf n (s.1 % n) k)
+    × (get_or seen (10 + 4 * length k) 0 ≡ newest_of n (s.1 % n) k)
     × Slotted n seen k
 
 pub record Table (n : ℕ) (seen : List ℕ) (k : List Slot) : Type 0 where
@@ -31,7 +31,7 @@ pub record Table (n : ℕ) (seen : List ℕ) (k : List Slot) : Type 0 where
   pub top : get_or seen 0 0 ≡ length k
   pub few : length k ≤ n
   pub slots : Slotted n seen k
-  pub heads : (h : ℕ) → h < n → get_or seen (11 + 4 * h) 0 ≡ newestOf n h k
+  pub heads : (h : ℕ) → h < n → get_or seen (11 + 4 * h) 0 ≡ newest_of n h k
 
 -- the rest of the header
 abbrev pub HeaderStays : List ℕ → List ℕ → Type 0

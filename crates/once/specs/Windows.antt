@@ -19,13 +19,13 @@ abbrev pub all : ℕ → Bool
 all e = true
 
 -- the place of the first key that repeats one that W keeps; 0 for none
-unfoldable pub repeatIn : (ℕ → Bool) → List (List Key) → List Event → ℕ
-repeatIn W os [] = 0
-repeatIn W os (begins ∷ es) = repeatIn W ([] ∷ os) es
-repeatIn W [] (ends ∷ es) = repeatIn W [] es
-repeatIn W (o ∷ os) (ends ∷ es) = repeatIn W os es
-repeatIn W [] (named q u ∷ es) = repeatIn W [] es
-repeatIn W (o ∷ os) (named q u ∷ es) = cond (hits W u o) q (repeatIn W (((q, u) ∷ o) ∷ os) es)
+unfoldable pub repeat_in : (ℕ → Bool) → List (List Key) → List Event → ℕ
+repeat_in W os [] = 0
+repeat_in W os (begins ∷ es) = repeat_in W ([] ∷ os) es
+repeat_in W [] (ends ∷ es) = repeat_in W [] es
+repeat_in W (o ∷ os) (ends ∷ es) = repeat_in W os es
+repeat_in W [] (named q u ∷ es) = repeat_in W [] es
+repeat_in W (o ∷ os) (named q u ∷ es) = cond (hits W u o) q (repeat_in W (((q, u) ∷ o) ∷ os) es)
 
 -- from f on, before p; p is 0 for no end
 abbrev pub window : ℕ → ℕ → ℕ → Bool
@@ -113,7 +113,7 @@ pub data Passes (f : ℕ) : Kept → List Event → Kept → Type 0 where
 -- first key that repeats one of them, 0 for none
 pub record SearchedTo (b : ℕ) (es : List Event) (best from : ℕ) : Type 0 where
   pub spans : Spans 1 b es
-  pub found : best ≡ repeatIn (window 0 from) [] es
+  pub found : best ≡ repeat_in (window 0 from) [] es
   pub inside : from < b
 
 -- a window from `next` on comes after one from `from` on, or is none

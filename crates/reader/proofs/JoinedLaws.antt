@@ -12,109 +12,109 @@ use Rattle.meaning.specs.declared.Refusal.{Refusal}
 use Rattle.meaning.specs.declared.Refusal.TheVariants.{NotGrammar}
 use Rattle.meaning.specs.Letters.{ch}
 use Rattle.machine.specs.Scan.{Out, takes, stops, breaks, over, Ran, ended, broke, ran}
-use Rattle.machine.specs.Machine.{Use, Item, string-part, binary-part, Got, string, binary, Base, wantString, wantBinary, got}
-use Rattle.machine.specs.Machine.{Mode, base, item, Frame, Conf, at, step, finish, onPart, onOut, odd, Bracket, square, curly}
-use Rattle.machine.specs.Machine.{Class, class_of, blankC, hashC, slashC, commaC, colonC, plusC, quoteC, dollarC}
-use Rattle.machine.specs.Machine.{letterN, letterT, letterF, letterC, otherC, open_c, closeC, asValue, asKey, onGot}
+use Rattle.machine.specs.Machine.{Use, Item, string_part, binary_part, Got, string, binary, Base, want_string, want_binary, got}
+use Rattle.machine.specs.Machine.{Mode, base, item, Frame, Conf, at, step, finish, on_part, on_out, odd, Bracket, square, curly}
+use Rattle.machine.specs.Machine.{Class, class_of, blank_c, hash_c, slash_c, comma_c, colon_c, plus_c, quote_c, dollar_c}
+use Rattle.machine.specs.Machine.{letter_n, letter_t, letter_f, letter_c, other_c, open_c, close_c, as_value_of, as_key_of, on_got}
 use Rattle.machine.specs.Machine as Machine
-use Rattle.machine.specs.Heard.{Heard, atGot, atColon}
+use Rattle.machine.specs.Heard.{Heard, at_got, at_colon}
 use Rattle.machine.specs.Strings
 use Rattle.machine.specs.Binaries
 use Rattle.reader.specs.Between.Scanning.{Goes, Refuses, Bare}
 use Rattle.reader.specs.Between.Layout.{LayoutEnds, Breaks}
 use Rattle.items.specs.Between.PlacedPart.{Ended}
-use Rattle.reader.specs.Between.Joined.{Plusless, Plus, Alone, Joining, JoinSays, link_of, Linked, Unlinked, in-part, after-part, LinkSays}
-use Rattle.reader.specs.Between.Joined.{Joined, BytesSays, stringPart, binaryPart, wholeBinary}
+use Rattle.reader.specs.Between.Joined.{Plusless, Plus, Alone, Joining, JoinSays, link_of, Linked, Unlinked, in_part, after_part, LinkSays}
+use Rattle.reader.specs.Between.Joined.{Joined, BytesSays, string_part_of, binary_part_of, whole_binary}
 use Rattle.items.specs.Between.StringPart.{PartSays}
 use Rattle.reader.specs.declared.joined.Bytes.{Bytes}
 use Rattle.reader.specs.declared.joined.Join.{Join}
 use Rattle.reader.specs.declared.joined.Link.{Link}
 use Rattle.items.specs.declared.string_part.Part.{Part}
-use Rattle.reader.proofs.ScanningLaws.{both, go, alike, then-refused, faulted}
-use Rattle.machine.proofs.Classes.{ClassIs, class-is, closing, opening}
-use Rattle.machine.proofs.Lift.{string-quiet, binary-quiet}
-use Rattle.reader.proofs.ScanningItemLaws.{lift-done, lift-refused}
-use Rattle.items.proofs.StoreLaws.{sets-app}
+use Rattle.reader.proofs.ScanningLaws.{both, go, alike, then_refused, faulted}
+use Rattle.machine.proofs.Classes.{ClassIs, class_is_lem, closing, opening}
+use Rattle.machine.proofs.Lift.{string_quiet, binary_quiet}
+use Rattle.reader.proofs.ScanningItemLaws.{lift_done, lift_refused}
+use Rattle.items.proofs.StoreLaws.{sets_app}
 
 -- ---- what follows a part
 
-class-plus : (b : ℕ) (c : Class) → ClassIs b c → c ≡ plusC → b ≡ ch "+"
-class-plus b c x e = rw e at x
+class_plus : (b : ℕ) (c : Class) → ClassIs b c → c ≡ plus_c → b ≡ ch "+"
+class_plus b c x e = rw e at x
 
-pub not-plus : (b : ℕ) → (b ≡ ch "+" → ⊥) → class_of b ≡ plusC → ⊥
-not-plus b i e = i (class-plus b (class_of b) (class-is b) e)
+pub not_plus : (b : ℕ) → (b ≡ ch "+" → ⊥) → class_of b ≡ plus_c → ⊥
+not_plus b i e = i (class_plus b (class_of b) (class_is_lem b) e)
 
 module _ (text : List ℕ) (p q : ℕ) (v : LayoutEnds text p q) where
-  pub alone-end : length text ≤ q → JoinSays text p (Join.Last q)
-  alone-end h = record { goes = v.goes; onward = v.onward; bare = v.bare; plusless = λ g. absurd (omega arith) }
+  pub alone_end : length text ≤ q → JoinSays text p (Join.Last q)
+  alone_end h = record { goes = v.goes; onward = v.onward; bare = v.bare; plusless = λ g. absurd (omega arith) }
 
   pub alone : (get_or text q 0 ≡ ch "+" → ⊥) → JoinSays text p (Join.Last q)
-  alone n = record { goes = v.goes; onward = v.onward; bare = v.bare; plusless = λ g. not-plus (get_or text q 0) n }
+  alone n = record { goes = v.goes; onward = v.onward; bare = v.bare; plusless = λ g. not_plus (get_or text q 0) n }
 
   module _ (h : q < length text) (e : get_or text q 0 ≡ ch "+") where
     plussed : (g : Got) (s : Base) → Plus g s → (d : ℕ) (k : List Frame) → Goes text (at (base (got g)) d k) p (at (base s) d k) (q + 1)
     plussed g s f d k = v.goes (got g) d k ∙ go (at (base (got g)) d k) (at (base s) d k) text q h (both (rw e (f q d k)) (rw e))
 
-    pub plus-breaks : (r : ℕ) → Breaks text base (q + 1) r → JoinSays text p (Join.NotGrammar r)
-    plus-breaks r w g s f d k = plussed g s f d k ∙ w s d k
+    pub plus_breaks : (r : ℕ) → Breaks text base (q + 1) r → JoinSays text p (Join.NotGrammar r)
+    plus_breaks r w g s f d k = plussed g s f d k ∙ w s d k
 
-    pub plus-next : (r : ℕ) → LayoutEnds text (q + 1) r → JoinSays text p (Join.Next r)
-    plus-next r w = record {
+    pub plus_next : (r : ℕ) → LayoutEnds text (q + 1) r → JoinSays text p (Join.Next r)
+    plus_next r w = record {
       goes = λ g s f d k. plussed g s f d k ∙ w.goes s d k;
       past = omega (arith, v.onward.behind, w.onward.behind);
       within = w.onward.within;
       bare = w.bare;
     }
 
-pub join-breaks : (text : List ℕ) (p q : ℕ) → Breaks text base p q → JoinSays text p (Join.NotGrammar q)
-join-breaks text p q w g s f d k = w (got g) d k
+pub join_breaks : (text : List ℕ) (p q : ℕ) → Breaks text base p q → JoinSays text p (Join.NotGrammar q)
+join_breaks text p q w g s f d k = w (got g) d k
 
 -- joined parts that no plus follows do what their value, or their key, does
-module _ (g w : Got) (v : asValue g ≡ asValue w) (u : asKey g ≡ asKey w) where
-  whole-class : (p d : ℕ) (k : List Frame) (c : Class) → (c ≡ blankC → ⊥) → (c ≡ hashC → ⊥) → (c ≡ slashC → ⊥) → (c ≡ plusC → ⊥)
-      → ◌≡◌ {A = Conf × List Heard} (onGot p d k g c, atGot g c) (onGot p d k w c, atGot w c)
-  whole-class p d k blankC a b e f = absurd (a refl)
-  whole-class p d k hashC a b e f = absurd (b refl)
-  whole-class p d k slashC a b e f = absurd (e refl)
-  whole-class p d k plusC a b e f = absurd (f refl)
-  whole-class p d k commaC a b e f = both (ap (Machine.needValue p (Machine.commaAfter p d k)) v) refl
-  whole-class p d k colonC a b e f = both (ap (Machine.needKey p (Machine.colonAfter p d k)) u) (ap atColon u)
-  whole-class p d k quoteC a b e f = refl
-  whole-class p d k dollarC a b e f = refl
-  whole-class p d k letterN a b e f = refl
-  whole-class p d k letterT a b e f = refl
-  whole-class p d k letterF a b e f = refl
-  whole-class p d k letterC a b e f = refl
-  whole-class p d k otherC a b e f = refl
-  whole-class p d k (open_c c) a b e f = refl
-  whole-class p d k (closeC c) a b e f = both (ap (Machine.needValue p (Machine.closeAfter p d c k)) v) refl
+module _ (g w : Got) (v : as_value_of g ≡ as_value_of w) (u : as_key_of g ≡ as_key_of w) where
+  whole_class : (p d : ℕ) (k : List Frame) (c : Class) → (c ≡ blank_c → ⊥) → (c ≡ hash_c → ⊥) → (c ≡ slash_c → ⊥) → (c ≡ plus_c → ⊥)
+      → ◌≡◌ {A = Conf × List Heard} (on_got p d k g c, at_got g c) (on_got p d k w c, at_got w c)
+  whole_class p d k blank_c a b e f = absurd (a refl)
+  whole_class p d k hash_c a b e f = absurd (b refl)
+  whole_class p d k slash_c a b e f = absurd (e refl)
+  whole_class p d k plus_c a b e f = absurd (f refl)
+  whole_class p d k comma_c a b e f = both (ap (Machine.need_value p (Machine.comma_after p d k)) v) refl
+  whole_class p d k colon_c a b e f = both (ap (Machine.need_key p (Machine.colon_after p d k)) u) (ap at_colon u)
+  whole_class p d k quote_c a b e f = refl
+  whole_class p d k dollar_c a b e f = refl
+  whole_class p d k letter_n a b e f = refl
+  whole_class p d k letter_t a b e f = refl
+  whole_class p d k letter_f a b e f = refl
+  whole_class p d k letter_c a b e f = refl
+  whole_class p d k other_c a b e f = refl
+  whole_class p d k (open_c c) a b e f = refl
+  whole_class p d k (close_c c) a b e f = both (ap (Machine.need_value p (Machine.close_after p d c k)) v) refl
 
   pub whole_is : (text : List ℕ) (p : ℕ) → Bare text p → Plusless text p → (d : ℕ) (k : List Frame)
       → Goes text (at (base (got g)) d k) p (at (base (got w)) d k) p
   whole_is text p b n d k = alike (at (base (got g)) d k) (at (base (got w)) d k) text p
-      (λ h. whole-class p d k (class_of (get_or text p 0)) (b.no-blank h) (b.no-hash h) (b.no_slash h) (n h)) (λ h. ap (Machine.complete p k) v)
+      (λ h. whole_class p d k (class_of (get_or text p 0)) (b.no_blank h) (b.no_hash h) (b.no_slash h) (n h)) (λ h. ap (Machine.complete p k) v)
 
 -- ---- a part at its place
 
-pub part-here : (text : List ℕ) (p : ℕ) → take (length text - p) (drop p text) ≡ drop p text
-part-here text p = take_all (length text - p) (drop p text) (simp length-drop (omega arith))
+pub part_here : (text : List ℕ) (p : ℕ) → take (length text - p) (drop p text) ≡ drop p text
+part_here text p = take_all (length text - p) (drop p text) (simp length-drop (omega arith))
 
 pub part_length : (text : List ℕ) (p : ℕ) → length (take (length text - p) (drop p text)) ≡ length text - p
-part_length text p = ap length (part-here text p) ∙ simp length-drop refl
+part_length text p = ap length (part_here text p) ∙ simp length-drop refl
 
 module _ (text : List ℕ) (p start : ℕ) (entry : List ℕ) (h : p ≤ length text) where
-  pub part-refused : (exit : List ℕ) (why : ℕ → Refusal)
+  pub part_refused : (exit : List ℕ) (why : ℕ → Refusal)
       → ((o : ℕ) → ran Strings.scan o Strings.begin (take (length text - p) (drop p text)) ≡ broke (why o))
       → Unlinked Strings.scan Strings.begin text p start entry exit (why p)
-  part-refused exit why w = in-part (ap (ran Strings.scan p Strings.begin) (sym (part-here text p)) ∙ w p)
+  part_refused exit why w = in_part (ap (ran Strings.scan p Strings.begin) (sym (part_here text p)) ∙ w p)
 
-  pub part-closed : (exit : List ℕ) (taken n : ℕ) → PartSays (take (length text - p) (drop p text)) start entry exit (Part.Closed n taken)
+  pub part_closed : (exit : List ℕ) (taken n : ℕ) → PartSays (take (length text - p) (drop p text)) start entry exit (Part.Closed n taken)
       → Ended Strings.scan Strings.begin text p start entry exit (p + taken) n
-  part-closed exit taken n w =
+  part_closed exit taken n w =
       let l = part_length text p in
       record {
         u = w.value;
-        runs = ap (ran Strings.scan p Strings.begin) (sym (part-here text p)) ∙ w.runs p;
+        runs = ap (ran Strings.scan p Strings.begin) (sym (part_here text p)) ∙ w.runs p;
         meant = record { counted = w.counted; filled = w.stored; room = omega (arith, w.fewer, w.counted); past = omega (arith, w.fewer) };
         within = omega (arith, w.within);
       }
@@ -122,10 +122,10 @@ module _ (text : List ℕ) (p start : ℕ) (entry : List ℕ) (h : p ≤ length 
 -- a part, by what follows it
 module _ {S : Type 0} {scan : ℕ → S → ℕ → Out S (List ℕ)} {begin : S} {text : List ℕ} {p start : ℕ} {entry exit : List ℕ} {q n : ℕ}
     (w : Ended scan begin text p start entry exit q n) where
-  pub part-linked : (j : Join) → JoinSays text q j → LinkSays scan begin text p start entry exit (link_of n j)
-  part-linked (Join.Next r) j = record { close = q; part = w; after = j }
-  part-linked (Join.Last r) j = record { close = q; part = w; after = j }
-  part-linked (Join.NotGrammar r) j = after-part {n = n} (record { close = q; part = w; after = j })
+  pub part_linked : (j : Join) → JoinSays text q j → LinkSays scan begin text p start entry exit (link_of n j)
+  part_linked (Join.Next r) j = record { close = q; part = w; after = j }
+  part_linked (Join.Last r) j = record { close = q; part = w; after = j }
+  part_linked (Join.NotGrammar r) j = after_part {n = n} (record { close = q; part = w; after = j })
 
 -- ---- what strings and binary have in common
 
@@ -139,84 +139,84 @@ pub record Kind (S : Type 0) (scan : ℕ → S → ℕ → Out S (List ℕ)) (be
   pub opens : (text : List ℕ) (a : A) (u : List ℕ) (p : ℕ) → Bare text p → (d : ℕ) (k : List Frame)
       → Goes text (at (base (wants a u)) d k) p (at (item (part a u)) d k) p
 
-string-none : (p b : ℕ) → (b ≡ ch "\"" → ⊥) → (b ≡ ch "'" → ⊥) → Strings.scan p Strings.begin b ≡ breaks (NotGrammar p)
+string_none : (p b : ℕ) → (b ≡ ch "\"" → ⊥) → (b ≡ ch "'" → ⊥) → Strings.scan p Strings.begin b ≡ breaks (NotGrammar p)
 unfolding Strings.scan
-string-none p b i j = rw (ne_eqb _ _ i, ne_eqb _ _ j)
+string_none p b i j = rw (ne_eqb _ _ i, ne_eqb _ _ j)
 
-binary-none : (p b : ℕ) → (b ≡ ch "$" → ⊥) → Binaries.scan p Binaries.begin b ≡ breaks (NotGrammar p)
+binary_none : (p b : ℕ) → (b ≡ ch "$" → ⊥) → Binaries.scan p Binaries.begin b ≡ breaks (NotGrammar p)
 unfolding Binaries.scan
-binary-none p b i = rw (ne_eqb _ _ i)
+binary_none p b i = rw (ne_eqb _ _ i)
 
 module _ (p d : ℕ) (k : List Frame) (z : Use) (u : List ℕ) where
-  string-odd : (b : ℕ) → (b ≡ ch "\"" → ⊥) → (b ≡ ch "'" → ⊥) → odd p ≡ step p (at (item (stringPart z u)) d k) b
-  string-odd b i j = sym (ap (λ (o : Out Strings.St (List ℕ)). onOut p d k b (Machine.lift (string-part z u) (λ x. string z (u ++ x)) o)) (string-none p b i j))
+  string_odd : (b : ℕ) → (b ≡ ch "\"" → ⊥) → (b ≡ ch "'" → ⊥) → odd p ≡ step p (at (item (string_part_of z u)) d k) b
+  string_odd b i j = sym (ap (λ (o : Out Strings.St (List ℕ)). on_out p d k b (Machine.lift (string_part z u) (λ x. string z (u ++ x)) o)) (string_none p b i j))
 
-  string-class : (b : ℕ) (c : Class) → ClassIs b c → (c ≡ blankC → ⊥) → (c ≡ hashC → ⊥) → (c ≡ slashC → ⊥)
-      → onPart p d k b (wantString z u) (step p (at (item (stringPart z u)) d k) b) (odd p) c ≡ step p (at (item (stringPart z u)) d k) b
-  string-class b blankC x i j l = absurd (i refl)
-  string-class b hashC x i j l = absurd (j refl)
-  string-class b slashC x i j l = absurd (l refl)
-  string-class b quoteC x i j l = refl
-  string-class b commaC x i j l = string-odd b (omega arith) (omega arith)
-  string-class b colonC x i j l = string-odd b (omega arith) (omega arith)
-  string-class b plusC x i j l = string-odd b (omega arith) (omega arith)
-  string-class b dollarC x i j l = string-odd b (omega arith) (omega arith)
-  string-class b letterN x i j l = string-odd b (omega arith) (omega arith)
-  string-class b letterT x i j l = string-odd b (omega arith) (omega arith)
-  string-class b letterF x i j l = string-odd b (omega arith) (omega arith)
-  string-class b letterC x i j l = string-odd b (omega arith) (omega arith)
-  string-class b otherC x i j l = string-odd b x.4 x.5
-  string-class b (open_c square) x i j l = string-odd b (omega arith) (omega arith)
-  string-class b (open_c curly) x i j l = string-odd b (omega arith) (omega arith)
-  string-class b (closeC square) x i j l = string-odd b (omega arith) (omega arith)
-  string-class b (closeC curly) x i j l = string-odd b (omega arith) (omega arith)
+  string_class : (b : ℕ) (c : Class) → ClassIs b c → (c ≡ blank_c → ⊥) → (c ≡ hash_c → ⊥) → (c ≡ slash_c → ⊥)
+      → on_part p d k b (want_string z u) (step p (at (item (string_part_of z u)) d k) b) (odd p) c ≡ step p (at (item (string_part_of z u)) d k) b
+  string_class b blank_c x i j l = absurd (i refl)
+  string_class b hash_c x i j l = absurd (j refl)
+  string_class b slash_c x i j l = absurd (l refl)
+  string_class b quote_c x i j l = refl
+  string_class b comma_c x i j l = string_odd b (omega arith) (omega arith)
+  string_class b colon_c x i j l = string_odd b (omega arith) (omega arith)
+  string_class b plus_c x i j l = string_odd b (omega arith) (omega arith)
+  string_class b dollar_c x i j l = string_odd b (omega arith) (omega arith)
+  string_class b letter_n x i j l = string_odd b (omega arith) (omega arith)
+  string_class b letter_t x i j l = string_odd b (omega arith) (omega arith)
+  string_class b letter_f x i j l = string_odd b (omega arith) (omega arith)
+  string_class b letter_c x i j l = string_odd b (omega arith) (omega arith)
+  string_class b other_c x i j l = string_odd b x.4 x.5
+  string_class b (open_c square) x i j l = string_odd b (omega arith) (omega arith)
+  string_class b (open_c curly) x i j l = string_odd b (omega arith) (omega arith)
+  string_class b (close_c square) x i j l = string_odd b (omega arith) (omega arith)
+  string_class b (close_c curly) x i j l = string_odd b (omega arith) (omega arith)
 
 module _ (p d : ℕ) (k : List Frame) (u : List ℕ) where
-  binary-odd : (b : ℕ) → (b ≡ ch "$" → ⊥) → odd p ≡ step p (at (item (binaryPart tt u)) d k) b
-  binary-odd b i = sym (ap (λ (o : Out Binaries.St (List ℕ)). onOut p d k b (Machine.lift (binary-part u) (λ x. binary (u ++ x)) o)) (binary-none p b i))
+  binary_odd : (b : ℕ) → (b ≡ ch "$" → ⊥) → odd p ≡ step p (at (item (binary_part_of tt u)) d k) b
+  binary_odd b i = sym (ap (λ (o : Out Binaries.St (List ℕ)). on_out p d k b (Machine.lift (binary_part u) (λ x. binary (u ++ x)) o)) (binary_none p b i))
 
-  binary-class : (b : ℕ) (c : Class) → ClassIs b c → (c ≡ blankC → ⊥) → (c ≡ hashC → ⊥) → (c ≡ slashC → ⊥)
-      → onPart p d k b (wantBinary u) (odd p) (step p (at (item (binaryPart tt u)) d k) b) c ≡ step p (at (item (binaryPart tt u)) d k) b
-  binary-class b blankC x i j l = absurd (i refl)
-  binary-class b hashC x i j l = absurd (j refl)
-  binary-class b slashC x i j l = absurd (l refl)
-  binary-class b quoteC x i j l = binary-odd b (λ e. (let z : ◌≡◌ {A = ℕ} 0 1 = absurd (omega (arith, x.1 (omega arith))) in omega arith))
-  binary-class b commaC x i j l = binary-odd b (omega arith)
-  binary-class b colonC x i j l = binary-odd b (omega arith)
-  binary-class b plusC x i j l = binary-odd b (omega arith)
-  binary-class b dollarC x i j l = refl
-  binary-class b letterN x i j l = binary-odd b (omega arith)
-  binary-class b letterT x i j l = binary-odd b (omega arith)
-  binary-class b letterF x i j l = binary-odd b (omega arith)
-  binary-class b letterC x i j l = binary-odd b (omega arith)
-  binary-class b otherC x i j l = binary-odd b x.3
-  binary-class b (open_c square) x i j l = binary-odd b (omega arith)
-  binary-class b (open_c curly) x i j l = binary-odd b (omega arith)
-  binary-class b (closeC square) x i j l = binary-odd b (omega arith)
-  binary-class b (closeC curly) x i j l = binary-odd b (omega arith)
+  binary_class : (b : ℕ) (c : Class) → ClassIs b c → (c ≡ blank_c → ⊥) → (c ≡ hash_c → ⊥) → (c ≡ slash_c → ⊥)
+      → on_part p d k b (want_binary u) (odd p) (step p (at (item (binary_part_of tt u)) d k) b) c ≡ step p (at (item (binary_part_of tt u)) d k) b
+  binary_class b blank_c x i j l = absurd (i refl)
+  binary_class b hash_c x i j l = absurd (j refl)
+  binary_class b slash_c x i j l = absurd (l refl)
+  binary_class b quote_c x i j l = binary_odd b (λ e. (let z : ◌≡◌ {A = ℕ} 0 1 = absurd (omega (arith, x.1 (omega arith))) in omega arith))
+  binary_class b comma_c x i j l = binary_odd b (omega arith)
+  binary_class b colon_c x i j l = binary_odd b (omega arith)
+  binary_class b plus_c x i j l = binary_odd b (omega arith)
+  binary_class b dollar_c x i j l = refl
+  binary_class b letter_n x i j l = binary_odd b (omega arith)
+  binary_class b letter_t x i j l = binary_odd b (omega arith)
+  binary_class b letter_f x i j l = binary_odd b (omega arith)
+  binary_class b letter_c x i j l = binary_odd b (omega arith)
+  binary_class b other_c x i j l = binary_odd b x.3
+  binary_class b (open_c square) x i j l = binary_odd b (omega arith)
+  binary_class b (open_c curly) x i j l = binary_odd b (omega arith)
+  binary_class b (close_c square) x i j l = binary_odd b (omega arith)
+  binary_class b (close_c curly) x i j l = binary_odd b (omega arith)
 
-pub strings : Kind Strings.St Strings.scan Strings.begin Use stringPart string
+pub strings : Kind Strings.St Strings.scan Strings.begin Use string_part_of string
 unfolding Strings.scan
 strings = record {
-  closes = λ text z u x p q d k e. lift-done Strings.scan (string-part z u) (λ y. string z (u ++ y)) (λ p s b. refl) d k text p Strings.begin x q e;
-  refuses = λ text z u p d k why e. lift-refused Strings.scan (string-part z u) (λ y. string z (u ++ y)) (λ p s b. refl) d k text p Strings.begin why e;
-  wants = wantString;
+  closes = λ text z u x p q d k e. lift_done Strings.scan (string_part z u) (λ y. string z (u ++ y)) (λ p s b. refl) d k text p Strings.begin x q e;
+  refuses = λ text z u p d k why e. lift_refused Strings.scan (string_part z u) (λ y. string z (u ++ y)) (λ p s b. refl) d k text p Strings.begin why e;
+  wants = want_string;
   joins = λ z u o d k. refl;
-  opens = λ text z u p b d k. alike (at (base (wantString z u)) d k) (at (item (stringPart z u)) d k) text p
-      (λ h. both (string-class p d k z u (get_or text p 0) (class_of (get_or text p 0)) (class-is (get_or text p 0))
-      (b.no-blank h) (b.no-hash h) (b.no_slash h)) (sym (string-quiet z u p (get_or text p 0)))) (λ h. refl);
+  opens = λ text z u p b d k. alike (at (base (want_string z u)) d k) (at (item (string_part_of z u)) d k) text p
+      (λ h. both (string_class p d k z u (get_or text p 0) (class_of (get_or text p 0)) (class_is_lem (get_or text p 0))
+      (b.no_blank h) (b.no_hash h) (b.no_slash h)) (sym (string_quiet z u p (get_or text p 0)))) (λ h. refl);
 }
 
-pub binaries : Kind Binaries.St Binaries.scan Binaries.begin (Unit {0}) binaryPart wholeBinary
+pub binaries : Kind Binaries.St Binaries.scan Binaries.begin (Unit {0}) binary_part_of whole_binary
 unfolding Binaries.scan
 binaries = record {
-  closes = λ text z u x p q d k e. lift-done Binaries.scan (binary-part u) (λ y. binary (u ++ y)) (λ p s b. refl) d k text p Binaries.begin x q e;
-  refuses = λ text z u p d k why e. lift-refused Binaries.scan (binary-part u) (λ y. binary (u ++ y)) (λ p s b. refl) d k text p Binaries.begin why e;
-  wants = λ z u. wantBinary u;
+  closes = λ text z u x p q d k e. lift_done Binaries.scan (binary_part u) (λ y. binary (u ++ y)) (λ p s b. refl) d k text p Binaries.begin x q e;
+  refuses = λ text z u p d k why e. lift_refused Binaries.scan (binary_part u) (λ y. binary (u ++ y)) (λ p s b. refl) d k text p Binaries.begin why e;
+  wants = λ z u. want_binary u;
   joins = λ z u o d k. refl;
-  opens = λ text z u p b d k. alike (at (base (wantBinary u)) d k) (at (item (binaryPart z u)) d k) text p
-      (λ h. both (binary-class p d k u (get_or text p 0) (class_of (get_or text p 0)) (class-is (get_or text p 0))
-      (b.no-blank h) (b.no-hash h) (b.no_slash h)) (sym (binary-quiet u p (get_or text p 0)))) (λ h. refl);
+  opens = λ text z u p b d k. alike (at (base (want_binary u)) d k) (at (item (binary_part_of z u)) d k) text p
+      (λ h. both (binary_class p d k u (get_or text p 0) (class_of (get_or text p 0)) (class_is_lem (get_or text p 0))
+      (b.no_blank h) (b.no_hash h) (b.no_slash h)) (sym (binary_quiet u p (get_or text p 0)))) (λ h. refl);
 }
 
 -- ---- the loop: the parts so far, and the next begins
@@ -240,19 +240,19 @@ module _ {S : Type 0} {scan : ℕ → S → ℕ → Out S (List ℕ)} {begin : S
     to_whole : (a : A) (d : ℕ) (k : List Frame) → Goes text (at (item (part a [])) d k) from (at (base (got (whole a (v.u ++ w.u)))) d k) q
     to_whole a d k = v.runs a d k ∙ kind.closes text a v.u w.u p q d k w.runs
 
-    both-filled : exit ≡ sets entry start (v.u ++ w.u)
-    both-filled = w.meant.filled ∙ rw (sets-app, ← v.filled, ← v.placed)
+    both_filled : exit ≡ sets entry start (v.u ++ w.u)
+    both_filled = w.meant.filled ∙ rw (sets_app, ← v.filled, ← v.placed)
 
-  pub parts-refused : {exit : List ℕ} (why : Refusal) → Unlinked scan begin text p out store exit why
+  pub parts_refused : {exit : List ℕ} (why : Refusal) → Unlinked scan begin text p out store exit why
       → BytesSays A part whole text from start entry exit (Bytes.Refused why)
-  parts-refused why (in-part e) = λ a d k. then-refused (v.runs a d k) (kind.refuses text a v.u p d k why e)
-  parts-refused why (after-part l) = λ a d k.
+  parts_refused why (in_part e) = λ a d k. then_refused (v.runs a d k) (kind.refuses text a v.u p d k why e)
+  parts_refused why (after_part l) = λ a d k.
       let u = v.u ++ l.part.u in
-      then-refused (to_whole l.part a d k) (faulted (l.after (whole a u) (kind.wants a u) (kind.joins a u) d k))
+      then_refused (to_whole l.part a d k) (faulted (l.after (whole a u) (kind.wants a u) (kind.joins a u) d k))
 
   -- the bytes so far are no more than the text
-  pub parts-short : {exit : List ℕ} {n : ℕ} {After : ℕ → Type 0} → start ≤ from → Linked scan begin text p out store exit n After → out + n ≤ length text
-  parts-short h l = omega (arith, v.placed, v.room, l.part.meant.counted, l.part.meant.room, l.part.within)
+  pub parts_short : {exit : List ℕ} {n : ℕ} {After : ℕ → Type 0} → start ≤ from → Linked scan begin text p out store exit n After → out + n ≤ length text
+  parts_short h l = omega (arith, v.placed, v.room, l.part.meant.counted, l.part.meant.room, l.part.within)
 
   module _ {exit : List ℕ} {n r : ℕ} where
     pub parts_last : (m : ℕ) → m + start ≡ out + n → LinkSays scan begin text p out store exit (Link.Last n r)
@@ -265,7 +265,7 @@ module _ {S : Type 0} {scan : ℕ → S → ℕ → Out S (List ℕ)} {begin : S
           runs = λ a d k. to_whole w a d k ∙ j.goes (got (whole a (v.u ++ w.u))) d k;
           meant = record {
             counted = simp length-append (omega (arith, v.placed, w.meant.counted));
-            filled = both-filled w;
+            filled = both_filled w;
             room = simp length-append (omega (arith, v.room, w.meant.room, j.onward.behind));
             past = omega (arith, v.room, w.meant.past, j.onward.behind);
           };
@@ -283,11 +283,11 @@ module _ {S : Type 0} {scan : ℕ → S → ℕ → Out S (List ℕ)} {begin : S
           record {
             u = v.u ++ w.u;
             runs = λ a d k. to_whole w a d k ∙ j.goes (whole a u) (kind.wants a u) (kind.joins a u) d k ∙ kind.opens text a u r j.bare d k;
-            filled = both-filled w;
+            filled = both_filled w;
             placed = simp length-append (omega (arith, v.placed, w.meant.counted));
             room = simp length-append (omega (arith, v.room, w.meant.room, j.past));
             within = j.within;
           }
 
-      pub parts-further : length text - r < length text - p
-      parts-further = omega (arith, l.part.meant.past, l.after.past, l.after.within)
+      pub parts_further : length text - r < length text - p
+      parts_further = omega (arith, l.part.meant.past, l.after.past, l.after.within)

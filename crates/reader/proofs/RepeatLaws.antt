@@ -12,15 +12,15 @@ use borrow.Author.Tests.{eqb-true, eqb-false}
 use Rattle.meaning.specs.Once.{same}
 use Rattle.once.specs.Groups.{Names, Sane, Newest, Stands, Earlier, Placed, Tagged, FromIs}
 use Rattle.once.specs.Windows.{Kept}
-use Rattle.once.specs.Hash.{hashOf}
-use Rattle.once.proofs.KeepingLaws.{keeps-sane, keeps-since, keeps-from, names-on, before_on}
-use Rattle.once.proofs.KeepingSeekLaws.{same_self, apart, Sought, seek-begins, seek-stands, seek-key, seek_finds, seek-falls, seek-past, seek-past-tag}
-use Rattle.once.proofs.KeepingSeekLaws.{seek-ends}
+use Rattle.once.specs.Hash.{hash_of}
+use Rattle.once.proofs.KeepingLaws.{keeps_sane, keeps_since, keeps_from, names_on, before_on}
+use Rattle.once.proofs.KeepingSeekLaws.{same_self, apart, Sought, seek_begins, seek_stands, seek_key, seek_finds, seek_falls, seek_past, seek_past_tag}
+use Rattle.once.proofs.KeepingSeekLaws.{seek_ends}
 use Rattle.reader.specs.Between.Spelling.{InText, Spells, LetterSays}
 use Rattle.reader.specs.Between.Repeat.{KeyIs, AtKey, Keeping, Tabled, OverSays, SameSays, TagSays, Seeks, RepeatSays, NoteSays}
 use Rattle.reader.specs.declared.spelling.Spelling.{Spelling}
 use Rattle.reader.specs.declared.spelling.Letter.{Letter}
-use Rattle.reader.proofs.SpellingGivenLaws.{Front, spells-front}
+use Rattle.reader.proofs.SpellingGivenLaws.{Front, spells_front}
 
 -- ---- two keys, side by side
 
@@ -39,7 +39,7 @@ module _ (text : List ℕ) where
 
   pub over_no : (s : Spelling) (b : ℕ) (t : Spelling) → LetterSays text s (Letter.Byte b t) → OverSays text s false
   over_no s b t w e u h =
-      sym (apart e u (λ z. omega (arith, ap length z, longer e u b (spells-front text t (e ++ (b ∷ [])) u (w.1 e u h)))))
+      sym (apart e u (λ z. omega (arith, ap length z, longer e u b (spells_front text t (e ++ (b ∷ [])) u (w.1 e u h)))))
 
 abbrev Begins : List ℕ → ℕ → Spelling → Type 0
 Begins text a s = InText text s × ((u : List ℕ) → KeyIs text a u → Spells text s [] u)
@@ -56,8 +56,8 @@ pub record Comparing (text : List ℕ) (a b : ℕ) (s t : Spelling) (alike : Boo
   pub parts : alike ≡ false → SameSays text a b false
 
 module _ (text : List ℕ) (a b : ℕ) (s t : Spelling) where
-  pub compare-begins : Begins text a s → Begins text b t → Comparing text a b s t true
-  compare-begins f g = record {
+  pub compare_begins : Begins text a s → Begins text b t → Comparing text a b s t true
+  compare_begins f g = record {
     left = f.0;
     right = g.0;
     goes = λ z u v i j. ([], (f.1 u i, g.1 v j));
@@ -65,18 +65,18 @@ module _ (text : List ℕ) (a b : ℕ) (s t : Spelling) where
   }
 
   module _ (alike : Bool) (c : Comparing text a b s t alike) (so : alike ≡ true) where
-    pub compare-over : LetterSays text s Letter.Over → (r : Bool) → OverSays text t r → SameSays text a b r
-    compare-over w r o u v i j =
+    pub compare_over : LetterSays text s Letter.Over → (r : Bool) → OverSays text t r → SameSays text a b r
+    compare_over w r o u v i j =
         let y = c.goes so u v i j in
         o y.0 v y.1.1 ∙ ap (λ (d : List ℕ). same d v) (w y.0 u y.1.0)
 
     module _ (x : ℕ) (s' : Spelling) (m : LetterSays text s (Letter.Byte x s')) where
       -- u begins with e and x
       front : (e u : List ℕ) → Spells text s e u → Front (e ++ (x ∷ [])) u
-      front e u h = spells-front text s' (e ++ (x ∷ [])) u (m.1 e u h)
+      front e u h = spells_front text s' (e ++ (x ∷ [])) u (m.1 e u h)
 
-      pub compare-longer : LetterSays text t Letter.Over → SameSays text a b false
-      compare-longer w u v i j =
+      pub compare_longer : LetterSays text t Letter.Over → SameSays text a b false
+      compare_longer w u v i j =
           let y = c.goes so u v i j in
           sym (apart u v (λ z. omega (arith, ap length z, ap length (w y.0 v y.1.1), longer y.0 u x (front y.0 u y.1.0))))
 
@@ -85,7 +85,7 @@ module _ (text : List ℕ) (a b : ℕ) (s t : Spelling) where
         differ d u v i j =
             let k = c.goes so u v i j in
             let l = front k.0 u k.1.0 in
-            let r = spells-front text t' (k.0 ++ (y ∷ [])) v (n.1 k.0 v k.1.1) in
+            let r = spells_front text t' (k.0 ++ (y ∷ [])) v (n.1 k.0 v k.1.1) in
             sym (apart u v (λ z. d (other k.0 l.0 r.0 x y (sym l.1 ∙ z ∙ r.1))))
 
         go_on : x ≡ y → (u v : List ℕ) → KeyIs text a u → KeyIs text b v → Beside text s' t' u v
@@ -93,8 +93,8 @@ module _ (text : List ℕ) (a b : ℕ) (s t : Spelling) where
             let k = c.goes so u v i j in
             (k.0 ++ (x ∷ []), (m.1 k.0 u k.1.0, subst (λ (b : ℕ). Spells text t' (k.0 ++ (b ∷ [])) v) (sym e) (n.1 k.0 v k.1.1)))
 
-        pub compare-more : Comparing text a b s' t' (eqb x y)
-        compare-more = record {
+        pub compare_more : Comparing text a b s' t' (eqb x y)
+        compare_more = record {
           left = m.0.within;
           right = n.0.within;
           goes = λ e. go_on (eqb-true x y e);
@@ -105,60 +105,60 @@ module _ (text : List ℕ) (a b : ℕ) (s t : Spelling) where
 
 -- the search at the slot i
 pub record Seeking (text seen : List ℕ) (q tag i : ℕ) : Type 0 where
-  pub goes : (f : ℕ) (u : List ℕ) → KeyIs text q u → tag ≡ hashOf f u → Sought (KeyIs text) (hashOf f) seen q f u i
+  pub goes : (f : ℕ) (u : List ℕ) → KeyIs text q u → tag ≡ hash_of f u → Sought (KeyIs text) (hash_of f) seen q f u i
 
 module _ (text seen : List ℕ) (q tag : ℕ) (w : Seeks text seen q tag) where
   -- the table's window, whatever it is called
-  tag_is : {f : ℕ} {s : Kept} → Keeping text seen q f s → (u : List ℕ) → KeyIs text q u → tag ≡ hashOf f u
-  tag_is h u k = w.1.1.1.1 u k ∙ ap (λ (g : ℕ). hashOf g u) (sym (keeps-since w.1.1.1.0) ∙ keeps-since h)
+  tag_is : {f : ℕ} {s : Kept} → Keeping text seen q f s → (u : List ℕ) → KeyIs text q u → tag ≡ hash_of f u
+  tag_is h u k = w.1.1.1.1 u k ∙ ap (λ (g : ℕ). hash_of g u) (sym (keeps_since w.1.1.1.0) ∙ keeps_since h)
 
-  pub seeks-sane : Sane seen
-  seeks-sane = keeps-sane w.1.1.1.0
+  pub seeks_sane : Sane seen
+  seeks_sane = keeps_sane w.1.1.1.0
 
-  pub seeking-begins : (i : ℕ) → Newest seen tag i → Seeking text seen q tag i
-  seeking-begins i n = record { goes = λ f u k e. seek-begins tag i e n }
+  pub seeking_begins : (i : ℕ) → Newest seen tag i → Seeking text seen q tag i
+  seeking_begins i n = record { goes = λ f u k e. seek_begins tag i e n }
 
   module _ (i : ℕ) (v : Seeking text seen q tag i) where
     -- for the key that is there
-    sought : Sought (KeyIs text) (hashOf w.1.0) seen q w.1.0 w.0.u i
+    sought : Sought (KeyIs text) (hash_of w.1.0) seen q w.1.0 w.0.u i
     sought = v.goes w.1.0 w.0.u w.0.is (w.1.1.1.1 w.0.u w.0.is)
 
-    pub seeking-ends : i ≤ 0 → RepeatSays text seen q false
-    seeking-ends l f s h u k = sym (seek-ends (v.goes f u k (tag_is h u k)) l s h)
+    pub seeking_ends : i ≤ 0 → RepeatSays text seen q false
+    seeking_ends l f s h u k = sym (seek_ends (v.goes f u k (tag_is h u k)) l s h)
 
     module _ (z : 0 < i) where
-      pub seeking-stands : Stands seen i
-      seeking-stands = seek-stands sought w.1.1.1.0 z
+      pub seeking_stands : Stands seen i
+      seeking_stands = seek_stands sought w.1.1.1.0 z
 
-      pub seeking-before : (p : ℕ) → Placed seen i p → p < q
-      seeking-before p g = (seek-key sought w.1.1.1.0 z p g).1.1
+      pub seeking_before : (p : ℕ) → Placed seen i p → p < q
+      seeking_before p g = (seek_key sought w.1.1.1.0 z p g).1.1
 
-      pub seeking-inside : (p : ℕ) → Placed seen i p → (q < length text) × (p < length text)
-      seeking-inside p g = (w.0.inside, omega (arith, seeking-before p g, w.0.inside))
+      pub seeking_inside : (p : ℕ) → Placed seen i p → (q < length text) × (p < length text)
+      seeking_inside p g = (w.0.inside, omega (arith, seeking_before p g, w.0.inside))
 
-      pub seeking-finds : (p : ℕ) → Placed seen i p → (r : Bool) → SameSays text q p r → r ≡ true → RepeatSays text seen q true
-      seeking-finds p g r c e f s h u k = sym (seek_finds (v.goes f u k (tag_is h u k)) z p g (λ x y. sym (c u x k y) ∙ e) s h)
+      pub seeking_finds : (p : ℕ) → Placed seen i p → (r : Bool) → SameSays text q p r → r ≡ true → RepeatSays text seen q true
+      seeking_finds p g r c e f s h u k = sym (seek_finds (v.goes f u k (tag_is h u k)) z p g (λ x y. sym (c u x k y) ∙ e) s h)
 
-      pub seeking-falls : (j : ℕ) → Earlier seen i j → j < i
-      seeking-falls j b = seek-falls sought w.1.1.1.0 z j b
+      pub seeking_falls : (j : ℕ) → Earlier seen i j → j < i
+      seeking_falls j b = seek_falls sought w.1.1.1.0 z j b
 
-      pub seeking-past-tag : (t j : ℕ) → Tagged seen i t → (t ≡ tag → ⊥) → Earlier seen i j → Seeking text seen q tag j
-      seeking-past-tag t j g n b = record { goes = λ f u k e. seek-past-tag (v.goes f u k e) z tag t e g n j b }
+      pub seeking_past_tag : (t j : ℕ) → Tagged seen i t → (t ≡ tag → ⊥) → Earlier seen i j → Seeking text seen q tag j
+      seeking_past_tag t j g n b = record { goes = λ f u k e. seek_past_tag (v.goes f u k e) z tag t e g n j b }
 
-      pub seeking-past : (p j : ℕ) (r : Bool) → Placed seen i p → SameSays text q p r → r ≡ false → Earlier seen i j → Seeking text seen q tag j
-      seeking-past p j r g c n b = record { goes = λ f u k e. seek-past (v.goes f u k e) z p g (λ x y. sym (c u x k y) ∙ n) j b }
+      pub seeking_past : (p j : ℕ) (r : Bool) → Placed seen i p → SameSays text q p r → r ≡ false → Earlier seen i j → Seeking text seen q tag j
+      seeking_past p j r g c n b = record { goes = λ f u k e. seek_past (v.goes f u k e) z p g (λ x y. sym (c u x k y) ∙ n) j b }
 
 -- ---- a further key
 
 module _ (text seen : List ℕ) (q : ℕ) (k : AtKey text q) where
-  pub note-none : length seen < 12 → NoteSays text seen seen q
-  note-none l = record { long = refl; leads = λ f s h o u i. absurd (omega (arith, h.roomy)) }
+  pub note_none : length seen < 12 → NoteSays text seen seen q
+  note_none l = record { long = refl; leads = λ f s h o u i. absurd (omega (arith, h.roomy)) }
 
   module _ (from : ℕ) (g : FromIs seen from) where
-    pub note-before : q < from → NoteSays text seen seen q
-    note-before l = record {
+    pub note_before : q < from → NoteSays text seen seen q
+    note_before l = record {
       long = refl;
-      leads = λ f s h o u i. before_on h (q + 1) (omega arith) (omega (arith, k.inside, k.short)) q u (omega (arith, keeps-from h from g)) o;
+      leads = λ f s h o u i. before_on h (q + 1) (omega arith) (omega (arith, k.inside, k.short)) q u (omega (arith, keeps_from h from g)) o;
     }
 
     module _ (w : Tabled text seen q) (l : 12 ≤ length seen) where
@@ -169,21 +169,21 @@ module _ (text seen : List ℕ) (q : ℕ) (k : AtKey text q) where
           by (inl x) = absurd (omega arith)
           by (inr x) = x
 
-      pub note-sane : Sane seen
-      note-sane = keeps-sane table.1.1
+      pub note_sane : Sane seen
+      note_sane = keeps_sane table.1.1
 
-      pub note-seeks : (tag : ℕ) → TagSays text q from tag → Seeks text seen q tag
-      note-seeks tag t =
+      pub note_seeks : (tag : ℕ) → TagSays text q from tag → Seeks text seen q tag
+      note_seeks tag t =
           let x = table in
-          (k, (x.0, (x.1.0, (x.1.1, λ u i. t u i ∙ ap (λ (f : ℕ). hashOf f u) (keeps-from x.1.1 from g)))))
+          (k, (x.0, (x.1.0, (x.1.1, λ u i. t u i ∙ ap (λ (f : ℕ). hash_of f u) (keeps_from x.1.1 from g)))))
 
-      pub note-named : from ≤ q → (tag : ℕ) → TagSays text q from tag → (r : Bool) → RepeatSays text seen q r → (seen' : List ℕ)
+      pub note_named : from ≤ q → (tag : ℕ) → TagSays text q from tag → (r : Bool) → RepeatSays text seen q r → (seen' : List ℕ)
           → Names r (q, tag) seen seen' → NoteSays text seen seen' q
-      note-named m tag t r a seen' d = record {
+      note_named m tag t r a seen' d = record {
         long = d.1.1.0;
         leads = λ f s h o u i.
-            let y = keeps-from h from g in
-            names-on h (q + 1) (omega arith) (omega (arith, k.inside, k.short)) seen' q u r
-            (subst (λ (x : ℕ). Names r (q, x) seen seen') (t u i ∙ ap (λ (x : ℕ). hashOf x u) y) d)
+            let y = keeps_from h from g in
+            names_on h (q + 1) (omega arith) (omega (arith, k.inside, k.short)) seen' q u r
+            (subst (λ (x : ℕ). Names r (q, x) seen seen') (t u i ∙ ap (λ (x : ℕ). hash_of x u) y) d)
             (a f s h u i) i (omega arith) (omega arith) o;
       }

@@ -3,44 +3,44 @@ use mathlib.Core.Path.{◌≡◌, refl, subst}
 use Prim.Native.Nat.{ℕ, ◌≤◌, ◌<◌}
 use native.Mathlib.Omega.{arith}
 use Rattle.meaning.specs.Letters.{ch}
-use Rattle.machine.specs.Machine.{Class, blankC, hashC, slashC, commaC, colonC, plusC, quoteC, dollarC, letterN, letterT, letterF}
-use Rattle.machine.specs.Machine.{letterC, otherC, open_c, closeC, class_of}
-use Rattle.machine.specs.Machine.{Note, lineEnd, starN, slashN, plainN, controlN, note_of}
-use Rattle.machine.proofs.Classes.{ClassIs, class-is}
-use Rattle.machine.proofs.Layouts.{NoteIs, note-is}
+use Rattle.machine.specs.Machine.{Class, blank_c, hash_c, slash_c, comma_c, colon_c, plus_c, quote_c, dollar_c, letter_n, letter_t, letter_f}
+use Rattle.machine.specs.Machine.{letter_c, other_c, open_c, close_c, class_of}
+use Rattle.machine.specs.Machine.{Note, line_end, star_n, slash_n, plain_n, control_n, note_of}
+use Rattle.machine.proofs.Classes.{ClassIs, class_is_lem}
+use Rattle.machine.proofs.Layouts.{NoteIs, note_is_lem}
 
 module _ (b : ℕ) where
-  pub note-told : (n : Note) → note_of b ≡ n → NoteIs b n
-  note-told n e = subst (NoteIs b) e (note-is b)
+  pub note_told : (n : Note) → note_of b ≡ n → NoteIs b n
+  note_told n e = subst (NoteIs b) e (note_is_lem b)
 
-  pub not-line-end : (b ≡ ch "\n" → ⊥) → (b ≡ ch "\r" → ⊥) → note_of b ≡ lineEnd → ⊥
-  not-line-end i j e = j ((note-told lineEnd e).2 i)
+  pub not_line_end : (b ≡ ch "\n" → ⊥) → (b ≡ ch "\r" → ⊥) → note_of b ≡ line_end → ⊥
+  not_line_end i j e = j ((note_told line_end e).2 i)
 
-note-control : (b : ℕ) (n : Note) → NoteIs b n → b < 0x20 → (b ≡ ch "\t" → ⊥) → (b ≡ ch "\n" → ⊥) → (b ≡ ch "\r" → ⊥) → n ≡ controlN
-note-control b lineEnd x h i j k = absurd (k (x.2 j))
-note-control b starN x h i j k = absurd (omega arith)
-note-control b slashN x h i j k = absurd (omega arith)
-note-control b plainN x h i j k = absurd (i (x.0 h))
-note-control b controlN x h i j k = refl
+note_control : (b : ℕ) (n : Note) → NoteIs b n → b < 0x20 → (b ≡ ch "\t" → ⊥) → (b ≡ ch "\n" → ⊥) → (b ≡ ch "\r" → ⊥) → n ≡ control_n
+note_control b line_end x h i j k = absurd (k (x.2 j))
+note_control b star_n x h i j k = absurd (omega arith)
+note_control b slash_n x h i j k = absurd (omega arith)
+note_control b plain_n x h i j k = absurd (i (x.0 h))
+note_control b control_n x h i j k = refl
 
-pub control-note : (b : ℕ) → b < 0x20 → (b ≡ ch "\t" → ⊥) → (b ≡ ch "\n" → ⊥) → (b ≡ ch "\r" → ⊥) → note_of b ≡ controlN
-control-note b = note-control b (note_of b) (note-is b)
+pub control_note : (b : ℕ) → b < 0x20 → (b ≡ ch "\t" → ⊥) → (b ≡ ch "\n" → ⊥) → (b ≡ ch "\r" → ⊥) → note_of b ≡ control_n
+control_note b = note_control b (note_of b) (note_is_lem b)
 
 module _ (b : ℕ) where
-  class-blank : (c : Class) → ClassIs b c → c ≡ blankC → ClassIs b blankC
-  class-blank c x e = rw e at x
+  class_blank : (c : Class) → ClassIs b c → c ≡ blank_c → ClassIs b blank_c
+  class_blank c x e = rw e at x
 
-  pub not-blank : (b ≡ ch "\t" → ⊥) → (b ≡ ch "\n" → ⊥) → (b ≡ ch "\r" → ⊥) → (b ≡ ch " " → ⊥) → class_of b ≡ blankC → ⊥
-  not-blank i j k l e = l ((class-blank (class_of b) (class-is b) e).1 i j k)
+  pub not_blank : (b ≡ ch "\t" → ⊥) → (b ≡ ch "\n" → ⊥) → (b ≡ ch "\r" → ⊥) → (b ≡ ch " " → ⊥) → class_of b ≡ blank_c → ⊥
+  not_blank i j k l e = l ((class_blank (class_of b) (class_is_lem b) e).1 i j k)
 
-  class-hash : (c : Class) → ClassIs b c → c ≡ hashC → b ≡ ch "#"
-  class-hash c x e = rw e at x
+  class_hash : (c : Class) → ClassIs b c → c ≡ hash_c → b ≡ ch "#"
+  class_hash c x e = rw e at x
 
-  pub not-hash : (b ≡ ch "#" → ⊥) → class_of b ≡ hashC → ⊥
-  not-hash i e = i (class-hash (class_of b) (class-is b) e)
+  pub not_hash : (b ≡ ch "#" → ⊥) → class_of b ≡ hash_c → ⊥
+  not_hash i e = i (class_hash (class_of b) (class_is_lem b) e)
 
-  class-slash : (c : Class) → ClassIs b c → c ≡ slashC → b ≡ ch "/"
-  class-slash c x e = rw e at x
+  class_slash : (c : Class) → ClassIs b c → c ≡ slash_c → b ≡ ch "/"
+  class_slash c x e = rw e at x
 
-  pub not-slash : (b ≡ ch "/" → ⊥) → class_of b ≡ slashC → ⊥
-  not-slash i e = i (class-slash (class_of b) (class-is b) e)
+  pub not_slash : (b ≡ ch "/" → ⊥) → class_of b ≡ slash_c → ⊥
+  not_slash i e = i (class_slash (class_of b) (class_is_lem b) e)

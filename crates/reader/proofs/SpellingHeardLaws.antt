@@ -7,36 +7,36 @@ use native.Mathlib.Omega.{arith}
 use lib.ListN.{length, drop, get_or}
 use lib.Seq.{drop-cons}
 use Rattle.meaning.specs.declared.Refusal.{Refusal}
-use Rattle.machine.specs.Scan.{Out, takes, stops, breaks, Ran, ended, broke, unended, goesOn, ran}
-use Rattle.machine.specs.Machine.{Item, Got, key, string, as-key, string-part, identifier, wantKey, got, base}
+use Rattle.machine.specs.Scan.{Out, takes, stops, breaks, Ran, ended, broke, unended, goes_on, ran}
+use Rattle.machine.specs.Machine.{Item, Got, key, string, as_key, string_part, identifier, want_key, got, base}
 use Rattle.machine.specs.Machine.{item}
-use Rattle.machine.specs.Machine.{Frame, Conf, at, fail, lift, onGot, onOut, square, curly}
-use Rattle.machine.specs.Machine.{Class, class_of, blankC, hashC, slashC, commaC, colonC, plusC, quoteC, dollarC, letterN, letterT, letterF, letterC, otherC}
-use Rattle.machine.specs.Machine.{open_c, closeC}
+use Rattle.machine.specs.Machine.{Frame, Conf, at, fail, lift, on_got, on_out, square, curly}
+use Rattle.machine.specs.Machine.{Class, class_of, blank_c, hash_c, slash_c, comma_c, colon_c, plus_c, quote_c, dollar_c, letter_n, letter_t, letter_f, letter_c, other_c}
+use Rattle.machine.specs.Machine.{open_c, close_c}
 use Rattle.machine.specs.Machine as Machine
-use Rattle.machine.specs.Heard.{Heard, names, Told, tell, keyHeard, key_at, atGot, atKey, at_out}
+use Rattle.machine.specs.Heard.{Heard, names, Told, tell, key_heard, key_at, at_got, at_key, at_out}
 use Rattle.machine.specs.Strings
 use Rattle.machine.specs.Names
-use Rattle.machine.proofs.Heard.{fail-told}
-use Rattle.machine.proofs.Layouts.{Lay, plainL, slashL, lineL, mode_of, layout-keeps}
-use Rattle.machine.proofs.Lift.{item-breaks, string-quiet, name-quiet}
+use Rattle.machine.proofs.Heard.{fail_told}
+use Rattle.machine.proofs.Layouts.{Lay, plain_l, slash_l, line_l, mode_of, layout_keeps}
+use Rattle.machine.proofs.Lift.{item_breaks, string_quiet, name_quiet}
 use Rattle.reader.specs.Between.Scanning.{Goes, Bare}
 use Rattle.reader.specs.Between.Joined.{Alone, Joining, Stray}
-use Rattle.reader.specs.Between.Spelling.{NamesNext, gotParts, gotName}
-use Rattle.reader.proofs.ScanningLaws.{onto, at-end}
-use Rattle.reader.proofs.ScanningItemLaws.{lift-done}
+use Rattle.reader.specs.Between.Spelling.{NamesNext, got_parts, got_name}
+use Rattle.reader.proofs.ScanningLaws.{onto, at_end}
+use Rattle.reader.proofs.ScanningItemLaws.{lift_done}
 use Rattle.reader.proofs.JoinedLaws.{whole_is, strings}
 
 -- a state's key is named, from p on over t
 abbrev Naming : ℕ → Conf → List ℕ → List ℕ → Type 0
-Naming p c t u = keyHeard (tell p c t).heard ≡ some u
+Naming p c t u = key_heard (tell p c t).heard ≡ some u
 
 -- nothing heard, no key
-none_named : {hs : List Heard} {u : List ℕ} → hs ≡ [] → keyHeard hs ≡ some u → ⊥
-none_named e h = let z : ◌≡◌ {A = Option (List ℕ)} none (some _) = sym (ap keyHeard e) ∙ h in let y : ◌≡◌ {A = ℕ} 0 1 = cc in omega arith
+none_named : {hs : List Heard} {u : List ℕ} → hs ≡ [] → key_heard hs ≡ some u → ⊥
+none_named e h = let z : ◌≡◌ {A = Option (List ℕ)} none (some _) = sym (ap key_heard e) ∙ h in let y : ◌≡◌ {A = ℕ} 0 1 = cc in omega arith
 
-refused-named : (p : ℕ) (r : Refusal) (t u : List ℕ) → Naming p (fail r) t u → ⊥
-refused-named p r t u h = none_named (ap (λ (x : Told). x.heard) (fail-told t p r)) h
+refused_named : (p : ℕ) (r : Refusal) (t u : List ℕ) → Naming p (fail r) t u → ⊥
+refused_named p r t u h = none_named (ap (λ (x : Told). x.heard) (fail_told t p r)) h
 
 -- ---- behind a key
 
@@ -47,68 +47,68 @@ module _ (e : List ℕ) (d : ℕ) (k : List Frame) (u : List ℕ) where
 
   module _ (p : ℕ) (t : List ℕ) (more : Only (suc p) t) where
     abbrev Then : List Heard → Conf → Type 0
-    Then hs c = keyHeard (hs ++ (tell (suc p) c t).heard) ≡ some u → e ≡ u
+    Then hs c = key_heard (hs ++ (tell (suc p) c t).heard) ≡ some u → e ≡ u
 
-    odd-named : Then [] (Machine.odd p)
-    odd-named h = absurd (refused-named (suc p) _ t u h)
+    odd_named : Then [] (Machine.odd p)
+    odd_named h = absurd (refused_named (suc p) _ t u h)
 
-    got-class : (c : Class) → Then (atGot (key e) c) (onGot p d k (key e) c)
-    got-class blankC h = more plainL h
-    got-class hashC h = more lineL h
-    got-class slashC h = more slashL h
-    got-class colonC h = cc
-    got-class (closeC square) h = odd-named h
-    got-class (closeC curly) h = absurd (let z : ◌≡◌ {A = ℕ} 0 1 = cc in omega arith)
-    got-class commaC h = odd-named h
-    got-class plusC h = odd-named h
-    got-class (open_c c) h = odd-named h
-    got-class quoteC h = odd-named h
-    got-class dollarC h = odd-named h
-    got-class letterN h = odd-named h
-    got-class letterT h = odd-named h
-    got-class letterF h = odd-named h
-    got-class letterC h = odd-named h
-    got-class otherC h = odd-named h
+    got_class : (c : Class) → Then (at_got (key e) c) (on_got p d k (key e) c)
+    got_class blank_c h = more plain_l h
+    got_class hash_c h = more line_l h
+    got_class slash_c h = more slash_l h
+    got_class colon_c h = cc
+    got_class (close_c square) h = odd_named h
+    got_class (close_c curly) h = absurd (let z : ◌≡◌ {A = ℕ} 0 1 = cc in omega arith)
+    got_class comma_c h = odd_named h
+    got_class plus_c h = odd_named h
+    got_class (open_c c) h = odd_named h
+    got_class quote_c h = odd_named h
+    got_class dollar_c h = odd_named h
+    got_class letter_n h = odd_named h
+    got_class letter_t h = odd_named h
+    got_class letter_f h = odd_named h
+    got_class letter_c h = odd_named h
+    got_class other_c h = odd_named h
 
-    on-byte : (b : ℕ) → Only p (b ∷ t)
+    on_byte : (b : ℕ) → Only p (b ∷ t)
     unfolding tell
-    on-byte b = layout-keeps Then p d k (got (key e)) odd-named more b (got-class (class_of b))
+    on_byte b = layout_keeps Then p d k (got (key e)) odd_named more b (got_class (class_of b))
 
-  only-key : (t : List ℕ) (p : ℕ) → Only p t
+  only_key : (t : List ℕ) (p : ℕ) → Only p t
   unfolding tell
-  only-key [] p l h = absurd (let z : ◌≡◌ {A = ℕ} 0 1 = cc in omega arith)
-  only-key (b ∷ t) p l h = on-byte p t (only-key t (suc p)) b l h
+  only_key [] p l h = absurd (let z : ◌≡◌ {A = ℕ} 0 1 = cc in omega arith)
+  only_key (b ∷ t) p l h = on_byte p t (only_key t (suc p)) b l h
 
 module _ (text : List ℕ) (u : List ℕ) where
   -- two states that go alike name the same
-  pub goes-named : (c d : Conf) (p q : ℕ) → Goes text c p d q → NamesNext text c p u → NamesNext text d q u
-  goes-named c d p q g h = sym (ap (λ (x : Told). keyHeard x.heard) g) ∙ h
+  pub goes_named : (c d : Conf) (p q : ℕ) → Goes text c p d q → NamesNext text c p u → NamesNext text d q u
+  goes_named c d p q g h = sym (ap (λ (x : Told). key_heard x.heard) g) ∙ h
 
-  pub name-is : (e : List ℕ) (p : ℕ) → NamesNext text (gotName e) p u → e ≡ u
-  name-is e p h = only-key e 0 [] u (drop p text) p plainL h
+  pub name_is : (e : List ℕ) (p : ℕ) → NamesNext text (got_name e) p u → e ≡ u
+  name_is e p h = only_key e 0 [] u (drop p text) p plain_l h
 
   -- at the text's end nothing is
-  pub end-names : (c : Conf) (p : ℕ) → length text ≤ p → NamesNext text c p u → ⊥
-  end-names c p l h = none_named (ap (λ (x : Told). x.heard) (at-end c text p l)) h
+  pub end_names : (c : Conf) (p : ℕ) → length text ≤ p → NamesNext text c p u → ⊥
+  end_names c p l h = none_named (ap (λ (x : Told). x.heard) (at_end c text p l)) h
 
   -- behind the last part the key is known
-  pub parts_are : (e : List ℕ) (p q : ℕ) → Alone text p q → NamesNext text (gotParts e) p u → e ≡ u
+  pub parts_are : (e : List ℕ) (p q : ℕ) → Alone text p q → NamesNext text (got_parts e) p u → e ≡ u
   parts_are e p q a h =
-      name-is e q
-      (goes-named (gotParts e) (gotName e) q q (whole_is (string as-key e) (key e) refl refl text q a.bare a.plusless 0 [])
-      (goes-named (gotParts e) (gotParts e) p q (a.goes (got (string as-key e)) 0 []) h))
+      name_is e q
+      (goes_named (got_parts e) (got_name e) q q (whole_is (string as_key e) (key e) refl refl text q a.bare a.plusless 0 [])
+      (goes_named (got_parts e) (got_parts e) p q (a.goes (got (string as_key e)) 0 []) h))
 
   -- or the next one begins
-  pub parts-go-on : (e : List ℕ) (p q : ℕ) → Joining text p q → NamesNext text (gotParts e) p u
-      → NamesNext text (at (item (string-part as-key e Strings.begin)) 0 []) q u
-  parts-go-on e p q j h =
-      let next = strings.wants as-key e in
-      goes-named (at (base next) 0 []) (at (item (string-part as-key e Strings.begin)) 0 []) q q (strings.opens text as-key e q j.bare 0 [])
-      (goes-named (gotParts e) (at (base next) 0 []) p q (j.goes (string as-key e) next (strings.joins as-key e) 0 []) h)
+  pub parts_go_on : (e : List ℕ) (p q : ℕ) → Joining text p q → NamesNext text (got_parts e) p u
+      → NamesNext text (at (item (string_part as_key e Strings.begin)) 0 []) q u
+  parts_go_on e p q j h =
+      let next = strings.wants as_key e in
+      goes_named (at (base next) 0 []) (at (item (string_part as_key e Strings.begin)) 0 []) q q (strings.opens text as_key e q j.bare 0 [])
+      (goes_named (got_parts e) (at (base next) 0 []) p q (j.goes (string as_key e) next (strings.joins as_key e) 0 []) h)
 
   -- or nothing is named
-  pub parts-stray : (e : List ℕ) (p : ℕ) (why : Refusal) → Stray text p why → NamesNext text (gotParts e) p u → ⊥
-  parts-stray e p why s h = none_named (ap (λ (x : Told). x.heard) (s (string as-key e) (strings.wants as-key e) (strings.joins as-key e) 0 [])) h
+  pub parts_stray : (e : List ℕ) (p : ℕ) (why : Refusal) → Stray text p why → NamesNext text (got_parts e) p u → ⊥
+  parts_stray e p why s h = none_named (ap (λ (x : Told). x.heard) (s (string as_key e) (strings.wants as_key e) (strings.joins as_key e) 0 [])) h
 
 -- ---- where an item is read
 
@@ -122,107 +122,107 @@ pub record Ends {M : Type 0} (text : List ℕ) (run : Ran M) (next : M → Conf)
 module _ {S M : Type 0} (scan : ℕ → S → ℕ → Out S M) (f : S → Item) (g : M → Got)
     (lifts : (p : ℕ) (s : S) (b : ℕ) → Machine.scan p (f s) b ≡ lift f g (scan p s b)) where
   -- where it does not end, nothing is heard
-  unended-quiet : (t : List ℕ) (p : ℕ) (s : S) → ran scan p s t ≡ unended → (tell p (at (item (f s)) 0 []) t).heard ≡ []
+  unended_quiet : (t : List ℕ) (p : ℕ) (s : S) → ran scan p s t ≡ unended → (tell p (at (item (f s)) 0 []) t).heard ≡ []
   unfolding tell ran
-  unended-quiet [] p s e = refl
-  unended-quiet (b ∷ t) p s e = go (scan p s b) refl e (unended-quiet t (suc p))
+  unended_quiet [] p s e = refl
+  unended_quiet (b ∷ t) p s e = go (scan p s b) refl e (unended_quiet t (suc p))
     where
       on : (o : Out S M) → scan p s b ≡ o → Machine.scan p (f s) b ≡ lift f g o
       on o e = lifts p s b ∙ ap (lift f g) e
 
-      heard-by : (o : Out Item Got) → Machine.scan p (f s) b ≡ o
-          → at_out b (Machine.scan p (f s) b) ++ (tell (suc p) (onOut p 0 [] b (Machine.scan p (f s) b)) t).heard ≡ at_out b o
-          ++ (tell (suc p) (onOut p 0 [] b o) t).heard
-      heard-by o e = ap (λ (x : Out Item Got). at_out b x ++ (tell (suc p) (onOut p 0 [] b x) t).heard) e
+      heard_by : (o : Out Item Got) → Machine.scan p (f s) b ≡ o
+          → at_out b (Machine.scan p (f s) b) ++ (tell (suc p) (on_out p 0 [] b (Machine.scan p (f s) b)) t).heard ≡ at_out b o
+          ++ (tell (suc p) (on_out p 0 [] b o) t).heard
+      heard_by o e = ap (λ (x : Out Item Got). at_out b x ++ (tell (suc p) (on_out p 0 [] b x) t).heard) e
 
-      go : (o : Out S M) → scan p s b ≡ o → goesOn scan p (λ s'. ran scan (suc p) s' t) o ≡ unended
+      go : (o : Out S M) → scan p s b ≡ o → goes_on scan p (λ s'. ran scan (suc p) s' t) o ≡ unended
           → ((s' : S) → ran scan (suc p) s' t ≡ unended → (tell (suc p) (at (item (f s')) 0 []) t).heard ≡ [])
-          → at_out b (Machine.scan p (f s) b) ++ (tell (suc p) (onOut p 0 [] b (Machine.scan p (f s) b)) t).heard ≡ []
-      go (takes s') w h ih = heard-by (takes (f s')) (on (takes s') w) ∙ ih s' h
+          → at_out b (Machine.scan p (f s) b) ++ (tell (suc p) (on_out p 0 [] b (Machine.scan p (f s) b)) t).heard ≡ []
+      go (takes s') w h ih = heard_by (takes (f s')) (on (takes s') w) ∙ ih s' h
       go (stops x) w h ih = absurd (let z : ◌≡◌ {A = ℕ} 0 1 = cc in omega arith)
       go (breaks r) w h ih = absurd (let z : ◌≡◌ {A = ℕ} 0 1 = cc in omega arith)
 
   -- where a key is named from an item on, the item ends
-  pub item-named : (text : List ℕ) (p : ℕ) (s : S) (u : List ℕ) → NamesNext text (at (item (f s)) 0 []) p u
+  pub item_named : (text : List ℕ) (p : ℕ) (s : S) (u : List ℕ) → NamesNext text (at (item (f s)) 0 []) p u
       → Ends text (ran scan p s (drop p text)) (λ v. at (base (got (g v))) 0 []) u
-  item-named text p s u h = go (ran scan p s (drop p text)) refl
+  item_named text p s u h = go (ran scan p s (drop p text)) refl
     where
       go : (r : Ran M) → ran scan p s (drop p text) ≡ r → Ends text (ran scan p s (drop p text)) (λ v. at (base (got (g v))) 0 []) u
       go (ended v q) e = record {
         value = v;
         close = q;
         runs = e;
-        names = goes-named text u (at (item (f s)) 0 []) (at (base (got (g v))) 0 []) p q (lift-done scan f g lifts 0 [] text p s v q e) h;
+        names = goes_named text u (at (item (f s)) 0 []) (at (base (got (g v))) 0 []) p q (lift_done scan f g lifts 0 [] text p s v q e) h;
       }
-      go (broke r) e = absurd (none_named (ap (λ (x : Told). x.heard) (item-breaks scan f g lifts 0 [] (drop p text) p s r e)) h)
-      go unended e = absurd (none_named (unended-quiet (drop p text) p s e) h)
+      go (broke r) e = absurd (none_named (ap (λ (x : Told). x.heard) (item_breaks scan f g lifts 0 [] (drop p text) p s r e)) h)
+      go unended e = absurd (none_named (unended_quiet (drop p text) p s e) h)
 
 -- a part that begins behind others
-pub next-part : (text : List ℕ) (p : ℕ) (e u : List ℕ) → NamesNext text (at (item (string-part as-key e Strings.begin)) 0 []) p u
-    → Ends text (ran Strings.scan p Strings.begin (drop p text)) (λ v. gotParts (e ++ v)) u
+pub next_part : (text : List ℕ) (p : ℕ) (e u : List ℕ) → NamesNext text (at (item (string_part as_key e Strings.begin)) 0 []) p u
+    → Ends text (ran Strings.scan p Strings.begin (drop p text)) (λ v. got_parts (e ++ v)) u
 unfolding Strings.scan
-next-part text p e u h = item-named Strings.scan (string-part as-key e) (λ x. string as-key (e ++ x)) (λ p s b. refl) text p Strings.begin u h
+next_part text p e u h = item_named Strings.scan (string_part as_key e) (λ x. string as_key (e ++ x)) (λ p s b. refl) text p Strings.begin u h
 
 -- ---- where a key is wanted
 
 -- at a quote a part begins, at a letter an identifier, and nothing is named behind another byte
 module _ (p b : ℕ) (t u : List ℕ) where
   -- the item begins and takes its first byte in silence
-  begins-quietly : (i : Item) → at_out b (Machine.scan p i b) ≡ [] → keyHeard (tell (suc p) (Machine.start p 0 [] b i) t).heard ≡ some u
+  begins_quietly : (i : Item) → at_out b (Machine.scan p i b) ≡ [] → key_heard (tell (suc p) (Machine.start p 0 [] b i) t).heard ≡ some u
       → Naming p (at (item i) 0 []) (b ∷ t) u
   unfolding tell
-  begins-quietly i e h = ap (λ (x : List Heard). keyHeard (x ++ (tell (suc p) (Machine.start p 0 [] b i) t).heard)) e ∙ h
+  begins_quietly i e h = ap (λ (x : List Heard). key_heard (x ++ (tell (suc p) (Machine.start p 0 [] b i) t).heard)) e ∙ h
 
-  abbrev asNamed : Type 0
-  asNamed = Naming p (at (item (identifier Names.begin)) 0 []) (b ∷ t) u
+  abbrev as_named : Type 0
+  as_named = Naming p (at (item (identifier Names.begin)) 0 []) (b ∷ t) u
 
-  name-begins : (c : Class) → (c ≡ blankC → ⊥) → (c ≡ hashC → ⊥) → (c ≡ slashC → ⊥) → (c ≡ quoteC → ⊥)
-      → keyHeard (atKey p c ++ (tell (suc p) (Machine.onKey p 0 [] b c) t).heard) ≡ some u → asNamed
-  name-begins blankC i j k q h = absurd (i refl)
-  name-begins hashC i j k q h = absurd (j refl)
-  name-begins slashC i j k q h = absurd (k refl)
-  name-begins quoteC i j k q h = absurd (q refl)
-  name-begins dollarC i j k q h = begins-quietly (identifier Names.begin) (name-quiet p b) h
-  name-begins letterN i j k q h = begins-quietly (identifier Names.begin) (name-quiet p b) h
-  name-begins letterT i j k q h = begins-quietly (identifier Names.begin) (name-quiet p b) h
-  name-begins letterF i j k q h = begins-quietly (identifier Names.begin) (name-quiet p b) h
-  name-begins letterC i j k q h = begins-quietly (identifier Names.begin) (name-quiet p b) h
-  name-begins (closeC square) i j k q h = absurd (refused-named (suc p) _ t u h)
-  name-begins (closeC curly) i j k q h = absurd (let z : ◌≡◌ {A = ℕ} 0 1 = cc in omega arith)
-  name-begins (open_c c) i j k q h = absurd (refused-named (suc p) _ t u h)
-  name-begins colonC i j k q h = absurd (refused-named (suc p) _ t u h)
-  name-begins commaC i j k q h = absurd (refused-named (suc p) _ t u h)
-  name-begins plusC i j k q h = absurd (refused-named (suc p) _ t u h)
-  name-begins otherC i j k q h = absurd (refused-named (suc p) _ t u h)
+  name_begins : (c : Class) → (c ≡ blank_c → ⊥) → (c ≡ hash_c → ⊥) → (c ≡ slash_c → ⊥) → (c ≡ quote_c → ⊥)
+      → key_heard (at_key p c ++ (tell (suc p) (Machine.on_key p 0 [] b c) t).heard) ≡ some u → as_named
+  name_begins blank_c i j k q h = absurd (i refl)
+  name_begins hash_c i j k q h = absurd (j refl)
+  name_begins slash_c i j k q h = absurd (k refl)
+  name_begins quote_c i j k q h = absurd (q refl)
+  name_begins dollar_c i j k q h = begins_quietly (identifier Names.begin) (name_quiet p b) h
+  name_begins letter_n i j k q h = begins_quietly (identifier Names.begin) (name_quiet p b) h
+  name_begins letter_t i j k q h = begins_quietly (identifier Names.begin) (name_quiet p b) h
+  name_begins letter_f i j k q h = begins_quietly (identifier Names.begin) (name_quiet p b) h
+  name_begins letter_c i j k q h = begins_quietly (identifier Names.begin) (name_quiet p b) h
+  name_begins (close_c square) i j k q h = absurd (refused_named (suc p) _ t u h)
+  name_begins (close_c curly) i j k q h = absurd (let z : ◌≡◌ {A = ℕ} 0 1 = cc in omega arith)
+  name_begins (open_c c) i j k q h = absurd (refused_named (suc p) _ t u h)
+  name_begins colon_c i j k q h = absurd (refused_named (suc p) _ t u h)
+  name_begins comma_c i j k q h = absurd (refused_named (suc p) _ t u h)
+  name_begins plus_c i j k q h = absurd (refused_named (suc p) _ t u h)
+  name_begins other_c i j k q h = absurd (refused_named (suc p) _ t u h)
 
-  part-begins : (c : Class) → c ≡ quoteC → keyHeard (atKey p c ++ (tell (suc p) (Machine.onKey p 0 [] b c) t).heard) ≡ some u
-      → Naming p (at (item (string-part as-key [] Strings.begin)) 0 []) (b ∷ t) u
-  part-begins c e h = begins-quietly (string-part as-key [] Strings.begin) (string-quiet as-key [] p b) (rw e at h)
+  part_begins : (c : Class) → c ≡ quote_c → key_heard (at_key p c ++ (tell (suc p) (Machine.on_key p 0 [] b c) t).heard) ≡ some u
+      → Naming p (at (item (string_part as_key [] Strings.begin)) 0 []) (b ∷ t) u
+  part_begins c e h = begins_quietly (string_part as_key [] Strings.begin) (string_quiet as_key [] p b) (rw e at h)
 
 module _ (text : List ℕ) (p : ℕ) (u : List ℕ) (l : p < length text) where
   -- the byte at p, and the rest
   at_byte : (c : Conf) → Naming p c (get_or text p 0 ∷ drop (suc p) text) u → NamesNext text c p u
   at_byte c h = rw (drop-cons text p 0) h
 
-  key-heard : key_at text p ≡ some u
-      → keyHeard (atKey p (class_of (get_or text p 0)) ++ (tell (suc p) (Machine.onKey p 0 [] (get_or text p 0) (class_of (get_or text p 0))) (drop (suc p) text)).heard)
+  key_heard_lem : key_at text p ≡ some u
+      → key_heard (at_key p (class_of (get_or text p 0)) ++ (tell (suc p) (Machine.on_key p 0 [] (get_or text p 0) (class_of (get_or text p 0))) (drop (suc p) text)).heard)
       ≡ some u
   unfolding key_at
-  key-heard e = ap (λ (x : Told). keyHeard x.heard) (sym (onto (at (base wantKey) 0 []) text p l)) ∙ e
+  key_heard_lem e = ap (λ (x : Told). key_heard x.heard) (sym (onto (at (base want_key) 0 []) text p l)) ∙ e
 
   -- the key begins with a part
-  pub key-part : class_of (get_or text p 0) ≡ quoteC → key_at text p ≡ some u
-      → Ends text (ran Strings.scan p Strings.begin (drop p text)) (λ v. gotParts v) u
-  key-part q e =
-      next-part text p [] u
-      (at_byte (at (item (string-part as-key [] Strings.begin)) 0 [])
-      (part-begins p (get_or text p 0) (drop (suc p) text) u (class_of (get_or text p 0)) q (key-heard e)))
+  pub key_part : class_of (get_or text p 0) ≡ quote_c → key_at text p ≡ some u
+      → Ends text (ran Strings.scan p Strings.begin (drop p text)) (λ v. got_parts v) u
+  key_part q e =
+      next_part text p [] u
+      (at_byte (at (item (string_part as_key [] Strings.begin)) 0 [])
+      (part_begins p (get_or text p 0) (drop (suc p) text) u (class_of (get_or text p 0)) q (key_heard_lem e)))
 
   -- or is an identifier
-  pub key-name : Bare text p → (class_of (get_or text p 0) ≡ quoteC → ⊥) → key_at text p ≡ some u
-      → Ends text (ran Names.scan p Names.begin (drop p text)) (λ v. gotName v) u
+  pub key_name : Bare text p → (class_of (get_or text p 0) ≡ quote_c → ⊥) → key_at text p ≡ some u
+      → Ends text (ran Names.scan p Names.begin (drop p text)) (λ v. got_name v) u
   unfolding Names.scan
-  key-name b q e =
-      item-named Names.scan identifier key (λ p s b. refl) text p Names.begin u
+  key_name b q e =
+      item_named Names.scan identifier key (λ p s b. refl) text p Names.begin u
       (at_byte (at (item (identifier Names.begin)) 0 [])
-      (name-begins p (get_or text p 0) (drop (suc p) text) u (class_of (get_or text p 0)) (b.no-blank l) (b.no-hash l) (b.no_slash l) q (key-heard e)))
+      (name_begins p (get_or text p 0) (drop (suc p) text) u (class_of (get_or text p 0)) (b.no_blank l) (b.no_hash l) (b.no_slash l) q (key_heard_lem e)))

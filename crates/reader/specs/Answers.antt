@@ -4,44 +4,44 @@ use Rattle.rules.specs.Paper.{Said, done, refused}
 use Rattle.meaning.specs.declared.Refusal.{Refusal}
 use Rattle.meaning.specs.Bytes.{laid}
 use Rattle.meaning.specs.Meaning.{Meaning}
-use Rattle.meaning.specs.Paper.{refusalSaid}
-use Rattle.meaning.specs.Tape.{records, bytes, tapeOf, store_of}
+use Rattle.meaning.specs.Paper.{refusal_said}
+use Rattle.meaning.specs.Tape.{records, bytes, tape_of, store_of}
 use Rattle.grammar.specs.Values.{Loose, Text}
-use Rattle.grammar.specs.Refused.{Loose-refused, Text-refused}
+use Rattle.grammar.specs.Refused.{LooseRefused, TextRefused}
 use Rattle.reader.specs.declared.Answer.{Answer}
 
 -- in the terms of docs/FORMAT.md, 10.1: the number of records and of store bytes, or a refusal
-abbrev pub answerSaid : Answer → Said (ℕ × ℕ)
-answerSaid (Answer.Counts recordCount byte_count) = done (recordCount, byte_count)
-answerSaid (Answer.Refused why) = refusalSaid why
+abbrev pub answer_said : Answer → Said (ℕ × ℕ)
+answer_said (Answer.Counts recordCount byte_count) = done (recordCount, byte_count)
+answer_said (Answer.Refused why) = refusal_said why
 
 -- what `measure` may answer for this text
 pub data Measures (text : List ℕ) (a : Answer) : Type 0 where
   -- the sizes of its meaning
-  sizes : {m : Meaning} → Text text m → answerSaid a ≡ done (records m, bytes m) → Measures text a
+  sizes : {m : Meaning} → Text text m → answer_said a ≡ done (records m, bytes m) → Measures text a
   -- 1 to 7, 15
-  no_text : {why : Refusal} → Text-refused text why → answerSaid a ≡ refusalSaid why → Measures text a
+  no_text : {why : Refusal} → TextRefused text why → answer_said a ≡ refusal_said why → Measures text a
 
 -- what a check in parts may answer: what `measure` may, with 15 left out
 pub data Loosely (text : List ℕ) (a : Answer) : Type 0 where
-  sizes : {m : Meaning} → Loose true text m → answerSaid a ≡ done (records m, bytes m) → Loosely text a
-  no_text : {why : Refusal} → Loose-refused text why → answerSaid a ≡ refusalSaid why → Loosely text a
+  sizes : {m : Meaning} → Loose true text m → answer_said a ≡ done (records m, bytes m) → Loosely text a
+  no_text : {why : Refusal} → LooseRefused text why → answer_said a ≡ refusal_said why → Loosely text a
 
 -- the tape bytes that a meaning needs
-abbrev pub tapeBytes : Meaning → ℕ
-tapeBytes m = records m * 16
+abbrev pub tape_bytes : Meaning → ℕ
+tape_bytes m = records m * 16
 
 -- what `read` may answer, and leave in the tape and the store that it was lent
 pub data Reads (text tape store : List ℕ) (a : Answer) : List ℕ → List ℕ → Type 0 where
   -- the tape and the store of the text's meaning from their start; what lies past them is unchanged
-  filled : {m : Meaning} → Text text m → tapeBytes m ≤ length tape → bytes m ≤ length store
-      → answerSaid a ≡ done (records m, bytes m)
-      → Reads text tape store a (laid (tapeOf m) tape) (laid (store_of m) store)
+  filled : {m : Meaning} → Text text m → tape_bytes m ≤ length tape → bytes m ≤ length store
+      → answer_said a ≡ done (records m, bytes m)
+      → Reads text tape store a (laid (tape_of m) tape) (laid (store_of m) store)
   -- 8, with the tape bytes needed; then 9, with the store bytes needed
-  tape-short : {m : Meaning} → Text text m → length tape < tapeBytes m
-      → answerSaid a ≡ refused 8 (tapeBytes m) → Reads text tape store a tape store
-  store-short : {m : Meaning} → Text text m → tapeBytes m ≤ length tape → length store < bytes m
-      → answerSaid a ≡ refused 9 (bytes m) → Reads text tape store a tape store
+  tape_short : {m : Meaning} → Text text m → length tape < tape_bytes m
+      → answer_said a ≡ refused 8 (tape_bytes m) → Reads text tape store a tape store
+  store_short : {m : Meaning} → Text text m → tape_bytes m ≤ length tape → length store < bytes m
+      → answer_said a ≡ refused 9 (bytes m) → Reads text tape store a tape store
   -- 1 to 7, 15
-  no_text : {why : Refusal} → Text-refused text why → answerSaid a ≡ refusalSaid why
+  no_text : {why : Refusal} → TextRefused text why → answer_said a ≡ refusal_said why
       → Reads text tape store a tape store

@@ -3,7 +3,7 @@ ghost use Rattle.std.specs.Prelude.{◌≡◌, ◌-◌, ◌≤◌, ◌<◌, leng
 ghost use Rattle.meaning.specs.Letters.{ch};
 ghost use Rattle.machine.specs.Machine.{square, curly};
 ghost use Rattle.once.specs.Groups.{Sane};
-ghost use Rattle.reader.specs.Between.Cursor.{recordItem, itemBytes, SpeltSays, Quoted, AtScalar, ScalarSays};
+ghost use Rattle.reader.specs.Between.Cursor.{record_item, item_bytes, SpeltSays, Quoted, AtScalar, ScalarSays};
 ghost use Rattle.reader.specs.Between.Cursor.{Ready, AtMember, AtValue, Inner, Seen, HeadSays, AheadSays, AfterSays};
 ghost use Rattle.reader.specs.Between.Cursor.{ColonSays, MemberSays, MemberAheadSays, ValueSays, InsideSays};
 ghost use Rattle.reader.specs.Between.Cursor.{ArrayClosed, ObjectClosed, StepReady, FollowedSays};
@@ -65,7 +65,7 @@ enum Member {
 
 // The record of an item whose store bytes begin at `start`.
 fn record_of(item: Item, start: usize) -> Record
-    ensures { result ≡ recordItem item start }
+    ensures { result ≡ record_item item start }
 {
     match item {
         Item::Null => Record::Null,
@@ -139,7 +139,7 @@ fn scalar(text: &[u8], at: usize, store: &mut [u8], start: usize) -> Scanned
 
 // How many store bytes an item has.
 fn stored_by(item: Item) -> usize
-    ensures { result ≡ itemBytes item }
+    ensures { result ≡ item_bytes item }
 {
     match item {
         Item::Null => 0,

@@ -5,7 +5,7 @@ ghost use Rattle.machine.specs.Machine as Machine;
 ghost use Rattle.machine.specs.Strings;
 ghost use Rattle.machine.specs.Binaries;
 ghost use Rattle.reader.specs.Between.Joined.{JoinSays, link_of, LinkSays, BytesSays};
-ghost use Rattle.reader.specs.Between.Joined.{stringPart, binaryPart, wholeBinary};
+ghost use Rattle.reader.specs.Between.Joined.{string_part_of, binary_part_of, whole_binary};
 
 use crate::layout;
 use crate::layout::Layout;
@@ -98,7 +98,7 @@ fn binary_part(text: &[u8], at: usize, store: &mut [u8], start: usize) -> Link
 // A string, from its first part on.
 pub fn string(text: &[u8], from: usize, store: &mut [u8], start: usize) -> Bytes
     requires { (from ≤ length text.now) × (start ≤ from) }
-    ensures { BytesSays Use stringPart Machine.string text.now
+    ensures { BytesSays Use string_part_of Machine.string text.now
         from start store.old store.new result }
 {
     let mut at = from;
@@ -125,7 +125,7 @@ pub fn string(text: &[u8], from: usize, store: &mut [u8], start: usize) -> Bytes
 // Binary, from its first part on.
 pub fn binary(text: &[u8], from: usize, store: &mut [u8], start: usize) -> Bytes
     requires { (from ≤ length text.now) × (start ≤ from) }
-    ensures { BytesSays Unit binaryPart wholeBinary text.now
+    ensures { BytesSays Unit binary_part_of whole_binary text.now
         from start store.old store.new result }
 {
     let mut at = from;

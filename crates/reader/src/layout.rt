@@ -2,7 +2,7 @@
 ghost use Rattle.std.specs.Prelude.{◌≡◌, true, ◌≤◌, ◌<◌, eqb, length};
 ghost use Rattle.rules.specs.Between.Tests.{Decides};
 ghost use Rattle.meaning.specs.Letters.{ch};
-ghost use Rattle.machine.specs.Machine.{class_of, blankC, note_of, lineEnd, slashN, controlN, line, block, slash};
+ghost use Rattle.machine.specs.Machine.{class_of, blank_c, note_of, line_end, slash_n, control_n, line, block, slash};
 ghost use Rattle.reader.specs.Between.Layout.{CommentSays, MaybeSays, Blanks, LayoutSays};
 
 // Where the layout from a place on ends, or the byte that breaks it.
@@ -22,7 +22,7 @@ enum Comment {
 
 // Whether a byte ends a line comment.
 fn is_line_end(b: u8) -> bool
-    ensures { Decides (note_of b ≡ lineEnd) result }
+    ensures { Decides (note_of b ≡ line_end) result }
 {
     if b == b'\n' {
         return true;
@@ -35,7 +35,7 @@ fn is_line_end(b: u8) -> bool
 
 // Whether no comment may hold a byte: those below U+0020 but tab, LF and CR.
 fn is_control(b: u8) -> bool
-    ensures { Decides (note_of b ≡ controlN) result }
+    ensures { Decides (note_of b ≡ control_n) result }
 {
     if b >= 0x20 {
         return false;
@@ -54,7 +54,7 @@ fn is_control(b: u8) -> bool
 
 // Whether a byte closes a block comment: a slash, after a star.
 fn closes(last: u8, b: u8) -> bool
-    ensures { Decides ((eqb last (ch "*") ≡ true) × (note_of b ≡ slashN)) result }
+    ensures { Decides ((eqb last (ch "*") ≡ true) × (note_of b ≡ slash_n)) result }
 {
     if b == b'/' {
         return last == b'*';
@@ -137,7 +137,7 @@ fn comment_at(text: &[u8], at: usize) -> Comment
 
 // Whether a byte is a space, tab, LF or CR. Most are above all of them.
 fn is_blank(b: u8) -> bool
-    ensures { Decides (class_of b ≡ blankC) result }
+    ensures { Decides (class_of b ≡ blank_c) result }
 {
     if b > b' ' {
         return false;

@@ -8,7 +8,7 @@ mod spelling;
 mod tag;
 
 ghost use Rattle.std.specs.Prelude.{◌≤◌, length};
-ghost use Rattle.meaning.specs.Limits.{textLimit};
+ghost use Rattle.meaning.specs.Limits.{text_limit};
 ghost use Rattle.reader.specs.Answers.{Measures, Reads};
 ghost use Rattle.reader.specs.Between.Cursor.{Seen};
 ghost use Rattle.reader.specs.Between.Walk.{EndedSays, WalkSays, Searching, AtWindow, WindowSays, SearchSays, AnsweredSays};
@@ -46,7 +46,7 @@ fn ended(text: &[u8], next: Cursor) -> Answer
 
 // The text is layout, one value, layout.
 fn walk(text: &[u8], tape: &mut [u8], store: &mut [u8], seen: &mut [u32]) -> Answer
-    requires { (length text.now ≤ textLimit) × Seen text.now seen.old 0 }
+    requires { (length text.now ≤ text_limit) × Seen text.now seen.old 0 }
     ensures { WalkSays text.now tape.old tape.new
         store.old store.new seen.old seen.new result }
 {

@@ -5,7 +5,7 @@ ghost use Rattle.rules.specs.Rfc3629.{encode};
 ghost use Rattle.reader.specs.declared.spelling.Spelling.TheVariants as Spellings;
 ghost use Rattle.reader.specs.Between.Repeat.{KeyIs};
 ghost use Rattle.reader.specs.Between.Spelling.{OctetSays, InText, Spells, StepFromSays, StepSays, LetterSays};
-ghost use Rattle.reader.specs.Between.Spelling.{NamesNext, gotParts, ThreeSays};
+ghost use Rattle.reader.specs.Between.Spelling.{NamesNext, got_parts, ThreeSays};
 
 use crate::joined;
 use crate::joined::Join;
@@ -116,7 +116,7 @@ fn due(character: u32, left: usize, at: usize, quote: u8) -> Spelt
 fn after(text: &[u8], end: usize) -> Spelt
     requires { end ≤ length text.now }
     ensures { StepFromSays text.now (8 * (length text.now - end))
-        (λ e u. NamesNext text.now (gotParts e) end u) result }
+        (λ e u. NamesNext text.now (got_parts e) end u) result }
 {
     match joined::after_part(text, end) {
         Join::NotGrammar(_) => Spelt::Over,

@@ -16,18 +16,18 @@ pub record InEach (m : ℕ) (P : Type 0) : Type 0 where
   pub november : m ≡ 11 → P
   pub december : m ≡ 12 → P
 
-pub but-february : (m : ℕ) {P : Type 0} → 1 ≤ m → m ≤ 12 → (m ≡ 2 → ⊥) → InEach m P → P
-but-february zero l h f p = absurd (omega arith)
-but-february (suc zero) l h f p = p.january refl
-but-february (suc (suc zero)) l h f p = absurd (f refl)
-but-february (suc (suc (suc zero))) l h f p = p.march refl
-but-february (suc (suc (suc (suc zero)))) l h f p = p.april refl
-but-february (suc (suc (suc (suc (suc zero))))) l h f p = p.may refl
-but-february (suc (suc (suc (suc (suc (suc zero)))))) l h f p = p.june refl
-but-february (suc (suc (suc (suc (suc (suc (suc zero))))))) l h f p = p.july refl
-but-february (suc (suc (suc (suc (suc (suc (suc (suc zero)))))))) l h f p = p.august refl
-but-february (suc (suc (suc (suc (suc (suc (suc (suc (suc zero))))))))) l h f p = p.september refl
-but-february (suc (suc (suc (suc (suc (suc (suc (suc (suc (suc zero)))))))))) l h f p = p.october refl
-but-february (suc (suc (suc (suc (suc (suc (suc (suc (suc (suc (suc zero))))))))))) l h f p = p.november refl
-but-february (suc (suc (suc (suc (suc (suc (suc (suc (suc (suc (suc (suc zero)))))))))))) l h f p = p.december refl
-but-february (suc (suc (suc (suc (suc (suc (suc (suc (suc (suc (suc (suc (suc m))))))))))))) l h f p = absurd (omega arith)
+pub but_february : (m : ℕ) {P : Type 0} → 1 ≤ m → m ≤ 12 → (m ≡ 2 → ⊥) → InEach m P → P
+but_february zero l h f p = absurd (omega arith)
+but_february (suc zero) l h f p = p.january refl
+but_february (suc (suc zero)) l h f p = absurd (f refl)
+but_february (suc (suc (suc zero))) l h f p = p.march refl
+but_february (suc (suc (suc (suc zero)))) l h f p = p.april refl
+but_february (suc (suc (suc (suc (suc zero))))) l h f p = p.may refl
+but_february (suc (suc (suc (suc (suc (suc zero)))))) l h f p = p.june refl
+but_february (suc (suc (suc (suc (suc (suc (suc zero))))))) l h f p = p.july refl
+but_february (suc (suc (suc (suc (suc (suc (suc (suc zero)))))))) l h f p = p.august refl
+but_february (suc (suc (suc (suc (suc (suc (suc (suc (suc zero))))))))) l h f p = p.september refl
+but_february (suc (suc (suc (suc (suc (suc (suc (suc (suc (suc zero)))))))))) l h f p = p.october refl
+but_february (suc (suc (suc (suc (suc (suc (suc (suc (suc (suc (suc zero))))))))))) l h f p = p.november refl
+but_february (suc (suc (suc (suc (suc (suc (suc (suc (suc (suc (suc (suc zero)))))))))))) l h f p = p.december refl
+but_february (suc (suc (suc (suc (suc (suc (suc (suc (suc (suc (suc (suc (suc m))))))))))))) l h f p = absurd (omega arith)

@@ -11,12 +11,12 @@ use lib.ListN.{length, get_or}
 use borrow.Author.Tests.{eqb-true, eqb-false, leb-true, leb-false, ltb-true, ltb-false, le-leb, lt-ltb, le-ltb}
 use Rattle.rules.specs.Rfc3629.{Octets, Judged, done}
 use Rattle.rules.specs.Between.Posts.{Passed, CharAt, Tails, Tailed, tailed, broken, low_of, high_of}
-use Rattle.rules.specs.Between.Decided.{ones, conj, bounds, is_wide, length_at, faultFrom, judged}
+use Rattle.rules.specs.Between.Decided.{ones, conj, bounds, is_wide, length_at, fault_from, judged}
 use Rattle.rules.specs.declared.Utf8Answer.{Utf8Answer}
 use Rattle.rules.specs.declared.Utf8Answer.TheVariants.{Done, IllFormed}
-use Rattle.rules.proofs.Places.{step1, down⁻, Wide, no_char, ascii-char, back2, back3, back4}
-use Rattle.rules.proofs.Outcomes.{one-outcome-utf8, utf8-done}
-use Rattle.rules.proofs.Runs.{passed_none, passed-char, char-room, fault-at, all-passed}
+use Rattle.rules.proofs.Places.{step1, down⁻, Wide, no_char, ascii_char, back2, back3, back4}
+use Rattle.rules.proofs.Outcomes.{one_outcome_utf8, utf8_done}
+use Rattle.rules.proofs.Runs.{passed_none, passed_char, char_room, fault_at_lem, all_passed}
 
 -- ---- it is right
 
@@ -29,9 +29,9 @@ all_true [] e = tt
 all_true (true ∷ bs) e = (refl, all_true bs e)
 all_true (false ∷ bs) e = absurd (subst (λ (x : Bool). cond x ⊥ Unit) e tt)
 
-true-all : (bs : List Bool) → AllTrue bs → conj bs ≡ true
-true-all [] h = refl
-true-all (b ∷ bs) h = rw h.0 (true-all bs h.1)
+true_all : (bs : List Bool) → AllTrue bs → conj bs ≡ true
+true_all [] h = refl
+true_all (b ∷ bs) h = rw h.0 (true_all bs h.1)
 
 -- a test that may be passed over
 later : (n k : ℕ) (t : Bool) → cond (ltb n k) true t ≡ true → k ≤ n → t ≡ true
@@ -45,9 +45,9 @@ passed_over n k t f = go (dec_lt n k)
     go (no h) = rw (le-ltb n k (omega arith)) (f (omega arith))
 
 module _ (s : List ℕ) (i n : ℕ) where
-  is-wide : n ≡ ones (get_or s i 0) → is_wide s i n ≡ true → Wide s i n
+  is_wide_lem : n ≡ ones (get_or s i 0) → is_wide s i n ≡ true → Wide s i n
   unfolding is_wide
-  is-wide c e =
+  is_wide_lem c e =
       let w = all_true (bounds s i n) e in
       record {
         two = leb-true _ _ w.0;
@@ -65,7 +65,7 @@ module _ (s : List ℕ) (i n : ℕ) where
   wide_is : Wide s i n → is_wide s i n ≡ true
   unfolding is_wide
   wide_is w =
-      true-all (bounds s i n) (
+      true_all (bounds s i n) (
         le-leb _ _ w.two,
         (
           le-leb _ _ w.four,
@@ -113,43 +113,43 @@ by_count s i n w = go (ℕ_discrete n 2) (ℕ_discrete n 3)
     go (no f) (no g) = let e : n ≡ 4 = omega arith in rw e (back4 s i (subst (Wide s i) e w))
 
 -- where all but the tails is known
-pub by-tails : (s : List ℕ) (i n r : ℕ) → (n ≡ 0 → ⊥) → n ≡ ones (get_or s i 0) → (Tails s i n → Wide s i n) → Tailed s i n r → CharAt s i r
-by-tails s i n r z e f (tailed t) = by_count s i n (f t)
-by-tails s i n r z e f (broken g) =
+pub by_tails : (s : List ℕ) (i n r : ℕ) → (n ≡ 0 → ⊥) → n ≡ ones (get_or s i 0) → (Tails s i n → Wide s i n) → Tailed s i n r → CharAt s i r
+by_tails s i n r z e f (tailed t) = by_count s i n (f t)
+by_tails s i n r z e f (broken g) =
     no_char s i (λ q. z (e ∙ q)) (λ m w. let v = subst (Wide s i) (w.count ∙ sym e) w in g (record { third = v.third; fourth = v.fourth }))
 
-pub length-is : (s : List ℕ) (i : ℕ) → i < length s → CharAt s i (length_at s i)
+pub length_is : (s : List ℕ) (i : ℕ) → i < length s → CharAt s i (length_at s i)
 unfolding length_at
-length-is s i h = go (eqb (ones (get_or s i 0)) 0) refl (is_wide s i (ones (get_or s i 0))) refl
+length_is s i h = go (eqb (ones (get_or s i 0)) 0) refl (is_wide s i (ones (get_or s i 0))) refl
   where
     go : (x : Bool) → eqb (ones (get_or s i 0)) 0 ≡ x → (y : Bool) → is_wide s i (ones (get_or s i 0)) ≡ y → CharAt s i (cond x 1 (cond y (ones (get_or s i 0)) 0))
-    go true e y f = ascii-char s i h (ascii (get_or s i 0) (eqb-true _ _ e))
-    go false e true f = by_count s i (ones (get_or s i 0)) (is-wide s i _ refl f)
+    go true e y f = ascii_char s i h (ascii (get_or s i 0) (eqb-true _ _ e))
+    go false e true f = by_count s i (ones (get_or s i 0)) (is_wide_lem s i _ refl f)
     go false e false f = no_char s i (eqb-false _ _ e) (λ n w. differ (sym f ∙ ap (is_wide s i) (sym w.count) ∙ wide_is s i n w))
       where
         differ : false ≡ true → ⊥
         differ g = subst (λ (x : Bool). cond x ⊥ Unit) g tt
 
-fault-is : (f : ℕ) (s : List ℕ) (i : ℕ) → Passed s i → length s ≤ i + f → Judged s (faultFrom f s i)
-unfolding faultFrom
-fault-is zero s i p h = all-passed s i p (omega arith)
-fault-is (suc f) s i p h = go (fault-is f s (i + length_at s i)) (leb (length s) i) refl (eqb (length_at s i) 0) refl
+fault_is : (f : ℕ) (s : List ℕ) (i : ℕ) → Passed s i → length s ≤ i + f → Judged s (fault_from f s i)
+unfolding fault_from
+fault_is zero s i p h = all_passed s i p (omega arith)
+fault_is (suc f) s i p h = go (fault_is f s (i + length_at s i)) (leb (length s) i) refl (eqb (length_at s i) 0) refl
   where
-    go : (Passed s (i + length_at s i) → length s ≤ i + length_at s i + f → Judged s (faultFrom f s (i + length_at s i))) → (x : Bool) → leb (length s) i ≡ x
-        → (y : Bool) → eqb (length_at s i) 0 ≡ y → Judged s (cond x Done (cond y (IllFormed i) (faultFrom f s (i + length_at s i))))
-    go k true e y g = all-passed s i p (leb-true _ _ e)
-    go k false e true g = fault-at s i _ p (leb-false _ _ e) (length-is s i (leb-false _ _ e)) (eqb-true _ _ g)
+    go : (Passed s (i + length_at s i) → length s ≤ i + length_at s i + f → Judged s (fault_from f s (i + length_at s i))) → (x : Bool) → leb (length s) i ≡ x
+        → (y : Bool) → eqb (length_at s i) 0 ≡ y → Judged s (cond x Done (cond y (IllFormed i) (fault_from f s (i + length_at s i))))
+    go k true e y g = all_passed s i p (leb-true _ _ e)
+    go k false e true g = fault_at_lem s i _ p (leb-false _ _ e) (length_is s i (leb-false _ _ e)) (eqb-true _ _ g)
     go k false e false g =
-        let c = length-is s i (leb-false _ _ e) in
+        let c = length_is s i (leb-false _ _ e) in
         let z = eqb-false _ _ g in
-        k (passed-char s i (length_at s i) p c z) (omega (arith, char-room c z))
+        k (passed_char s i (length_at s i) p c z) (omega (arith, char_room c z))
 
-pub judged-is : (s : List ℕ) → Judged s (judged s)
+pub judged_is : (s : List ℕ) → Judged s (judged s)
 unfolding judged
-judged-is s = fault-is (length s) s 0 (passed_none s) (omega arith)
+judged_is s = fault_is (length s) s 0 (passed_none s) (omega arith)
 
-pub judged-done : {s : List ℕ} → judged s ≡ Done → Octets s
-judged-done {s} e = utf8-done (subst (Judged s) e (judged-is s))
+pub judged_done : {s : List ℕ} → judged s ≡ Done → Octets s
+judged_done {s} e = utf8_done (subst (Judged s) e (judged_is s))
 
-pub done-judged : {s : List ℕ} → Octets s → judged s ≡ Done
-done-judged {s} o = one-outcome-utf8 (judged-is s) (done o refl)
+pub done_judged : {s : List ℕ} → Octets s → judged s ≡ Done
+done_judged {s} o = one_outcome_utf8 (judged_is s) (done o refl)

@@ -9,7 +9,7 @@ use Rattle.rules.specs.Rfc3629.{Char, Octets, none, more, NoChar, Fault, Judged,
 use Rattle.rules.specs.Rfc3339
 use Rattle.rules.specs.Rfc3339.{Date, Dated}
 use Rattle.rules.specs.Paper as paper
-use Rattle.rules.specs.Paper.{Said, refused, utf8Said, dateSaid, numberSaid, placeSaid}
+use Rattle.rules.specs.Paper.{Said, refused, utf8_said, date_said, number_said, place_said}
 use Rattle.rules.specs.Told.{Utf8Told, DateTold}
 use Rattle.rules.specs.declared.Utf8Answer.{Utf8Answer}
 use Rattle.rules.specs.declared.Utf8Answer.TheVariants.{Done, IllFormed}
@@ -17,79 +17,79 @@ use Rattle.rules.specs.declared.DateAnswer.{DateAnswer}
 use Rattle.rules.proofs.Characters.{Within, cuts, after, begins}
 
 -- UTF-8 goes on past no fault
-past-fault : {mid : List ℕ} → Octets mid → (s rest : List ℕ) → NoChar s → s ≡ mid ++ rest → length mid ≡ 0
-past-fault none s rest f e = refl
-past-fault (more {c = c} {t = t} x r) s rest f e = absurd (f c (t ++ rest) x (e ∙ append_assoc c t rest))
+past_fault : {mid : List ℕ} → Octets mid → (s rest : List ℕ) → NoChar s → s ≡ mid ++ rest → length mid ≡ 0
+past_fault none s rest f e = refl
+past_fault (more {c = c} {t = t} x r) s rest f e = absurd (f c (t ++ rest) x (e ∙ append_assoc c t rest))
 
 -- one cut lies within the other: then they are one
 same_place : {a r b q : List ℕ} → Octets a → NoChar r → Octets b → Within b q a r → length a ≡ length b
 same_place {a} {r} {b} {q} oa f ob w =
     let m : Octets w.mid = after oa w.mid (subst Octets w.front ob) in
-    omega (arith, past-fault m r q f w.back, simp length-append at (ap length w.front))
+    omega (arith, past_fault m r q f w.back, simp length-append at (ap length w.front))
 
-same-fault : {s : List ℕ} {j k : ℕ} → Fault s j → Fault s k → j ≡ k
-same-fault f g =
+same_fault : {s : List ℕ} {j k : ℕ} → Fault s j → Fault s k → j ≡ k
+same_fault f g =
     f.place
     ∙ ⊎_elim (λ w. same_place f.good f.bad g.good w) (λ w. sym (same_place g.good g.bad f.good w))
     (cuts f.before f.rest g.before g.rest (sym f.split ∙ g.split))
     ∙ sym g.place
 
-pub no-fault : {s : List ℕ} {k : ℕ} → Octets s → Fault s k → ⊥
-no-fault o f = begins (after f.good f.rest (subst Octets f.split o)) f.left f.bad
+pub no_fault : {s : List ℕ} {k : ℕ} → Octets s → Fault s k → ⊥
+no_fault o f = begins (after f.good f.rest (subst Octets f.split o)) f.left f.bad
 
 -- ---- what is said tells the answer
 
-pub done-apart : {X : Type 0} {v : X} {n p : ℕ} → paper.done v ≡ refused n p → ⊥
-done-apart e = let z : ◌≡◌ {A = ℕ} 0 1 = cc in omega arith
+pub done_apart : {X : Type 0} {v : X} {n p : ℕ} → paper.done v ≡ refused n p → ⊥
+done_apart e = let z : ◌≡◌ {A = ℕ} 0 1 = cc in omega arith
 
-pub same-place-said : {X : Type 0} {n p m q : ℕ} → ◌≡◌ {A = Said X} (refused n p) (refused m q) → p ≡ q
-same-place-said e = ap placeSaid e
+pub same_place_said : {X : Type 0} {n p m q : ℕ} → ◌≡◌ {A = Said X} (refused n p) (refused m q) → p ≡ q
+same_place_said e = ap place_said e
 
-pub same-utf8-answer : (a b : Utf8Answer) → utf8Said a ≡ utf8Said b → a ≡ b
-same-utf8-answer Done Done e = refl
-same-utf8-answer Done (IllFormed k) e = absurd (done-apart e)
-same-utf8-answer (IllFormed j) Done e = absurd (done-apart (sym e))
-same-utf8-answer (IllFormed j) (IllFormed k) e = ap IllFormed (same-place-said e)
+pub same_utf8_answer : (a b : Utf8Answer) → utf8_said a ≡ utf8_said b → a ≡ b
+same_utf8_answer Done Done e = refl
+same_utf8_answer Done (IllFormed k) e = absurd (done_apart e)
+same_utf8_answer (IllFormed j) Done e = absurd (done_apart (sym e))
+same_utf8_answer (IllFormed j) (IllFormed k) e = ap IllFormed (same_place_said e)
 
-pub same-date-answer : (a b : DateAnswer) → dateSaid a ≡ dateSaid b → a ≡ b
-same-date-answer DateAnswer.Done DateAnswer.Done e = refl
-same-date-answer DateAnswer.Done DateAnswer.NoDate e = absurd (done-apart e)
-same-date-answer DateAnswer.NoDate DateAnswer.Done e = absurd (done-apart (sym e))
-same-date-answer DateAnswer.NoDate DateAnswer.NoDate e = refl
+pub same_date_answer : (a b : DateAnswer) → date_said a ≡ date_said b → a ≡ b
+same_date_answer DateAnswer.Done DateAnswer.Done e = refl
+same_date_answer DateAnswer.Done DateAnswer.NoDate e = absurd (done_apart e)
+same_date_answer DateAnswer.NoDate DateAnswer.Done e = absurd (done_apart (sym e))
+same_date_answer DateAnswer.NoDate DateAnswer.NoDate e = refl
 
 -- ---- what an answer says of what was given
 
-pub utf8-done : {s : List ℕ} → Judged s Done → Octets s
-utf8-done (done o e) = o
-utf8-done (ill f e) = absurd (done-apart e)
+pub utf8_done : {s : List ℕ} → Judged s Done → Octets s
+utf8_done (done o e) = o
+utf8_done (ill f e) = absurd (done_apart e)
 
-pub utf8-fault : {s : List ℕ} {k : ℕ} → Judged s (IllFormed k) → Fault s k
-utf8-fault (done o e) = absurd (done-apart (sym e))
-utf8-fault {s} (ill f e) = subst (Fault s) (sym (same-place-said e)) f
+pub utf8_fault : {s : List ℕ} {k : ℕ} → Judged s (IllFormed k) → Fault s k
+utf8_fault (done o e) = absurd (done_apart (sym e))
+utf8_fault {s} (ill f e) = subst (Fault s) (sym (same_place_said e)) f
 
-pub date-done : {y m d : ℕ} → Dated y m d DateAnswer.Done → Date y m d
-date-done (Rfc3339.done p e) = p
-date-done (Rfc3339.none f e) = absurd (done-apart e)
+pub date_done_lem : {y m d : ℕ} → Dated y m d DateAnswer.Done → Date y m d
+date_done_lem (Rfc3339.done p e) = p
+date_done_lem (Rfc3339.none f e) = absurd (done_apart e)
 
-pub date-none : {y m d : ℕ} → Dated y m d DateAnswer.NoDate → Date y m d → ⊥
-date-none (Rfc3339.done p e) = absurd (done-apart (sym e))
-date-none (Rfc3339.none f e) = f
+pub date_none : {y m d : ℕ} → Dated y m d DateAnswer.NoDate → Date y m d → ⊥
+date_none (Rfc3339.done p e) = absurd (done_apart (sym e))
+date_none (Rfc3339.none f e) = f
 
 -- ---- one outcome
 
-pub one-outcome-utf8 : {s : List ℕ} {a b : Utf8Answer} → Judged s a → Judged s b → a ≡ b
-one-outcome-utf8 {s} {a} {b} p q = same-utf8-answer a b (said p q)
+pub one_outcome_utf8 : {s : List ℕ} {a b : Utf8Answer} → Judged s a → Judged s b → a ≡ b
+one_outcome_utf8 {s} {a} {b} p q = same_utf8_answer a b (said p q)
   where
-    said : Judged s a → Judged s b → utf8Said a ≡ utf8Said b
+    said : Judged s a → Judged s b → utf8_said a ≡ utf8_said b
     said (done p e) (done q g) = e ∙ sym g
-    said (done p e) (ill g h) = absurd (no-fault p g)
-    said (ill f e) (done q g) = absurd (no-fault q f)
-    said (ill f e) (ill g h) = e ∙ ap (refused 2) (same-fault f g) ∙ sym h
+    said (done p e) (ill g h) = absurd (no_fault p g)
+    said (ill f e) (done q g) = absurd (no_fault q f)
+    said (ill f e) (ill g h) = e ∙ ap (refused 2) (same_fault f g) ∙ sym h
 
-pub one-outcome-date : {y m d : ℕ} {a b : DateAnswer} → Dated y m d a → Dated y m d b → a ≡ b
-one-outcome-date {y} {m} {d} {a} {b} p q = same-date-answer a b (said p q)
+pub one_outcome_date : {y m d : ℕ} {a b : DateAnswer} → Dated y m d a → Dated y m d b → a ≡ b
+one_outcome_date {y} {m} {d} {a} {b} p q = same_date_answer a b (said p q)
   where
-    said : Dated y m d a → Dated y m d b → dateSaid a ≡ dateSaid b
+    said : Dated y m d a → Dated y m d b → date_said a ≡ date_said b
     said (Rfc3339.done p e) (Rfc3339.done q g) = e ∙ sym g
     said (Rfc3339.done p e) (Rfc3339.none g h) = absurd (g p)
     said (Rfc3339.none f e) (Rfc3339.done q g) = absurd (f q)
@@ -97,18 +97,18 @@ one-outcome-date {y} {m} {d} {a} {b} p q = same-date-answer a b (said p q)
 
 -- ---- the calls for C
 
-pub utf8-told : (s : List ℕ) (a b : Utf8Answer) → Judged s a → a ≡ b → Utf8Told s (numberSaid (utf8Said b)) (placeSaid (utf8Said b))
-utf8-told s a b j e = record { answer = b; judged = subst (Judged s) e j; number_is = refl; place_is = refl }
+pub utf8_told : (s : List ℕ) (a b : Utf8Answer) → Judged s a → a ≡ b → Utf8Told s (number_said (utf8_said b)) (place_said (utf8_said b))
+utf8_told s a b j e = record { answer = b; judged = subst (Judged s) e j; number_is = refl; place_is = refl }
 
-pub date-told : (y m d : ℕ) (a b : DateAnswer) → Dated y m d a → a ≡ b → DateTold y m d (numberSaid (dateSaid b)) (placeSaid (dateSaid b))
-date-told y m d a b j e = record { answer = b; dated = subst (Dated y m d) e j; number_is = refl; place_is = refl }
+pub date_told : (y m d : ℕ) (a b : DateAnswer) → Dated y m d a → a ≡ b → DateTold y m d (number_said (date_said b)) (place_said (date_said b))
+date_told y m d a b j e = record { answer = b; dated = subst (Dated y m d) e j; number_is = refl; place_is = refl }
 
-pub one-outcome-utf8-told : {s : List ℕ} {n p m q : ℕ} → Utf8Told s n p → Utf8Told s m q → (n ≡ m) × (p ≡ q)
-one-outcome-utf8-told t u =
-    let e = ap utf8Said (one-outcome-utf8 t.judged u.judged) in
-    (t.number_is ∙ ap numberSaid e ∙ sym u.number_is, t.place_is ∙ ap placeSaid e ∙ sym u.place_is)
+pub one_outcome_utf8_told : {s : List ℕ} {n p m q : ℕ} → Utf8Told s n p → Utf8Told s m q → (n ≡ m) × (p ≡ q)
+one_outcome_utf8_told t u =
+    let e = ap utf8_said (one_outcome_utf8 t.judged u.judged) in
+    (t.number_is ∙ ap number_said e ∙ sym u.number_is, t.place_is ∙ ap place_said e ∙ sym u.place_is)
 
-pub one-outcome-date-told : {year month day n p m q : ℕ} → DateTold year month day n p → DateTold year month day m q → (n ≡ m) × (p ≡ q)
-one-outcome-date-told t u =
-    let e = ap dateSaid (one-outcome-date t.dated u.dated) in
-    (t.number_is ∙ ap numberSaid e ∙ sym u.number_is, t.place_is ∙ ap placeSaid e ∙ sym u.place_is)
+pub one_outcome_date_told : {year month day n p m q : ℕ} → DateTold year month day n p → DateTold year month day m q → (n ≡ m) × (p ≡ q)
+one_outcome_date_told t u =
+    let e = ap date_said (one_outcome_date t.dated u.dated) in
+    (t.number_is ∙ ap number_said e ∙ sym u.number_is, t.place_is ∙ ap place_said e ∙ sym u.place_is)

@@ -11,7 +11,7 @@ use lib.Dec.{T, leb}
 use lib.ListN.{length, get_or, take, drop, length-append, length-drop}
 use lib.Seq.{get_or-drop, drop-cons}
 use borrow.Author.Tests.{ne_eqb, le-leb, lt-leb, leb-true, leb-false}
-use Rattle.rules.specs.Rfc3629.{In, Tail, Char, utf8-1, utf8-2, utf8-3a, utf8-3b, utf8-3c, utf8-3d, utf8-4a, utf8-4b, utf8-4c, NoChar}
+use Rattle.rules.specs.Rfc3629.{In, Tail, Char, utf8_1, utf8_2, utf8_3a, utf8_3b, utf8_3c, utf8_3d, utf8_4a, utf8_4b, utf8_4c, NoChar}
 use Rattle.rules.specs.Between.Decided.{ones}
 use Rattle.rules.specs.Between.Posts.{CharAt, char, gap, low_of, high_of}
 use Rattle.rules.proofs.Computed.{every, below, agree, agreed}
@@ -64,33 +64,33 @@ step5 = step 5 248 tt
 
 -- ---- the bounds of the second byte
 
-pub low-e0 : low_of 0xE0 ≡ 0xA0
+pub low_e0 : low_of 0xE0 ≡ 0xA0
 unfolding low_of
-low-e0 = refl
+low_e0 = refl
 
-pub low-f0 : low_of 0xF0 ≡ 0x90
+pub low_f0 : low_of 0xF0 ≡ 0x90
 unfolding low_of
-low-f0 = refl
+low_f0 = refl
 
-pub low-else : (a : ℕ) → (a ≡ 0xE0 → ⊥) → (a ≡ 0xF0 → ⊥) → low_of a ≡ 0x80
+pub low_else : (a : ℕ) → (a ≡ 0xE0 → ⊥) → (a ≡ 0xF0 → ⊥) → low_of a ≡ 0x80
 unfolding low_of
-low-else a p q = simp (ne_eqb a 0xE0 p, ne_eqb a 0xF0 q)
+low_else a p q = simp (ne_eqb a 0xE0 p, ne_eqb a 0xF0 q)
 
-pub high-ed : high_of 0xED ≡ 0x9F
+pub high_ed : high_of 0xED ≡ 0x9F
 unfolding high_of
-high-ed = refl
+high_ed = refl
 
-pub high-f4 : high_of 0xF4 ≡ 0x8F
+pub high_f4 : high_of 0xF4 ≡ 0x8F
 unfolding high_of
-high-f4 = refl
+high_f4 = refl
 
-pub high-else : (a : ℕ) → (a ≡ 0xED → ⊥) → (a ≡ 0xF4 → ⊥) → high_of a ≡ 0xBF
+pub high_else : (a : ℕ) → (a ≡ 0xED → ⊥) → (a ≡ 0xF4 → ⊥) → high_of a ≡ 0xBF
 unfolding high_of
-high-else a p q = simp (ne_eqb a 0xED p, ne_eqb a 0xF4 q)
+high_else a p q = simp (ne_eqb a 0xED p, ne_eqb a 0xF4 q)
 
 -- a first byte after which any tail may stand
 pub plain : (a : ℕ) → (a ≡ 0xE0 → ⊥) → (a ≡ 0xF0 → ⊥) → (a ≡ 0xED → ⊥) → (a ≡ 0xF4 → ⊥) → (low_of a ≡ 0x80) × (high_of a ≡ 0xBF)
-plain a p q r t = (low-else a p q, high-else a r t)
+plain a p q r t = (low_else a p q, high_else a r t)
 
 -- ---- the rules for two bytes and more as bounds: n is also the count of leading ones
 
@@ -108,8 +108,8 @@ pub record Wide (s : List ℕ) (i n : ℕ) : Type 0 where
 
 -- the bytes at a place, by what stands there
 module _ (s : List ℕ) (i : ℕ) where
-  pub at_first : (t : List ℕ) → drop i s ≡ t → get_or s i 0 ≡ get_or t 0 0
-  at_first t e = let z : i + 0 ≡ i = omega arith in ap (λ (k : ℕ). get_or s k 0) (sym z) ∙ sym (get_or-drop i s 0 0) ∙ ap (λ (l : List ℕ). get_or l 0 0) e
+  pub at_first_lem : (t : List ℕ) → drop i s ≡ t → get_or s i 0 ≡ get_or t 0 0
+  at_first_lem t e = let z : i + 0 ≡ i = omega arith in ap (λ (k : ℕ). get_or s k 0) (sym z) ∙ sym (get_or-drop i s 0 0) ∙ ap (λ (l : List ℕ). get_or l 0 0) e
 
   at_next : (t : List ℕ) (k : ℕ) → drop i s ≡ t → get_or s (i + k) 0 ≡ get_or t k 0
   at_next t k e = sym (get_or-drop i s k 0) ∙ ap (λ (l : List ℕ). get_or l k 0) e
@@ -119,88 +119,88 @@ module _ (s : List ℕ) (i : ℕ) where
 
   -- each rule but the first gives the bounds
   pub wide : {c : List ℕ} → Char c → (r : List ℕ) → drop i s ≡ c ++ r → (length c ≡ 1 → ⊥) → Wide s i (length c)
-  wide (utf8-1 x) r e h = absurd (h refl)
-  wide (utf8-2 {a = a} {b = b} x y) r e h =
+  wide (utf8_1 x) r e h = absurd (h refl)
+  wide (utf8_2 {a = a} {b = b} x y) r e h =
       let t : List ℕ = a ∷ b ∷ r in
-      let e0 = at_first t e in let e1 = at_next t 1 e in let f = room t e (omega arith) in
+      let e0 = at_first_lem t e in let e1 = at_next t 1 e in let f = room t e (omega arith) in
       let p = plain (get_or s i 0) (λ z. omega arith) (λ z. omega arith) (λ z. omega arith) (λ z. omega arith) in
       let u = up step2 (get_or s i 0) (omega arith) (omega arith) in let v = down step3 (get_or s i 0) (omega arith) (omega arith) in
       omega arith
-  wide (utf8-3a {b = b} {c = c} y z) r e h =
+  wide (utf8_3a {b = b} {c = c} y z) r e h =
       let t : List ℕ = 0xE0 ∷ b ∷ c ∷ r in
-      let e0 = at_first t e in let e1 = at_next t 1 e in let e2 = at_next t 2 e in let f = room t e (omega arith) in
-      let l : low_of (get_or s i 0) ≡ 0xA0 = ap low_of e0 ∙ low-e0 in
-      let g = high-else (get_or s i 0) (λ z. omega arith) (λ z. omega arith) in
+      let e0 = at_first_lem t e in let e1 = at_next t 1 e in let e2 = at_next t 2 e in let f = room t e (omega arith) in
+      let l : low_of (get_or s i 0) ≡ 0xA0 = ap low_of e0 ∙ low_e0 in
+      let g = high_else (get_or s i 0) (λ z. omega arith) (λ z. omega arith) in
       let u = up step3 (get_or s i 0) (omega arith) (omega arith) in let v = down step4 (get_or s i 0) (omega arith) (omega arith) in
       omega arith
-  wide (utf8-3b {a = a} {b = b} {c = c} x y z) r e h =
+  wide (utf8_3b {a = a} {b = b} {c = c} x y z) r e h =
       let t : List ℕ = a ∷ b ∷ c ∷ r in
-      let e0 = at_first t e in let e1 = at_next t 1 e in let e2 = at_next t 2 e in let f = room t e (omega arith) in
+      let e0 = at_first_lem t e in let e1 = at_next t 1 e in let e2 = at_next t 2 e in let f = room t e (omega arith) in
       let p = plain (get_or s i 0) (λ z. omega arith) (λ z. omega arith) (λ z. omega arith) (λ z. omega arith) in
       let u = up step3 (get_or s i 0) (omega arith) (omega arith) in let v = down step4 (get_or s i 0) (omega arith) (omega arith) in
       omega arith
-  wide (utf8-3c {b = b} {c = c} y z) r e h =
+  wide (utf8_3c {b = b} {c = c} y z) r e h =
       let t : List ℕ = 0xED ∷ b ∷ c ∷ r in
-      let e0 = at_first t e in let e1 = at_next t 1 e in let e2 = at_next t 2 e in let f = room t e (omega arith) in
-      let l = low-else (get_or s i 0) (λ z. omega arith) (λ z. omega arith) in
-      let g : high_of (get_or s i 0) ≡ 0x9F = ap high_of e0 ∙ high-ed in
+      let e0 = at_first_lem t e in let e1 = at_next t 1 e in let e2 = at_next t 2 e in let f = room t e (omega arith) in
+      let l = low_else (get_or s i 0) (λ z. omega arith) (λ z. omega arith) in
+      let g : high_of (get_or s i 0) ≡ 0x9F = ap high_of e0 ∙ high_ed in
       let u = up step3 (get_or s i 0) (omega arith) (omega arith) in let v = down step4 (get_or s i 0) (omega arith) (omega arith) in
       omega arith
-  wide (utf8-3d {a = a} {b = b} {c = c} x y z) r e h =
+  wide (utf8_3d {a = a} {b = b} {c = c} x y z) r e h =
       let t : List ℕ = a ∷ b ∷ c ∷ r in
-      let e0 = at_first t e in let e1 = at_next t 1 e in let e2 = at_next t 2 e in let f = room t e (omega arith) in
+      let e0 = at_first_lem t e in let e1 = at_next t 1 e in let e2 = at_next t 2 e in let f = room t e (omega arith) in
       let p = plain (get_or s i 0) (λ z. omega arith) (λ z. omega arith) (λ z. omega arith) (λ z. omega arith) in
       let u = up step3 (get_or s i 0) (omega arith) (omega arith) in let v = down step4 (get_or s i 0) (omega arith) (omega arith) in
       omega arith
-  wide (utf8-4a {b = b} {c = c} {d = d} y z w) r e h =
+  wide (utf8_4a {b = b} {c = c} {d = d} y z w) r e h =
       let t : List ℕ = 0xF0 ∷ b ∷ c ∷ d ∷ r in
-      let e0 = at_first t e in let e1 = at_next t 1 e in let e2 = at_next t 2 e in let e3 = at_next t 3 e in let f = room t e (omega arith) in
-      let l : low_of (get_or s i 0) ≡ 0x90 = ap low_of e0 ∙ low-f0 in
-      let g = high-else (get_or s i 0) (λ z. omega arith) (λ z. omega arith) in
+      let e0 = at_first_lem t e in let e1 = at_next t 1 e in let e2 = at_next t 2 e in let e3 = at_next t 3 e in let f = room t e (omega arith) in
+      let l : low_of (get_or s i 0) ≡ 0x90 = ap low_of e0 ∙ low_f0 in
+      let g = high_else (get_or s i 0) (λ z. omega arith) (λ z. omega arith) in
       let u = up step4 (get_or s i 0) (omega arith) (omega arith) in let v = down step5 (get_or s i 0) (omega arith) (omega arith) in
       omega arith
-  wide (utf8-4b {a = a} {b = b} {c = c} {d = d} x y z w) r e h =
+  wide (utf8_4b {a = a} {b = b} {c = c} {d = d} x y z w) r e h =
       let t : List ℕ = a ∷ b ∷ c ∷ d ∷ r in
-      let e0 = at_first t e in let e1 = at_next t 1 e in let e2 = at_next t 2 e in let e3 = at_next t 3 e in let f = room t e (omega arith) in
+      let e0 = at_first_lem t e in let e1 = at_next t 1 e in let e2 = at_next t 2 e in let e3 = at_next t 3 e in let f = room t e (omega arith) in
       let p = plain (get_or s i 0) (λ z. omega arith) (λ z. omega arith) (λ z. omega arith) (λ z. omega arith) in
       let u = up step4 (get_or s i 0) (omega arith) (omega arith) in let v = down step5 (get_or s i 0) (omega arith) (omega arith) in
       omega arith
-  wide (utf8-4c {b = b} {c = c} {d = d} y z w) r e h =
+  wide (utf8_4c {b = b} {c = c} {d = d} y z w) r e h =
       let t : List ℕ = 0xF4 ∷ b ∷ c ∷ d ∷ r in
-      let e0 = at_first t e in let e1 = at_next t 1 e in let e2 = at_next t 2 e in let e3 = at_next t 3 e in let f = room t e (omega arith) in
-      let l = low-else (get_or s i 0) (λ z. omega arith) (λ z. omega arith) in
-      let g : high_of (get_or s i 0) ≡ 0x8F = ap high_of e0 ∙ high-f4 in
+      let e0 = at_first_lem t e in let e1 = at_next t 1 e in let e2 = at_next t 2 e in let e3 = at_next t 3 e in let f = room t e (omega arith) in
+      let l = low_else (get_or s i 0) (λ z. omega arith) (λ z. omega arith) in
+      let g : high_of (get_or s i 0) ≡ 0x8F = ap high_of e0 ∙ high_f4 in
       let u = up step4 (get_or s i 0) (omega arith) (omega arith) in let v = down step5 (get_or s i 0) (omega arith) (omega arith) in
       omega arith
 
   -- no character stands where the byte is no ASCII and no bounds hold
-  no-wide : (ones (get_or s i 0) ≡ 0 → ⊥) → ((n : ℕ) → Wide s i n → ⊥) → NoChar (drop i s)
-  no-wide z f c r x e = go (ℕ_discrete (length c) 1)
+  no_wide : (ones (get_or s i 0) ≡ 0 → ⊥) → ((n : ℕ) → Wide s i n → ⊥) → NoChar (drop i s)
+  no_wide z f c r x e = go (ℕ_discrete (length c) 1)
     where
       go : Dec (length c ≡ 1) → ⊥
       go (no h) = f (length c) (wide x r e h)
       go (yes h) =
           let q = short x (omega arith) in
-          let a : get_or s i 0 ≡ q.byte = at_first (q.byte ∷ r) (e ∙ ap (λ (l : List ℕ). l ++ r) q.is) in
+          let a : get_or s i 0 ≡ q.byte = at_first_lem (q.byte ∷ r) (e ∙ ap (λ (l : List ℕ). l ++ r) q.is) in
           let v = down step1 (get_or s i 0) (omega arith) (omega arith) in
           z (omega arith)
 
   pub no_char : (ones (get_or s i 0) ≡ 0 → ⊥) → ((n : ℕ) → Wide s i n → ⊥) → CharAt s i 0
-  no_char z f = gap (no-wide z f)
+  no_char z f = gap (no_wide z f)
 
   -- the bytes that are taken
-  take-1 : i + 1 ≤ length s → take 1 (drop i s) ≡ get_or s i 0 ∷ []
-  take-1 h = rw (drop-cons s i 0 (omega arith))
+  take_1 : i + 1 ≤ length s → take 1 (drop i s) ≡ get_or s i 0 ∷ []
+  take_1 h = rw (drop-cons s i 0 (omega arith))
 
-  take-2 : i + 2 ≤ length s → take 2 (drop i s) ≡ get_or s i 0 ∷ get_or s (i + 1) 0 ∷ []
-  take-2 h = rw (add-one i, drop-cons s i 0 (omega arith), drop-cons s (suc i) 0 (omega arith))
+  take_2 : i + 2 ≤ length s → take 2 (drop i s) ≡ get_or s i 0 ∷ get_or s (i + 1) 0 ∷ []
+  take_2 h = rw (add-one i, drop-cons s i 0 (omega arith), drop-cons s (suc i) 0 (omega arith))
 
-  take-3 : i + 3 ≤ length s → take 3 (drop i s) ≡ get_or s i 0 ∷ get_or s (i + 1) 0 ∷ get_or s (i + 2) 0 ∷ []
-  take-3 h =
+  take_3 : i + 3 ≤ length s → take 3 (drop i s) ≡ get_or s i 0 ∷ get_or s (i + 1) 0 ∷ get_or s (i + 2) 0 ∷ []
+  take_3 h =
       rw (add-one i, add-two i, drop-cons s i 0 (omega arith), drop-cons s (suc i) 0 (omega arith), drop-cons s (suc (suc i)) 0 (omega arith))
 
-  take-4 : i + 4 ≤ length s → take 4 (drop i s) ≡ get_or s i 0 ∷ get_or s (i + 1) 0 ∷ get_or s (i + 2) 0 ∷ get_or s (i + 3) 0 ∷ []
-  take-4 h =
+  take_4 : i + 4 ≤ length s → take 4 (drop i s) ≡ get_or s i 0 ∷ get_or s (i + 1) 0 ∷ get_or s (i + 2) 0 ∷ get_or s (i + 3) 0 ∷ []
+  take_4 h =
       rw (
         add-one i,
         add-two i,
@@ -212,17 +212,17 @@ module _ (s : List ℕ) (i : ℕ) where
       )
 
   -- the bounds give the rule
-  pub ascii-char : i < length s → get_or s i 0 < 0x80 → CharAt s i 1
-  ascii-char h l = char {n = 1} (omega arith) (omega arith) (rw (take-1 (omega arith)) (utf8-1 {a = get_or s i 0} (omega arith)))
+  pub ascii_char : i < length s → get_or s i 0 < 0x80 → CharAt s i 1
+  ascii_char h l = char {n = 1} (omega arith) (omega arith) (rw (take_1 (omega arith)) (utf8_1 {a = get_or s i 0} (omega arith)))
 
   pub back2 : Wide s i 2 → CharAt s i 2
   back2 w =
       let v = down⁻ step3 (get_or s i 0) (omega arith) (omega arith) in
       let p = plain (get_or s i 0) (λ x. omega arith) (λ x. omega arith) (λ x. omega arith) (λ x. omega arith) in
-      char {n = 2} (omega arith) w.fits (rw (take-2 w.fits) (utf8-2 {a = get_or s i 0} {b = get_or s (i + 1) 0} (omega arith) (omega arith)))
+      char {n = 2} (omega arith) w.fits (rw (take_2 w.fits) (utf8_2 {a = get_or s i 0} {b = get_or s (i + 1) 0} (omega arith) (omega arith)))
 
   pub back3 : Wide s i 3 → CharAt s i 3
-  back3 w = char {n = 3} (omega arith) w.fits (rw (take-3 w.fits) (go (get_or s i 0) (get_or s (i + 1) 0) (get_or s (i + 2) 0) refl refl refl
+  back3 w = char {n = 3} (omega arith) w.fits (rw (take_3 w.fits) (go (get_or s i 0) (get_or s (i + 1) 0) (get_or s (i + 2) 0) refl refl refl
       (ℕ_discrete (get_or s i 0) 0xE0) (ℕ_discrete (get_or s i 0) 0xED) (dec_lt (get_or s i 0) 0xED)))
     where
       u : 224 ≤ get_or s i 0
@@ -237,22 +237,22 @@ module _ (s : List ℕ) (i : ℕ) where
       go : (a b c : ℕ) → get_or s i 0 ≡ a → get_or s (i + 1) 0 ≡ b → get_or s (i + 2) 0 ≡ c → Dec (get_or s i 0 ≡ 0xE0) → Dec (get_or s i 0 ≡ 0xED)
           → Dec (get_or s i 0 < 0xED) → Char (a ∷ b ∷ c ∷ [])
       go a b c ea eb ec (yes e) q r =
-          let l : low_of (get_or s i 0) ≡ 0xA0 = ap low_of e ∙ low-e0 in
-          let g = high-else (get_or s i 0) (λ x. omega arith) (λ x. omega arith) in
-          rw (sym ea ∙ e) (utf8-3a {b = b} {c = c} (omega (arith, u, v, t)) (omega (arith, u, v, t)))
+          let l : low_of (get_or s i 0) ≡ 0xA0 = ap low_of e ∙ low_e0 in
+          let g = high_else (get_or s i 0) (λ x. omega arith) (λ x. omega arith) in
+          rw (sym ea ∙ e) (utf8_3a {b = b} {c = c} (omega (arith, u, v, t)) (omega (arith, u, v, t)))
       go a b c ea eb ec (no p) (yes e) r =
-          let g : high_of (get_or s i 0) ≡ 0x9F = ap high_of e ∙ high-ed in
-          let l = low-else (get_or s i 0) p (λ x. omega arith) in
-          rw (sym ea ∙ e) (utf8-3c {b = b} {c = c} (omega (arith, u, v, t)) (omega (arith, u, v, t)))
+          let g : high_of (get_or s i 0) ≡ 0x9F = ap high_of e ∙ high_ed in
+          let l = low_else (get_or s i 0) p (λ x. omega arith) in
+          rw (sym ea ∙ e) (utf8_3c {b = b} {c = c} (omega (arith, u, v, t)) (omega (arith, u, v, t)))
       go a b c ea eb ec (no p) (no q) (yes r) =
           let l = plain (get_or s i 0) p (λ x. omega arith) q (λ x. omega arith) in
-          utf8-3b {a = a} {b = b} {c = c} (omega (arith, u, v, t)) (omega (arith, u, v, t)) (omega (arith, u, v, t))
+          utf8_3b {a = a} {b = b} {c = c} (omega (arith, u, v, t)) (omega (arith, u, v, t)) (omega (arith, u, v, t))
       go a b c ea eb ec (no p) (no q) (no r) =
           let l = plain (get_or s i 0) p (λ x. omega (arith, v)) q (λ x. omega (arith, v)) in
-          utf8-3d {a = a} {b = b} {c = c} (omega (arith, u, v, t)) (omega (arith, u, v, t)) (omega (arith, u, v, t))
+          utf8_3d {a = a} {b = b} {c = c} (omega (arith, u, v, t)) (omega (arith, u, v, t)) (omega (arith, u, v, t))
 
   pub back4 : Wide s i 4 → CharAt s i 4
-  back4 w = char {n = 4} (omega arith) w.fits (rw (take-4 w.fits) (go (get_or s i 0) (get_or s (i + 1) 0) (get_or s (i + 2) 0) (get_or s (i + 3) 0) refl refl refl
+  back4 w = char {n = 4} (omega arith) w.fits (rw (take_4 w.fits) (go (get_or s i 0) (get_or s (i + 1) 0) (get_or s (i + 2) 0) (get_or s (i + 3) 0) refl refl refl
       refl (ℕ_discrete (get_or s i 0) 0xF0) (ℕ_discrete (get_or s i 0) 0xF4)))
     where
       u : 240 ≤ get_or s i 0
@@ -267,13 +267,13 @@ module _ (s : List ℕ) (i : ℕ) where
       go : (a b c d : ℕ) → get_or s i 0 ≡ a → get_or s (i + 1) 0 ≡ b → get_or s (i + 2) 0 ≡ c → get_or s (i + 3) 0 ≡ d → Dec (get_or s i 0 ≡ 0xF0)
           → Dec (get_or s i 0 ≡ 0xF4) → Char (a ∷ b ∷ c ∷ d ∷ [])
       go a b c d ea eb ec ed (yes e) q =
-          let l : low_of (get_or s i 0) ≡ 0x90 = ap low_of e ∙ low-f0 in
-          let g = high-else (get_or s i 0) (λ x. omega arith) (λ x. omega arith) in
-          rw (sym ea ∙ e) (utf8-4a {b = b} {c = c} {d = d} (omega (arith, u, t, f)) (omega (arith, u, t, f)) (omega (arith, u, t, f)))
+          let l : low_of (get_or s i 0) ≡ 0x90 = ap low_of e ∙ low_f0 in
+          let g = high_else (get_or s i 0) (λ x. omega arith) (λ x. omega arith) in
+          rw (sym ea ∙ e) (utf8_4a {b = b} {c = c} {d = d} (omega (arith, u, t, f)) (omega (arith, u, t, f)) (omega (arith, u, t, f)))
       go a b c d ea eb ec ed (no p) (yes e) =
-          let g : high_of (get_or s i 0) ≡ 0x8F = ap high_of e ∙ high-f4 in
-          let l = low-else (get_or s i 0) (λ x. omega arith) p in
-          rw (sym ea ∙ e) (utf8-4c {b = b} {c = c} {d = d} (omega (arith, u, t, f)) (omega (arith, u, t, f)) (omega (arith, u, t, f)))
+          let g : high_of (get_or s i 0) ≡ 0x8F = ap high_of e ∙ high_f4 in
+          let l = low_else (get_or s i 0) (λ x. omega arith) p in
+          rw (sym ea ∙ e) (utf8_4c {b = b} {c = c} {d = d} (omega (arith, u, t, f)) (omega (arith, u, t, f)) (omega (arith, u, t, f)))
       go a b c d ea eb ec ed (no p) (no q) =
           let l = plain (get_or s i 0) (λ x. omega (arith, u)) p (λ x. omega (arith, u)) q in
-          utf8-4b {a = a} {b = b} {c = c} {d = d} (omega (arith, u, t, f)) (omega (arith, u, t, f)) (omega (arith, u, t, f)) (omega (arith, u, t, f))
+          utf8_4b {a = a} {b = b} {c = c} {d = d} (omega (arith, u, t, f)) (omega (arith, u, t, f)) (omega (arith, u, t, f)) (omega (arith, u, t, f))

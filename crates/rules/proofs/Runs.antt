@@ -9,27 +9,27 @@ use native.Mathlib.Numerals.{add-one}
 use native.Mathlib.Omega.{arith}
 use lib.ListN.{length, get_or, take, drop, take-append-drop, length-drop}
 use lib.Seq.{take-suc, take-add, take-length, length-take-le}
-use Rattle.rules.specs.Rfc3629.{In, Char, utf8-1, NoChar, Octets, none, more, Fault, Judged, done, ill}
+use Rattle.rules.specs.Rfc3629.{In, Char, utf8_1, NoChar, Octets, none, more, Fault, Judged, done, ill}
 use Rattle.rules.specs.declared.Utf8Answer.TheVariants.{Done, IllFormed}
 use Rattle.rules.specs.Between.Posts.{AtMost, Ascii, Passed, CharAt, char, gap}
 use Rattle.rules.proofs.Characters.{join, one}
 
-pub at-most-none : (s : List ℕ) (at r : ℕ) → AtMost s at 0 r
-at-most-none s at r = record { each = λ k h. absurd (omega arith) }
+pub at_most_none : (s : List ℕ) (at r : ℕ) → AtMost s at 0 r
+at_most_none s at r = record { each = λ k h. absurd (omega arith) }
 
 -- one byte more, under a bound that is no less
-pub at-most-more : (s : List ℕ) (at n r q : ℕ) → AtMost s at n r → r ≤ q → get_or s (at + n) 0 ≤ q → AtMost s at (n + 1) q
-at-most-more s at n r q m l h = record { each = λ k b. go k b (ℕ_discrete k n) }
+pub at_most_more : (s : List ℕ) (at n r q : ℕ) → AtMost s at n r → r ≤ q → get_or s (at + n) 0 ≤ q → AtMost s at (n + 1) q
+at_most_more s at n r q m l h = record { each = λ k b. go k b (ℕ_discrete k n) }
   where
     go : (k : ℕ) → k < n + 1 → Dec (k ≡ n) → get_or s (at + k) 0 ≤ q
     go k b (yes e) = rw e h
     go k b (no e) = omega (arith, m.each k (omega arith))
 
-pub at-most-all : (s : List ℕ) (at n r : ℕ) → n ≤ 32 → 32 ≤ n → AtMost s at n r → AtMost s at 32 r
-at-most-all s at n r l h m = subst (λ (k : ℕ). AtMost s at k r) (le_antisymm l h) m
+pub at_most_all : (s : List ℕ) (at n r : ℕ) → n ≤ 32 → 32 ≤ n → AtMost s at n r → AtMost s at 32 r
+at_most_all s at n r l h m = subst (λ (k : ℕ). AtMost s at k r) (le_antisymm l h) m
 
-pub ascii-none : (s : List ℕ) (from : ℕ) → from ≤ length s → Ascii s from from
-ascii-none s from h = record { behind = omega arith; within = h; each = λ k a b. absurd (omega arith) }
+pub ascii_none : (s : List ℕ) (from : ℕ) → from ≤ length s → Ascii s from from
+ascii_none s from h = record { behind = omega arith; within = h; each = λ k a b. absurd (omega arith) }
 
 pub ascii_more : (s : List ℕ) (from to : ℕ) → Ascii s from to → to < length s → get_or s to 0 < 0x80 → Ascii s from (to + 1)
 ascii_more s from to a h b =
@@ -40,16 +40,16 @@ ascii_more s from to a h b =
     go k l m (no e) = a.each k l (omega arith)
 
 -- a run after a run
-pub ascii-join : (s : List ℕ) (from mid to : ℕ) → Ascii s from mid → Ascii s mid to → Ascii s from to
-ascii-join s from mid to a b = record { behind = omega arith; within = b.within; each = λ k l m. go k l m (dec_lt k mid) }
+pub ascii_join : (s : List ℕ) (from mid to : ℕ) → Ascii s from mid → Ascii s mid to → Ascii s from to
+ascii_join s from mid to a b = record { behind = omega arith; within = b.within; each = λ k l m. go k l m (dec_lt k mid) }
   where
     go : (k : ℕ) → from ≤ k → k < to → Dec (k < mid) → get_or s k 0 < 0x80
     go k l m (yes h) = a.each k l h
     go k l m (no h) = b.each k (omega arith) m
 
 -- a block whose greatest byte is ASCII
-pub ascii-block : (s : List ℕ) (at r : ℕ) → at + 32 ≤ length s → AtMost s at 32 r → r < 0x80 → Ascii s at (at + 32)
-ascii-block s at r h m b =
+pub ascii_block : (s : List ℕ) (at r : ℕ) → at + 32 ≤ length s → AtMost s at 32 r → r < 0x80 → Ascii s at (at + 32)
+ascii_block s at r h m b =
     record {
       behind = omega arith;
       within = h;
@@ -59,37 +59,37 @@ ascii-block s at r h m b =
 -- ---- from runs and characters to UTF-8
 
 -- UTF-8 up to a place, and n bytes of ASCII from there
-octets-bytes : (s : List ℕ) (n from : ℕ) → Octets (take from s) → ((k : ℕ) → from ≤ k → k < from + n → get_or s k 0 < 0x80) → from + n ≤ length s
+octets_bytes : (s : List ℕ) (n from : ℕ) → Octets (take from s) → ((k : ℕ) → from ≤ k → k < from + n → get_or s k 0 < 0x80) → from + n ≤ length s
     → Octets (take (from + n) s)
-octets-bytes s zero from o each h = let e : from + 0 ≡ from = omega arith in rw e o
-octets-bytes s (suc n) from o each h =
+octets_bytes s zero from o each h = let e : from + 0 ≡ from = omega arith in rw e o
+octets_bytes s (suc n) from o each h =
     let e : from + suc n ≡ suc from + n = omega arith in
     let b : get_or s from 0 < 0x80 = each from (omega arith) (omega arith) in
-    let x : Octets (take (suc from) s) = rw (take-suc s from 0 (omega arith)) (join o (one (utf8-1 {a = get_or s from 0} (omega arith)))) in
-    rw e (octets-bytes s n (suc from) x (λ k l m. each k (omega arith) (omega arith)) (omega arith))
+    let x : Octets (take (suc from) s) = rw (take-suc s from 0 (omega arith)) (join o (one (utf8_1 {a = get_or s from 0} (omega arith)))) in
+    rw e (octets_bytes s n (suc from) x (λ k l m. each k (omega arith) (omega arith)) (omega arith))
 
-octets-run : (s : List ℕ) (from to : ℕ) → Octets (take from s) → Ascii s from to → Octets (take to s)
-octets-run s from to o a =
+octets_run : (s : List ℕ) (from to : ℕ) → Octets (take from s) → Ascii s from to → Octets (take to s)
+octets_run s from to o a =
     let e : from + (to - from) ≡ to = omega arith in
-    rw e at (octets-bytes s (to - from) from o (λ k l m. a.each k l (omega arith)) (omega arith))
+    rw e at (octets_bytes s (to - from) from o (λ k l m. a.each k l (omega arith)) (omega arith))
 
 pub passed_none : (s : List ℕ) → Passed s 0
 passed_none s = record { within = omega arith; good = none }
 
 -- ASCII after what has been passed
-pub passed-ascii : (s : List ℕ) (i to : ℕ) → Passed s i → Ascii s i to → Passed s to
-passed-ascii s i to p a = record { within = a.within; good = octets-run s i to p.good a }
+pub passed_ascii : (s : List ℕ) (i to : ℕ) → Passed s i → Ascii s i to → Passed s to
+passed_ascii s i to p a = record { within = a.within; good = octets_run s i to p.good a }
 
-pub passed-run : (s : List ℕ) (i to : ℕ) → Passed s i → i < length s → get_or s i 0 < 0x80 → Ascii s (i + 1) to → Passed s to
-passed-run s i to p h b a = passed-ascii s i to p (ascii-join s i (i + 1) to (ascii_more s i i (ascii-none s i p.within) h b) a)
+pub passed_run : (s : List ℕ) (i to : ℕ) → Passed s i → i < length s → get_or s i 0 < 0x80 → Ascii s (i + 1) to → Passed s to
+passed_run s i to p h b a = passed_ascii s i to p (ascii_join s i (i + 1) to (ascii_more s i i (ascii_none s i p.within) h b) a)
 
-pub char-room : {s : List ℕ} {i n : ℕ} → CharAt s i n → (n ≡ 0 → ⊥) → (0 < n) × (i + n ≤ length s)
-char-room (char p f x) h = (p, f)
-char-room (gap g) h = absurd (h refl)
+pub char_room : {s : List ℕ} {i n : ℕ} → CharAt s i n → (n ≡ 0 → ⊥) → (0 < n) × (i + n ≤ length s)
+char_room (char p f x) h = (p, f)
+char_room (gap g) h = absurd (h refl)
 
-pub passed-char : (s : List ℕ) (i n : ℕ) → Passed s i → CharAt s i n → (n ≡ 0 → ⊥) → Passed s (i + n)
-passed-char s i n p (char q f x) h = record { within = f; good = rw (take-add i n s) (join p.good (one x)) }
-passed-char s i n p (gap g) h = absurd (h refl)
+pub passed_char : (s : List ℕ) (i n : ℕ) → Passed s i → CharAt s i n → (n ≡ 0 → ⊥) → Passed s (i + n)
+passed_char s i n p (char q f x) h = record { within = f; good = rw (take-add i n s) (join p.good (one x)) }
+passed_char s i n p (gap g) h = absurd (h refl)
 
 fault : (s : List ℕ) (i : ℕ) → Passed s i → i < length s → NoChar (drop i s) → Fault s i
 fault s i p h g =
@@ -103,9 +103,9 @@ fault s i p h g =
       bad = g;
     }
 
-pub fault-at : (s : List ℕ) (i n : ℕ) → Passed s i → i < length s → CharAt s i n → n ≡ 0 → Judged s (IllFormed i)
-fault-at s i n p h (char q f x) e = absurd (omega arith)
-fault-at s i n p h (gap g) e = ill (fault s i p h g) refl
+pub fault_at_lem : (s : List ℕ) (i n : ℕ) → Passed s i → i < length s → CharAt s i n → n ≡ 0 → Judged s (IllFormed i)
+fault_at_lem s i n p h (char q f x) e = absurd (omega arith)
+fault_at_lem s i n p h (gap g) e = ill (fault s i p h g) refl
 
-pub all-passed : (s : List ℕ) (i : ℕ) → Passed s i → length s ≤ i → Judged s Done
-all-passed s i p h = done (subst Octets (ap (λ (k : ℕ). take k s) (le_antisymm p.within h) ∙ take-length s) p.good) refl
+pub all_passed : (s : List ℕ) (i : ℕ) → Passed s i → length s ≤ i → Judged s Done
+all_passed s i p h = done (subst Octets (ap (λ (k : ℕ). take k s) (le_antisymm p.within h) ∙ take-length s) p.good) refl

@@ -10,20 +10,20 @@ pub data Said (X : Type 0) : Type 0 where
   refused : ℕ → ℕ → Said X
 
 -- 2: not UTF-8, at the first byte of the first ill-formed sequence
-abbrev pub utf8Said : Utf8Answer.Utf8Answer → Said (Unit {0})
-utf8Said Utf8Answer.TheVariants.Done = done tt
-utf8Said (Utf8Answer.TheVariants.IllFormed k) = refused 2 k
+abbrev pub utf8_said : Utf8Answer.Utf8Answer → Said (Unit {0})
+utf8_said Utf8Answer.TheVariants.Done = done tt
+utf8_said (Utf8Answer.TheVariants.IllFormed k) = refused 2 k
 
 -- 5: no date, at 0
-abbrev pub dateSaid : DateAnswer.DateAnswer → Said (Unit {0})
-dateSaid DateAnswer.TheVariants.Done = done tt
-dateSaid DateAnswer.TheVariants.NoDate = refused 5 0
+abbrev pub date_said : DateAnswer.DateAnswer → Said (Unit {0})
+date_said DateAnswer.TheVariants.Done = done tt
+date_said DateAnswer.TheVariants.NoDate = refused 5 0
 
 -- the number of a refusal, 0 where there is none, and its place: what the calls for C hand over
-abbrev pub numberSaid : {X : Type 0} → Said X → ℕ
-numberSaid (done v) = 0
-numberSaid (refused number place) = number
+abbrev pub number_said : {X : Type 0} → Said X → ℕ
+number_said (done v) = 0
+number_said (refused number place) = number
 
-abbrev pub placeSaid : {X : Type 0} → Said X → ℕ
-placeSaid (done v) = 0
-placeSaid (refused number place) = place
+abbrev pub place_said : {X : Type 0} → Said X → ℕ
+place_said (done v) = 0
+place_said (refused number place) = place

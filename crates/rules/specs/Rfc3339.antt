@@ -3,18 +3,18 @@
 use Rattle.std.specs.Prelude.{◌≡◌, ℕ, ◌%◌, ◌≤◌}
 use Rattle.rules.specs.declared.DateAnswer.{DateAnswer}
 use Rattle.rules.specs.Paper as paper
-use Rattle.rules.specs.Paper.{dateSaid, refused}
+use Rattle.rules.specs.Paper.{date_said, refused}
 
 -- appendix C: year % 4 == 0 && (year % 100 != 0 || year % 400 == 0)
 pub data Leap (y : ℕ) : Type 0 where
   fourth : y % 4 ≡ 0 → (y % 100 ≡ 0 → ⊥) → Leap y
-  fourth-hundred : y % 4 ≡ 0 → y % 400 ≡ 0 → Leap y
+  fourth_hundred : y % 4 ≡ 0 → y % 400 ≡ 0 → Leap y
 
 -- section 5.7: Days y m n, the month m of the year y has n days; a number that is no month has no row
 pub data Days (y : ℕ) : ℕ → ℕ → Type 0 where
   january : Days y 1 31
-  february-normal : (Leap y → ⊥) → Days y 2 28
-  february-leap : Leap y → Days y 2 29
+  february_normal : (Leap y → ⊥) → Days y 2 28
+  february_leap : Leap y → Days y 2 29
   march : Days y 3 31
   april : Days y 4 30
   may : Days y 5 31
@@ -36,5 +36,5 @@ pub record Date (y m d : ℕ) : Type 0 where
 
 -- what `date` may answer
 pub data Dated (y m d : ℕ) (a : DateAnswer) : Type 0 where
-  done : Date y m d → dateSaid a ≡ paper.done tt → Dated y m d a
-  none : (Date y m d → ⊥) → dateSaid a ≡ refused 5 0 → Dated y m d a
+  done : Date y m d → date_said a ≡ paper.done tt → Dated y m d a
+  none : (Date y m d → ⊥) → date_said a ≡ refused 5 0 → Dated y m d a

@@ -3,7 +3,7 @@
 use Rattle.std.specs.Prelude.{◌≡◌, ◌⊎◌, cond, List, [], ◌∷◌, ◌++◌, ℕ, ◌+◌, ◌*◌, ◌/◌, ◌%◌, ◌≤◌, ◌<◌, leb, length}
 use Rattle.rules.specs.declared.Utf8Answer.{Utf8Answer}
 use Rattle.rules.specs.Paper as paper
-use Rattle.rules.specs.Paper.{utf8Said, refused}
+use Rattle.rules.specs.Paper.{utf8_said, refused}
 
 -- the byte b lies in %x lo-hi
 pub record In (lo hi b : ℕ) : Type 0 where
@@ -16,15 +16,15 @@ Tail b = In 0x80 0xBF b
 
 -- UTF8-char = UTF8-1 / UTF8-2 / UTF8-3 / UTF8-4: these bytes are one character
 pub data Char : List ℕ → Type 0 where
-  utf8-1 : {a : ℕ} → In 0x00 0x7F a → Char (a ∷ [])
-  utf8-2 : {a b : ℕ} → In 0xC2 0xDF a → Tail b → Char (a ∷ b ∷ [])
-  utf8-3a : {b c : ℕ} → In 0xA0 0xBF b → Tail c → Char (0xE0 ∷ b ∷ c ∷ [])
-  utf8-3b : {a b c : ℕ} → In 0xE1 0xEC a → Tail b → Tail c → Char (a ∷ b ∷ c ∷ [])
-  utf8-3c : {b c : ℕ} → In 0x80 0x9F b → Tail c → Char (0xED ∷ b ∷ c ∷ [])
-  utf8-3d : {a b c : ℕ} → In 0xEE 0xEF a → Tail b → Tail c → Char (a ∷ b ∷ c ∷ [])
-  utf8-4a : {b c d : ℕ} → In 0x90 0xBF b → Tail c → Tail d → Char (0xF0 ∷ b ∷ c ∷ d ∷ [])
-  utf8-4b : {a b c d : ℕ} → In 0xF1 0xF3 a → Tail b → Tail c → Tail d → Char (a ∷ b ∷ c ∷ d ∷ [])
-  utf8-4c : {b c d : ℕ} → In 0x80 0x8F b → Tail c → Tail d → Char (0xF4 ∷ b ∷ c ∷ d ∷ [])
+  utf8_1 : {a : ℕ} → In 0x00 0x7F a → Char (a ∷ [])
+  utf8_2 : {a b : ℕ} → In 0xC2 0xDF a → Tail b → Char (a ∷ b ∷ [])
+  utf8_3a : {b c : ℕ} → In 0xA0 0xBF b → Tail c → Char (0xE0 ∷ b ∷ c ∷ [])
+  utf8_3b : {a b c : ℕ} → In 0xE1 0xEC a → Tail b → Tail c → Char (a ∷ b ∷ c ∷ [])
+  utf8_3c : {b c : ℕ} → In 0x80 0x9F b → Tail c → Char (0xED ∷ b ∷ c ∷ [])
+  utf8_3d : {a b c : ℕ} → In 0xEE 0xEF a → Tail b → Tail c → Char (a ∷ b ∷ c ∷ [])
+  utf8_4a : {b c d : ℕ} → In 0x90 0xBF b → Tail c → Tail d → Char (0xF0 ∷ b ∷ c ∷ d ∷ [])
+  utf8_4b : {a b c d : ℕ} → In 0xF1 0xF3 a → Tail b → Tail c → Tail d → Char (a ∷ b ∷ c ∷ d ∷ [])
+  utf8_4c : {b c d : ℕ} → In 0x80 0x8F b → Tail c → Tail d → Char (0xF4 ∷ b ∷ c ∷ d ∷ [])
 
 -- UTF8-octets = *( UTF8-char ): these bytes are UTF-8
 pub data Octets : List ℕ → Type 0 where
@@ -48,8 +48,8 @@ pub record Fault (s : List ℕ) (k : ℕ) : Type 0 where
 
 -- what `utf8` may answer
 pub data Judged (s : List ℕ) (a : Utf8Answer) : Type 0 where
-  done : Octets s → utf8Said a ≡ paper.done tt → Judged s a
-  ill : {k : ℕ} → Fault s k → utf8Said a ≡ refused 2 k → Judged s a
+  done : Octets s → utf8_said a ≡ paper.done tt → Judged s a
+  ill : {k : ℕ} → Fault s k → utf8_said a ≡ refused 2 k → Judged s a
 
 -- a character number: at most 10FFFF, and no surrogate (section 3)
 pub record Scalar (n : ℕ) : Type 0 where

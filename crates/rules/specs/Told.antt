@@ -3,18 +3,18 @@
 use Rattle.std.specs.Prelude.{◌≡◌, List, ℕ}
 use Rattle.rules.specs.Rfc3629.{Judged}
 use Rattle.rules.specs.Rfc3339.{Dated}
-use Rattle.rules.specs.Paper.{utf8Said, dateSaid, numberSaid, placeSaid}
+use Rattle.rules.specs.Paper.{utf8_said, date_said, number_said, place_said}
 use Rattle.rules.specs.declared.Utf8Answer.{Utf8Answer}
 use Rattle.rules.specs.declared.DateAnswer.{DateAnswer}
 
 pub record Utf8Told (s : List ℕ) (refused place : ℕ) : Type 0 where
   pub answer : Utf8Answer
   pub judged : Judged s answer
-  pub number_is : refused ≡ numberSaid (utf8Said answer)
-  pub place_is : place ≡ placeSaid (utf8Said answer)
+  pub number_is : refused ≡ number_said (utf8_said answer)
+  pub place_is : place ≡ place_said (utf8_said answer)
 
 pub record DateTold (year month day refused place : ℕ) : Type 0 where
   pub answer : DateAnswer
   pub dated : Dated year month day answer
-  pub number_is : refused ≡ numberSaid (dateSaid answer)
-  pub place_is : place ≡ placeSaid (dateSaid answer)
+  pub number_is : refused ≡ number_said (date_said answer)
+  pub place_is : place ≡ place_said (date_said answer)

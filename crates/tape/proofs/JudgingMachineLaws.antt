@@ -8,9 +8,9 @@ use lib.Dec.{eqb, ltb}
 use lib.ListN.{length, take, drop}
 use borrow.Author.Tests.{eq-eqb, ne_eqb, eqb-true}
 use Rattle.meaning.specs.declared.Record.{Record}
-use Rattle.meaning.specs.Limits.{depthLimit}
+use Rattle.meaning.specs.Limits.{depth_limit}
 use Rattle.meaning.specs.Meaning.{Meaning, Meanings, Members, null, bool, number, string, binary, time, array, object, none, more, bare, member}
-use Rattle.meaning.specs.Tape.{elementsCount, membersCount}
+use Rattle.meaning.specs.Tape.{elements_count, members_count}
 
 -- what a container's record states
 pub record Stated : Type 0 where
@@ -21,7 +21,7 @@ pub record Stated : Type 0 where
 pub data Frame : Type 0 where
   root : Frame
   in_array : Stated → Meanings → Frame
-  inObject : Stated → Members → List ℕ → Frame
+  in_object : Stated → Members → List ℕ → Frame
 
 -- nothing yet, the whole, or the innermost container: with what it states, before a key, or after one; or no meaning any more
 pub data Conf : Type 0 where
@@ -37,7 +37,7 @@ pub data Verdict : Type 0 where
   nay : Verdict
 
 pub data Kind : Type 0 where
-  ofValues : Kind
+  of_values : Kind
   of_members : Kind
 
 -- what a record is to the machine
@@ -52,14 +52,14 @@ slot nothing = root ∷ []
 slot (whole m) = []
 slot (elements e ms fs) = in_array e ms ∷ fs
 slot (members e ms fs) = []
-slot (keyed e ms k fs) = inObject e ms k ∷ fs
+slot (keyed e ms k fs) = in_object e ms k ∷ fs
 slot broken = []
 
 unfoldable pub put : Meaning → List Frame → Conf
 put m [] = broken
 put m (root ∷ fs) = whole m
 put m (in_array e ms ∷ fs) = elements e (more ms m) fs
-put m (inObject e ms k ∷ fs) = members e (member ms k m) fs
+put m (in_object e ms k ∷ fs) = members e (member ms k m) fs
 
 unfoldable pub key : List ℕ → Conf → Conf
 key k nothing = broken
@@ -71,12 +71,12 @@ key k broken = broken
 
 -- an empty container
 abbrev pub begin : Kind → Stated → List Frame → Conf
-begin ofValues e fs = elements e none fs
+begin of_values e fs = elements e none fs
 begin of_members e fs = members e bare fs
 
 unfoldable pub enter : Kind → Stated → List Frame → Conf
 enter k e [] = broken
-enter k e (f ∷ fs) = cond (ltb (length fs) depthLimit) (begin k e (f ∷ fs)) broken
+enter k e (f ∷ fs) = cond (ltb (length fs) depth_limit) (begin k e (f ∷ fs)) broken
 
 -- a container with so many elements or members at record i: it is done if it ends there and has counted them, and open if not
 abbrev pub shuts : ℕ → Stated → ℕ → Conf → Conf → Conf
@@ -86,27 +86,27 @@ shuts i e n d o = cond (eqb e.end i) (cond (eqb e.count n) d broken) o
 unfoldable pub give : ℕ → Meaning → List Frame → Conf
 give i m [] = broken
 give i m (root ∷ fs) = whole m
-give i m (in_array e ms ∷ fs) = shuts i e (elementsCount ms + 1) (give i (array (more ms m)) fs) (elements e (more ms m) fs)
-give i m (inObject e ms k ∷ fs) = shuts i e (membersCount ms + 1) (give i (object (member ms k m)) fs) (members e (member ms k m) fs)
+give i m (in_array e ms ∷ fs) = shuts i e (elements_count ms + 1) (give i (array (more ms m)) fs) (elements e (more ms m) fs)
+give i m (in_object e ms k ∷ fs) = shuts i e (members_count ms + 1) (give i (object (member ms k m)) fs) (members e (member ms k m) fs)
 
 unfoldable pub settle : ℕ → Conf → Conf
 settle i nothing = nothing
 settle i (whole m) = whole m
-settle i (elements e ms fs) = shuts i e (elementsCount ms) (give i (array ms) fs) (elements e ms fs)
-settle i (members e ms fs) = shuts i e (membersCount ms) (give i (object ms) fs) (members e ms fs)
+settle i (elements e ms fs) = shuts i e (elements_count ms) (give i (array ms) fs) (elements e ms fs)
+settle i (members e ms fs) = shuts i e (members_count ms) (give i (object ms) fs) (members e ms fs)
 settle i (keyed e ms k fs) = cond (eqb e.end i) broken (keyed e ms k fs)
 settle i broken = broken
 
-pub shut-here : (i : ℕ) (e : Stated) (n : ℕ) (d o : Conf) → e.end ≡ i → e.count ≡ n → shuts i e n d o ≡ d
-shut-here i e n d o p q =
+pub shut_here : (i : ℕ) (e : Stated) (n : ℕ) (d o : Conf) → e.end ≡ i → e.count ≡ n → shuts i e n d o ≡ d
+shut_here i e n d o p q =
     ap (λ (b : Bool). cond b (cond (eqb e.count n) d broken) o) (eq-eqb e.end i p)
     ∙ ap (λ (b : Bool). cond b d broken) (eq-eqb e.count n q)
 
-pub shut-not : (i : ℕ) (e : Stated) (n : ℕ) (d o : Conf) → (e.end ≡ i → ⊥) → shuts i e n d o ≡ o
-shut-not i e n d o p = ap (λ (b : Bool). cond b (cond (eqb e.count n) d broken) o) (ne_eqb e.end i p)
+pub shut_not : (i : ℕ) (e : Stated) (n : ℕ) (d o : Conf) → (e.end ≡ i → ⊥) → shuts i e n d o ≡ o
+shut_not i e n d o p = ap (λ (b : Bool). cond b (cond (eqb e.count n) d broken) o) (ne_eqb e.end i p)
 
-pub shut-wrong : (i : ℕ) (e : Stated) (n : ℕ) (d o : Conf) → e.end ≡ i → (e.count ≡ n → ⊥) → shuts i e n d o ≡ broken
-shut-wrong i e n d o p q =
+pub shut_wrong : (i : ℕ) (e : Stated) (n : ℕ) (d o : Conf) → e.end ≡ i → (e.count ≡ n → ⊥) → shuts i e n d o ≡ broken
+shut_wrong i e n d o p q =
     ap (λ (b : Bool). cond b (cond (eqb e.count n) d broken) o) (eq-eqb e.end i p)
     ∙ ap (λ (b : Bool). cond b d broken) (ne_eqb e.count n q)
 
@@ -114,17 +114,17 @@ pub by_bool : (P : Conf → Type 0) (b : Bool) (x y : Conf) → (b ≡ true → 
 by_bool P true x y f g = f refl
 by_bool P false x y f g = g refl
 
-pub by-shut : (P : Conf → Type 0) (i : ℕ) (e : Stated) (n : ℕ) (d o : Conf) → (e.end ≡ i → e.count ≡ n → P d) → P broken → P o → P (shuts i e n d o)
-by-shut P i e n d o f b g =
+pub by_shut : (P : Conf → Type 0) (i : ℕ) (e : Stated) (n : ℕ) (d o : Conf) → (e.end ≡ i → e.count ≡ n → P d) → P broken → P o → P (shuts i e n d o)
+by_shut P i e n d o f b g =
     by_bool P (eqb e.end i) _ o
     (λ p. by_bool P (eqb e.count n) d broken (λ q. f (eqb-true e.end i p) (eqb-true e.count n q)) (λ q. b)) (λ p. g)
 
-pub give-put : (i : ℕ) (m : Meaning) (fs : List Frame) → give i m fs ≡ settle i (put m fs)
-unfolding give settle put elementsCount membersCount
-give-put i m [] = refl
-give-put i m (root ∷ fs) = refl
-give-put i m (in_array e ms ∷ fs) = refl
-give-put i m (inObject e ms k ∷ fs) = refl
+pub give_put : (i : ℕ) (m : Meaning) (fs : List Frame) → give i m fs ≡ settle i (put m fs)
+unfolding give settle put elements_count members_count
+give_put i m [] = refl
+give_put i m (root ∷ fs) = refl
+give_put i m (in_array e ms ∷ fs) = refl
+give_put i m (in_object e ms k ∷ fs) = refl
 
 -- how many bytes of the store a record has, and where they start (here, if it has none)
 unfoldable pub size_of : Record → ℕ
@@ -161,19 +161,19 @@ module _ (store : List ℕ) where
   abbrev pub part : ℕ → ℕ → List ℕ
   part at size = take size (drop at store)
 
-  unfoldable pub actOf : ℕ → Record → Act
-  actOf at Record.Null = leaf null
-  actOf at (Record.Bool b) = leaf (bool b)
-  actOf at (Record.Number n) = leaf (number n)
-  actOf at (Record.Str size start) = leaf (string (part at size))
-  actOf at (Record.Key size start) = name (part at size)
-  actOf at (Record.Bin size start) = leaf (binary (part at size))
-  actOf at (Record.Time t) = leaf (time t)
-  actOf at (Record.Array count end) = opens ofValues (record { count = count; end = end })
-  actOf at (Record.Object count end) = opens of_members (record { count = count; end = end })
+  unfoldable pub act_of : ℕ → Record → Act
+  act_of at Record.Null = leaf null
+  act_of at (Record.Bool b) = leaf (bool b)
+  act_of at (Record.Number n) = leaf (number n)
+  act_of at (Record.Str size start) = leaf (string (part at size))
+  act_of at (Record.Key size start) = name (part at size)
+  act_of at (Record.Bin size start) = leaf (binary (part at size))
+  act_of at (Record.Time t) = leaf (time t)
+  act_of at (Record.Array count end) = opens of_values (record { count = count; end = end })
+  act_of at (Record.Object count end) = opens of_members (record { count = count; end = end })
 
   unfoldable pub push : ℕ → Conf → Record → Conf
-  push at c r = there (start_of r at) at (does (actOf at r) c)
+  push at c r = there (start_of r at) at (does (act_of at r) c)
 
   unfoldable pub finish : ℕ → Conf → Verdict
   finish at nothing = nay
@@ -189,28 +189,28 @@ module _ (store : List ℕ) where
   run (r ∷ rs) i at c = run rs (i + 1) (at + size_of r) (push at (settle i c) r)
 
   -- only the settled state counts
-  pub run-settle : (l : List Record) (i at : ℕ) (c d : Conf) → settle i c ≡ settle i d → run l i at c ≡ run l i at d
+  pub run_settle : (l : List Record) (i at : ℕ) (c d : Conf) → settle i c ≡ settle i d → run l i at c ≡ run l i at d
   unfolding run
-  run-settle [] i at c d e = ap (finish at) e
-  run-settle (r ∷ rs) i at c d e = ap (λ (x : Conf). run rs (i + 1) (at + size_of r) (push at x r)) e
+  run_settle [] i at c d e = ap (finish at) e
+  run_settle (r ∷ rs) i at c d e = ap (λ (x : Conf). run rs (i + 1) (at + size_of r) (push at x r)) e
 
-  does-broken : (a : Act) → does a broken ≡ broken
+  does_broken : (a : Act) → does a broken ≡ broken
   unfolding does slot put key enter
-  does-broken (leaf m) = refl
-  does-broken (name k) = refl
-  does-broken (opens k e) = refl
+  does_broken (leaf m) = refl
+  does_broken (name k) = refl
+  does_broken (opens k e) = refl
 
-  there-broken : (start at : ℕ) → there start at broken ≡ broken
-  there-broken start at = go (eqb start at)
+  there_broken : (start at : ℕ) → there start at broken ≡ broken
+  there_broken start at = go (eqb start at)
     where
       go : (b : Bool) → cond b broken broken ≡ broken
       go true = refl
       go false = refl
 
-  pub run-broken : (l : List Record) (i at : ℕ) → run l i at broken ≡ nay
+  pub run_broken : (l : List Record) (i at : ℕ) → run l i at broken ≡ nay
   unfolding run settle finish push
-  run-broken [] i at = refl
-  run-broken (r ∷ rs) i at =
-      ap (λ (c : Conf). run rs (i + 1) (at + size_of r) (there (start_of r at) at c)) (does-broken (actOf at r))
-      ∙ ap (run rs (i + 1) (at + size_of r)) (there-broken (start_of r at) at)
-      ∙ run-broken rs (i + 1) (at + size_of r)
+  run_broken [] i at = refl
+  run_broken (r ∷ rs) i at =
+      ap (λ (c : Conf). run rs (i + 1) (at + size_of r) (there (start_of r at) at c)) (does_broken (act_of at r))
+      ∙ ap (run rs (i + 1) (at + size_of r)) (there_broken (start_of r at) at)
+      ∙ run_broken rs (i + 1) (at + size_of r)

@@ -8,26 +8,26 @@ use native.Mathlib.Omega.{arith}
 use lib.ListN.{length}
 use Rattle.meaning.specs.declared.Record.{Record}
 use Rattle.meaning.specs.Once.{once}
-use Rattle.meaning.specs.Look.{wholeRecords, RecordAt}
-use Rattle.meaning.specs.Tape.{recordsOf, WellFormed}
-use Rattle.meaning.specs.Between.Events.{Event, firstRepeat, erase, events}
+use Rattle.meaning.specs.Look.{whole_records, RecordAt}
+use Rattle.meaning.specs.Tape.{records_of, WellFormed}
+use Rattle.meaning.specs.Between.Events.{Event, first_repeat, erase, events}
 use Rattle.meaning.proofs.Whole.{injective}
-use Rattle.meaning.proofs.Look.{well-formed-record}
-use Rattle.meaning.proofs.Events.{none-once, some-twice}
+use Rattle.meaning.proofs.Look.{well_formed_record}
+use Rattle.meaning.proofs.Events.{none_once, some_twice}
 use Rattle.once.specs.Windows.{num}
 use Rattle.once.proofs.WindowsLaws.{first_past}
 use Rattle.tape.specs.declared.Judged.{Judged}
 use Rattle.tape.specs.Between.Judging.{Judges, well, ill, Formed, Forms, formed, unformed}
-use Rattle.tape.specs.Between.Key.{eventsIn, eventsBelow, first_of, Shallow, Standing}
-use Rattle.tape.specs.Between.Standing.{recordsFrom}
+use Rattle.tape.specs.Between.Key.{events_in, events_below, first_of, Shallow, Standing}
+use Rattle.tape.specs.Between.Standing.{records_from}
 use Rattle.tape.proofs.JudgingMachineLaws.{nay}
-use Rattle.tape.proofs.JudgingWholeLaws.{read_is, verdict, formed-length, formed-records, nay-unformed}
-use Rattle.tape.proofs.KeyEventsLaws.{events-are, records-shallow}
-use Rattle.tape.proofs.KeyWindowLaws.{spans-bound}
+use Rattle.tape.proofs.JudgingWholeLaws.{read_is, verdict, formed_length, formed_records, nay_unformed}
+use Rattle.tape.proofs.KeyEventsLaws.{events_are, records_shallow}
+use Rattle.tape.proofs.KeyWindowLaws.{spans_bound}
 
 module _ {tape store : List ℕ} where
-  unfoldable pub well-is-formed : WellFormed tape store → Formed tape store
-  well-is-formed w = record {
+  unfoldable pub well_is_formed : WellFormed tape store → Formed tape store
+  well_is_formed w = record {
     meaning = w.meaning;
     parts = w.good.parts;
     shallow = w.good.shallow;
@@ -35,11 +35,11 @@ module _ {tape store : List ℕ} where
     short = w.short;
     taped = w.taped;
     stored = w.stored;
-    each = well-formed-record tape store w;
+    each = well_formed_record tape store w;
   }
 
-  pub formed-well : (f : Formed tape store) → once f.meaning ≡ true → WellFormed tape store
-  formed-well f e = record {
+  pub formed_well : (f : Formed tape store) → once f.meaning ≡ true → WellFormed tape store
+  formed_well f e = record {
     meaning = f.meaning;
     good = record { parts = f.parts; shallow = f.shallow; single = e };
     few = f.few;
@@ -48,76 +48,76 @@ module _ {tape store : List ℕ} where
     stored = f.stored;
   }
 
-  pub one-formed-meaning : (f g : Formed tape store) → f.meaning ≡ g.meaning
-  one-formed-meaning f g =
+  pub one_formed_meaning : (f g : Formed tape store) → f.meaning ≡ g.meaning
+  one_formed_meaning f g =
       injective f.meaning g.meaning f.parts g.parts f.few g.few f.short (sym f.taped ∙ g.taped) (sym f.stored ∙ g.stored)
 
   -- ---- its records, and the first repeated key among them
 
   module _ (f : Formed tape store) where
-    whole_length : length tape ≡ wholeRecords tape * 16
-    whole_length = omega (arith, formed-length tape store f)
+    whole_length : length tape ≡ whole_records tape * 16
+    whole_length = omega (arith, formed_length tape store f)
 
-    records-are : recordsFrom (wholeRecords tape) tape 0 ≡ recordsOf f.meaning 0 0
-    records-are = formed-records tape store (wholeRecords tape) whole_length f
+    records_are : records_from (whole_records tape) tape 0 ≡ records_of f.meaning 0 0
+    records_are = formed_records tape store (whole_records tape) whole_length f
 
-    pub formed-standing : Standing tape store (wholeRecords tape)
-    formed-standing = record {
-      few = omega (arith, formed-length tape store f, f.few);
+    pub formed_standing : Standing tape store (whole_records tape)
+    formed_standing = record {
+      few = omega (arith, formed_length tape store f, f.few);
       each = λ k l.
-          let a = f.each k (omega (arith, formed-length tape store f)) in
+          let a = f.each k (omega (arith, formed_length tape store f)) in
           subst (RecordAt tape store k) (sym (read_is tape store k _ a)) a;
       shallow =
-          subst (λ (l : List Record). Shallow l 0 []) (sym records-are) (records-shallow store f.meaning f.shallow f.stored);
+          subst (λ (l : List Record). Shallow l 0 []) (sym records_are) (records_shallow store f.meaning f.shallow f.stored);
     }
 
-    erased-events : erase (eventsBelow tape store (wholeRecords tape)) ≡ events f.meaning
-    erased-events =
-        ap (λ (l : List Record). erase (eventsIn store l 0 [])) records-are ∙ events-are store f.meaning f.shallow f.stored
+    erased_events : erase (events_below tape store (whole_records tape)) ≡ events f.meaning
+    erased_events =
+        ap (λ (l : List Record). erase (events_in store l 0 [])) records_are ∙ events_are store f.meaning f.shallow f.stored
 
-    pub none-repeats : first_of tape store (wholeRecords tape) ≡ 0 → once f.meaning ≡ true
-    none-repeats e = go (firstRepeat [] es) refl e
+    pub none_repeats : first_of tape store (whole_records tape) ≡ 0 → once f.meaning ≡ true
+    none_repeats e = go (first_repeat [] es) refl e
       where
         es : List Event
-        es = eventsBelow tape store (wholeRecords tape)
+        es = events_below tape store (whole_records tape)
 
-        go : (o : Option ℕ) → firstRepeat [] es ≡ o → num o ≡ 0 → once f.meaning ≡ true
-        go none q z = none-once es f.meaning erased-events q
+        go : (o : Option ℕ) → first_repeat [] es ≡ o → num o ≡ 0 → once f.meaning ≡ true
+        go none q z = none_once es f.meaning erased_events q
         go (some p) q z =
-            absurd (omega (arith, z, first_past es [] 1 (wholeRecords tape + 1) p (spans-bound tape store (wholeRecords tape)) q))
+            absurd (omega (arith, z, first_past es [] 1 (whole_records tape + 1) p (spans_bound tape store (whole_records tape)) q))
 
-    pub some-repeats : (first_of tape store (wholeRecords tape) ≡ 0 → ⊥) → once f.meaning ≡ false
-    some-repeats n = go (firstRepeat [] es) refl n
+    pub some_repeats : (first_of tape store (whole_records tape) ≡ 0 → ⊥) → once f.meaning ≡ false
+    some_repeats n = go (first_repeat [] es) refl n
       where
         es : List Event
-        es = eventsBelow tape store (wholeRecords tape)
+        es = events_below tape store (whole_records tape)
 
-        go : (o : Option ℕ) → firstRepeat [] es ≡ o → (num o ≡ 0 → ⊥) → once f.meaning ≡ false
+        go : (o : Option ℕ) → first_repeat [] es ≡ o → (num o ≡ 0 → ⊥) → once f.meaning ≡ false
         go none q z = absurd (z refl)
-        go (some p) q z = some-twice es f.meaning p erased-events q
+        go (some p) q z = some_twice es f.meaning p erased_events q
 
   -- ---- what is answered
 
-  pub told-formed : {a : Judged} → Forms tape store a → a ≡ Judged.Well → Formed tape store
-  told-formed (formed f) e = f
-  told-formed (unformed n) e = let z : ◌≡◌ {A = ℕ} 0 1 = cc in absurd (omega arith)
+  pub told_formed : {a : Judged} → Forms tape store a → a ≡ Judged.Well → Formed tape store
+  told_formed (formed f) e = f
+  told_formed (unformed n) e = let z : ◌≡◌ {A = ℕ} 0 1 = cc in absurd (omega arith)
 
-  pub judged-unformed : {a : Judged} → Forms tape store a → a ≡ Judged.Ill → Judges tape store Judged.Ill
-  judged-unformed (formed f) e = let z : ◌≡◌ {A = ℕ} 0 1 = cc in absurd (omega arith)
-  judged-unformed (unformed n) e = ill (λ w. n (well-is-formed w))
+  pub judged_unformed : {a : Judged} → Forms tape store a → a ≡ Judged.Ill → Judges tape store Judged.Ill
+  judged_unformed (formed f) e = let z : ◌≡◌ {A = ℕ} 0 1 = cc in absurd (omega arith)
+  judged_unformed (unformed n) e = ill (λ w. n (well_is_formed w))
 
-  pub judged-once : Formed tape store → {r : ℕ} → r ≡ first_of tape store (wholeRecords tape) → r ≡ 0 → Judges tape store Judged.Well
-  judged-once f e z = well (formed-well f (none-repeats f (sym e ∙ z)))
+  pub judged_once : Formed tape store → {r : ℕ} → r ≡ first_of tape store (whole_records tape) → r ≡ 0 → Judges tape store Judged.Well
+  judged_once f e z = well (formed_well f (none_repeats f (sym e ∙ z)))
 
-  pub judged-twice : Formed tape store → {r : ℕ} → r ≡ first_of tape store (wholeRecords tape) → (r ≡ 0 → ⊥) → Judges tape store Judged.Ill
-  unfolding well-is-formed
-  judged-twice f e n =
+  pub judged_twice : Formed tape store → {r : ℕ} → r ≡ first_of tape store (whole_records tape) → (r ≡ 0 → ⊥) → Judges tape store Judged.Ill
+  unfolding well_is_formed
+  judged_twice f e n =
       ill
       (λ w.
-      let s : once f.meaning ≡ true = ap once (one-formed-meaning f (well-is-formed w)) ∙ w.good.single in
-      let t : once f.meaning ≡ false = some-repeats f (λ z. n (e ∙ z)) in
+      let s : once f.meaning ≡ true = ap once (one_formed_meaning f (well_is_formed w)) ∙ w.good.single in
+      let t : once f.meaning ≡ false = some_repeats f (λ z. n (e ∙ z)) in
       let z : ◌≡◌ {A = ℕ} 0 1 = cc in omega arith)
 
 -- where the machine says no, nothing is well formed
-pub nay-ill : (tape store : List ℕ) (n : ℕ) → length tape ≡ n * 16 → verdict n tape store ≡ nay → WellFormed tape store → ⊥
-nay-ill tape store n h e w = nay-unformed tape store n h e (well-is-formed w)
+pub nay_ill : (tape store : List ℕ) (n : ℕ) → length tape ≡ n * 16 → verdict n tape store ≡ nay → WellFormed tape store → ⊥
+nay_ill tape store n h e w = nay_unformed tape store n h e (well_is_formed w)

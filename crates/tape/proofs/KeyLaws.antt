@@ -13,16 +13,16 @@ use borrow.Author.Tests.{eq-eqb, ne_eqb}
 use Rattle.meaning.specs.declared.Record.{Record}
 use Rattle.meaning.specs.Once.{same}
 use Rattle.meaning.specs.Between.Words.{mid_of, high_of}
-use Rattle.once.specs.Hash.{seed, mix, finish, mixes, hashOf}
-use Rattle.once.proofs.HashLaws.{mixes-none, mixes-more, hash-done}
+use Rattle.once.specs.Hash.{seed, mix, finish, mixes, hash_of}
+use Rattle.once.proofs.HashLaws.{mixes_none, mixes_more, hash_done}
 use Rattle.once.specs.Groups.{Newest, Stands, Earlier, Names}
-use Rattle.once.proofs.KeepingLaws.{before_on, names-on}
-use Rattle.once.proofs.KeepingSeekLaws.{same_self, apart, Sought, seek-begins, seek-stands, seek-key, seek_finds, seek-falls, seek-past-tag, seek-past}
-use Rattle.once.proofs.KeepingSeekLaws.{seek-ends}
+use Rattle.once.proofs.KeepingLaws.{before_on, names_on}
+use Rattle.once.proofs.KeepingSeekLaws.{same_self, apart, Sought, seek_begins, seek_stands, seek_key, seek_finds, seek_falls, seek_past_tag, seek_past}
+use Rattle.once.proofs.KeepingSeekLaws.{seek_ends}
 use Rattle.tape.specs.declared.Words.{Words}
-use Rattle.tape.specs.Between.Shapes.{wordsAt}
-use Rattle.tape.specs.Between.Key.{arrayTo, objectTo, KeyIs, SlotHolds, SlotIs, other_tag, told, Seeks, Repeats, Coming, Notes, Innermost}
-use Rattle.tape.proofs.LookingLaws.{record-numbers}
+use Rattle.tape.specs.Between.Shapes.{words_at}
+use Rattle.tape.specs.Between.Key.{array_to, object_to, KeyIs, SlotHolds, SlotIs, other_tag, told, Seeks, Repeats, Coming, Notes, Innermost}
+use Rattle.tape.proofs.LookingLaws.{record_numbers}
 
 -- ---- equal bytes
 
@@ -31,11 +31,11 @@ pub record Alike (a b : List ℕ) (i : ℕ) : Type 0 where
   pub long : length a ≡ length b
   pub so : (j : ℕ) → j < i → get_or a j 0 ≡ get_or b j 0
 
-pub alike-none : {a b : List ℕ} → length a ≡ length b → Alike a b 0
-alike-none e = record { long = e; so = λ j l. absurd (omega arith) }
+pub alike_none : {a b : List ℕ} → length a ≡ length b → Alike a b 0
+alike_none e = record { long = e; so = λ j l. absurd (omega arith) }
 
-pub alike-more : {a b : List ℕ} {i : ℕ} → Alike a b i → get_or a i 0 ≡ get_or b i 0 → Alike a b (i + 1)
-alike-more {a} {b} {i} h e = record { long = h.long; so = λ j l. go j l (dec_lt j i) }
+pub alike_more : {a b : List ℕ} {i : ℕ} → Alike a b i → get_or a i 0 ≡ get_or b i 0 → Alike a b (i + 1)
+alike_more {a} {b} {i} h e = record { long = h.long; so = λ j l. go j l (dec_lt j i) }
   where
     go : (j : ℕ) → j < i + 1 → Dec (j < i) → get_or a j 0 ≡ get_or b j 0
     go j l (Dec.yes m) = h.so j m
@@ -54,38 +54,38 @@ alike_all {a} {b} h l =
 pub record Mixed (key : List ℕ) (salt h i : ℕ) : Type 0 where
   pub so : h ≡ mixes (seed salt) (take i key)
 
-pub mixed-none : (key : List ℕ) (salt h : ℕ) → h ≡ seed salt → Mixed key salt h 0
-mixed-none key salt h e = record { so = e ∙ sym (mixes-none (seed salt)) }
+pub mixed_none : (key : List ℕ) (salt h : ℕ) → h ≡ seed salt → Mixed key salt h 0
+mixed_none key salt h e = record { so = e ∙ sym (mixes_none (seed salt)) }
 
-pub mixed-more : {key : List ℕ} {salt h i : ℕ} → Mixed key salt h i → i < length key → (h' : ℕ) → h' ≡ mix h (get_or key i 0) → Mixed key salt h' (i + 1)
-mixed-more {key} {salt} {h} {i} m l h' e = record {
+pub mixed_more : {key : List ℕ} {salt h i : ℕ} → Mixed key salt h i → i < length key → (h' : ℕ) → h' ≡ mix h (get_or key i 0) → Mixed key salt h' (i + 1)
+mixed_more {key} {salt} {h} {i} m l h' e = record {
   so =
       e ∙ ap (λ (x : ℕ). mix x (get_or key i 0)) m.so
-      ∙ sym (mixes-more (seed salt) (take i key) (get_or key i 0))
+      ∙ sym (mixes_more (seed salt) (take i key) (get_or key i 0))
       ∙ ap (mixes (seed salt)) (sym (take-suc key i 0 l))
       ∙ ap (λ (j : ℕ). mixes (seed salt) (take j key)) (sym (add-one i));
 }
 
-pub mixed-all : {key : List ℕ} {salt h i : ℕ} → Mixed key salt h i → length key ≤ i → (r : ℕ) → r ≡ finish h → r ≡ hashOf salt key
-mixed-all {key} {salt} {h} {i} m l r e = e ∙ ap finish (m.so ∙ ap (mixes (seed salt)) (take_all i key l)) ∙ hash-done salt key
+pub mixed_all : {key : List ℕ} {salt h i : ℕ} → Mixed key salt h i → length key ≤ i → (r : ℕ) → r ≡ finish h → r ≡ hash_of salt key
+mixed_all {key} {salt} {h} {i} m l r e = e ∙ ap finish (m.so ∙ ap (mixes (seed salt)) (take_all i key l)) ∙ hash_done salt key
 
 -- ---- the key at an index
 
 module _ {tape store : List ℕ} {index : ℕ} where
-  pub key-numbers : {v : List ℕ} (k : KeyIs tape store index v) {w : Words} → w ≡ wordsAt tape (index * 16) → (w.mid ≡ k.size) × (w.high ≡ k.start)
+  pub key_numbers : {v : List ℕ} (k : KeyIs tape store index v) {w : Words} → w ≡ words_at tape (index * 16) → (w.mid ≡ k.size) × (w.high ≡ k.start)
   unfolding mid_of high_of
-  key-numbers k {w} e =
-      let n = record-numbers tape store index (Record.Key k.size k.start) k.there in
-      (ap (λ (x : Words). x.mid) e ∙ n.mid-is, ap (λ (x : Words). x.high) e ∙ n.high_is)
+  key_numbers k {w} e =
+      let n = record_numbers tape store index (Record.Key k.size k.start) k.there in
+      (ap (λ (x : Words). x.mid) e ∙ n.mid_is, ap (λ (x : Words). x.high) e ∙ n.high_is)
 
-  pub key-inside : {v : List ℕ} → KeyIs tape store index v → {w : Words} → w ≡ wordsAt tape (index * 16) → w.high + w.mid ≤ length store
-  key-inside k {w} e = omega (arith, k.there.own.0, key-numbers k {w = w} e)
+  pub key_inside : {v : List ℕ} → KeyIs tape store index v → {w : Words} → w ≡ words_at tape (index * 16) → w.high + w.mid ≤ length store
+  key_inside k {w} e = omega (arith, k.there.own.0, key_numbers k {w = w} e)
 
   -- its bytes, as they are cut out of the store
-  pub key-cut : {v : List ℕ} → KeyIs tape store index v → {w : Words} → w ≡ wordsAt tape (index * 16)
+  pub key_cut : {v : List ℕ} → KeyIs tape store index v → {w : Words} → w ≡ words_at tape (index * 16)
       → v ≡ take (w.high + w.mid - w.high) (drop w.high store)
-  key-cut k {w} e =
-      let n = key-numbers k {w = w} e in
+  key_cut k {w} e =
+      let n = key_numbers k {w = w} e in
       let z : w.high + w.mid - w.high ≡ k.size = omega (arith, n.0) in
       k.is ∙ ap₂ (λ (x y : ℕ). take x (drop y store)) (sym z) (sym n.1)
 
@@ -93,36 +93,36 @@ module _ {tape store : List ℕ} {index : ℕ} where
 
 -- at the slot i, wherever the table stands
 pub record Seeking (tape store key : List ℕ) (tag : ℕ) (seen : List ℕ) (i : ℕ) : Type 0 where
-  pub sought : (at from : ℕ) → tag ≡ hashOf from key → Sought (KeyIs tape store) (hashOf from) seen at from key i
+  pub sought : (at from : ℕ) → tag ≡ hash_of from key → Sought (KeyIs tape store) (hash_of from) seen at from key i
 
-pub seek-start : (tape store key : List ℕ) (tag : ℕ) (seen : List ℕ) (i : ℕ) → Newest seen tag i → Seeking tape store key tag seen i
-seek-start tape store key tag seen i n = record { sought = λ at from e. seek-begins tag i e n }
+pub seek_start : (tape store key : List ℕ) (tag : ℕ) (seen : List ℕ) (i : ℕ) → Newest seen tag i → Seeking tape store key tag seen i
+seek_start tape store key tag seen i n = record { sought = λ at from e. seek_begins tag i e n }
 
 module _ {tape store key : List ℕ} {tag : ℕ} {seen : List ℕ} {i : ℕ} (w : Seeking tape store key tag seen i) where
   module _ (p : Seeks tape store key tag seen) (l : 0 < i) where
-    abbrev here : Sought (KeyIs tape store) (hashOf p.1.0) seen p.0 p.1.0 key i
+    abbrev here : Sought (KeyIs tape store) (hash_of p.1.0) seen p.0 p.1.0 key i
     here = w.sought p.0 p.1.0 p.1.1.1.tagged
 
-    pub slot-stands : Stands seen i
-    slot-stands = seek-stands here p.1.1.1.keeps l
+    pub slot_stands : Stands seen i
+    slot_stands = seek_stands here p.1.1.1.keeps l
 
-    pub slot-holds : SlotHolds tape store seen i
-    slot-holds = (slot-stands, λ r g. let k = seek-key here p.1.1.1.keeps l r g in (k.0, k.1.0))
+    pub slot_holds : SlotHolds tape store seen i
+    slot_holds = (slot_stands, λ r g. let k = seek_key here p.1.1.1.keeps l r g in (k.0, k.1.0))
 
-    pub slot-falls : (r : ℕ) → Earlier seen i r → r < i
-    slot-falls r g = seek-falls here p.1.1.1.keeps l r g
+    pub slot_falls : (r : ℕ) → Earlier seen i r → r < i
+    slot_falls r g = seek_falls here p.1.1.1.keeps l r g
 
-  pub slot-found : 0 < i → {b : Bool} → SlotIs tape store key tag seen i b → b ≡ true → Repeats tape store key tag seen true
-  slot-found l (other_tag t g n) e = let z : ◌≡◌ {A = ℕ} 0 1 = cc in absurd (omega arith)
-  slot-found l (told r g h) e = λ at from s t. sym (seek_finds (w.sought at from t.tagged) l r g (λ v k. sym (h v k) ∙ e) s t.keeps)
+  pub slot_found : 0 < i → {b : Bool} → SlotIs tape store key tag seen i b → b ≡ true → Repeats tape store key tag seen true
+  slot_found l (other_tag t g n) e = let z : ◌≡◌ {A = ℕ} 0 1 = cc in absurd (omega arith)
+  slot_found l (told r g h) e = λ at from s t. sym (seek_finds (w.sought at from t.tagged) l r g (λ v k. sym (h v k) ∙ e) s t.keeps)
 
-  pub slot-other : 0 < i → {b : Bool} → SlotIs tape store key tag seen i b → b ≡ false → (j : ℕ) → Earlier seen i j → Seeking tape store key tag seen j
-  slot-other l (other_tag t g n) e j m =
-      record { sought = λ at from q. seek-past-tag (w.sought at from q) l tag t q g n j m }
-  slot-other l (told r g h) e j m = record { sought = λ at from q. seek-past (w.sought at from q) l r g (λ v k. sym (h v k) ∙ e) j m }
+  pub slot_other : 0 < i → {b : Bool} → SlotIs tape store key tag seen i b → b ≡ false → (j : ℕ) → Earlier seen i j → Seeking tape store key tag seen j
+  slot_other l (other_tag t g n) e j m =
+      record { sought = λ at from q. seek_past_tag (w.sought at from q) l tag t q g n j m }
+  slot_other l (told r g h) e j m = record { sought = λ at from q. seek_past (w.sought at from q) l r g (λ v k. sym (h v k) ∙ e) j m }
 
-  pub slots-over : i ≤ 0 → Repeats tape store key tag seen false
-  slots-over l at from s t = sym (seek-ends (w.sought at from t.tagged) l s t.keeps)
+  pub slots_over : i ≤ 0 → Repeats tape store key tag seen false
+  slots_over l at from s t = sym (seek_ends (w.sought at from t.tagged) l s t.keeps)
 
 -- ---- the innermost open container
 
@@ -130,13 +130,13 @@ pub none_open : (stack : List ℕ) (depth : ℕ) → depth ≡ 0 → Innermost s
 none_open stack depth e [] s l = refl
 none_open stack depth e (o ∷ os) s l = absurd (omega arith)
 
-pub some-open : (stack : List ℕ) (depth : ℕ) → (depth ≡ 0 → ⊥) → Innermost stack depth (eqb (get_or stack (depth - 1) 0 % 2) 1)
-some-open stack depth n [] s l = absurd (n (sym l))
-some-open stack depth n (arrayTo e ∷ os) s l =
+pub some_open : (stack : List ℕ) (depth : ℕ) → (depth ≡ 0 → ⊥) → Innermost stack depth (eqb (get_or stack (depth - 1) 0 % 2) 1)
+some_open stack depth n [] s l = absurd (n (sym l))
+some_open stack depth n (array_to e ∷ os) s l =
     let z : length os ≡ depth - 1 = omega arith in
     let q = s.0 in
     ne_eqb (get_or stack (depth - 1) 0 % 2) 1 (λ g. let y : get_or stack (depth - 1) 0 ≡ 2 * e = ap (λ (k : ℕ). get_or stack k 0) (sym z) ∙ q in omega arith)
-some-open stack depth n (objectTo e ∷ os) s l =
+some_open stack depth n (object_to e ∷ os) s l =
     let z : length os ≡ depth - 1 = omega arith in
     let y : get_or stack (depth - 1) 0 ≡ 2 * e + 1 = ap (λ (k : ℕ). get_or stack k 0) (sym z) ∙ s.0 in
     eq-eqb (get_or stack (depth - 1) 0 % 2) 1 (omega arith)
@@ -144,15 +144,15 @@ some-open stack depth n (objectTo e ∷ os) s l =
 -- ---- a key comes
 
 module _ {tape store : List ℕ} {index from : ℕ} {key seen : List ℕ} where
-  pub coming-seeks : Coming tape store index from key seen → (t : ℕ) → t ≡ hashOf from key → Seeks tape store key t seen
-  coming-seeks h t e = (index, (from, (h.0, record { keeps = h.1.keeps; tagged = e })))
+  pub coming_seeks : Coming tape store index from key seen → (t : ℕ) → t ≡ hash_of from key → Seeks tape store key t seen
+  coming_seeks h t e = (index, (from, (h.0, record { keeps = h.1.keeps; tagged = e })))
 
   -- before the window
-  pub notes-before : index < from → Notes tape store index from key seen seen
-  notes-before l s h = before_on h.keeps (index + 1) (omega arith) (omega (arith, h.few)) index key l h.inside
+  pub notes_before : index < from → Notes tape store index from key seen seen
+  notes_before l s h = before_on h.keeps (index + 1) (omega arith) (omega (arith, h.few)) index key l h.inside
 
-  pub notes-after : from ≤ index → {t : ℕ} → t ≡ hashOf from key → {r : Bool} → Repeats tape store key t seen r → {seen' : List ℕ}
+  pub notes_after : from ≤ index → {t : ℕ} → t ≡ hash_of from key → {r : Bool} → Repeats tape store key t seen r → {seen' : List ℕ}
       → Names r (index, t) seen seen' → Notes tape store index from key seen seen'
-  notes-after l {t} e {r} g {seen'} d s h =
-      names-on h.keeps (index + 1) (omega arith) (omega (arith, h.few)) seen' index key r (rw e at d)
+  notes_after l {t} e {r} g {seen'} d s h =
+      names_on h.keeps (index + 1) (omega arith) (omega (arith, h.few)) seen' index key r (rw e at d)
       (g index from s (record { keeps = h.keeps; tagged = e })) h.is l (omega arith) h.inside

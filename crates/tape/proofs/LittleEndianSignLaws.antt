@@ -16,30 +16,30 @@ abbrev pub mirror : ℤ → ℤ
 mirror (pos n) = negsuc n
 mirror (negsuc n) = pos n
 
-pred-neg : (z : ℤ) → pred_ℤ (neg_ℤ z) ≡ mirror z
-pred-neg (pos zero) = refl
-pred-neg (pos (suc n)) = refl
-pred-neg (negsuc n) = refl
+pred_neg : (z : ℤ) → pred_ℤ (neg_ℤ z) ≡ mirror z
+pred_neg (pos zero) = refl
+pred_neg (pos (suc n)) = refl
+pred_neg (negsuc n) = refl
 
-pub minus-one-less : (z : ℤ) → negsuc 0 -ℤ z ≡ mirror z
-minus-one-less z = +ℤ_comm (negsuc 0) (neg_ℤ z) ∙ -ℤ_one (neg_ℤ z) ∙ pred-neg z
+pub minus_one_less : (z : ℤ) → negsuc 0 -ℤ z ≡ mirror z
+minus_one_less z = +ℤ_comm (negsuc 0) (neg_ℤ z) ∙ -ℤ_one (neg_ℤ z) ∙ pred_neg z
 
-pub mirror-fits : (w : Width) (z : ℤ) → SFits w z → SFits w (mirror z)
-mirror-fits w (pos n) f = record { sfits = f.sfits }
-mirror-fits w (negsuc n) f = record { sfits = f.sfits }
+pub mirror_fits : (w : Width) (z : ℤ) → SFits w z → SFits w (mirror z)
+mirror_fits w (pos n) f = record { sfits = f.sfits }
+mirror_fits w (negsuc n) f = record { sfits = f.sfits }
 
 module _ (w : Width) (x : ℤ) (f : SFits w x) where
-  pub less-fits : SFits w (negsuc 0 -ℤ to_z w (of_z w x))
-  less-fits = subst (λ (z : ℤ). SFits w (negsuc 0 -ℤ z)) (sym (to_z-of_z w x f)) (subst (SFits w) (sym (minus-one-less x)) (mirror-fits w x f))
+  pub less_fits : SFits w (negsuc 0 -ℤ to_z w (of_z w x))
+  less_fits = subst (λ (z : ℤ). SFits w (negsuc 0 -ℤ z)) (sym (to_z-of_z w x f)) (subst (SFits w) (sym (minus_one_less x)) (mirror_fits w x f))
 
   -- what the machine has of -1 - x
-  pub less-is : to_z w (of_z w (negsuc 0 -ℤ to_z w (of_z w x))) ≡ mirror x
-  less-is =
-      ap (λ (z : ℤ). to_z w (of_z w (negsuc 0 -ℤ z))) (to_z-of_z w x f) ∙ ap (λ (z : ℤ). to_z w (of_z w z)) (minus-one-less x)
-      ∙ to_z-of_z w (mirror x) (mirror-fits w x f)
+  pub less_is : to_z w (of_z w (negsuc 0 -ℤ to_z w (of_z w x))) ≡ mirror x
+  less_is =
+      ap (λ (z : ℤ). to_z w (of_z w (negsuc 0 -ℤ z))) (to_z-of_z w x f) ∙ ap (λ (z : ℤ). to_z w (of_z w z)) (minus_one_less x)
+      ∙ to_z-of_z w (mirror x) (mirror_fits w x f)
 
-  pub neg-cast : lt_z x (pos 0) ≡ true → T (non_neg (mirror x)) × Fits w (nat_abs (mirror x))
-  neg-cast t = go x f t
+  pub neg_cast : lt_z x (pos 0) ≡ true → T (non_neg (mirror x)) × Fits w (nat_abs (mirror x))
+  neg_cast t = go x f t
     where
       go : (y : ℤ) → SFits w y → lt_z y (pos 0) ≡ true → T (non_neg (mirror y)) × Fits w (nat_abs (mirror y))
       go (pos n) g t = let l = ltb-true n 0 t in absurd (omega arith)
@@ -53,15 +53,15 @@ module _ (w : Width) (x : ℤ) (f : SFits w x) where
       go (pos n) g t = let l = ltb-true n 0 t in absurd (omega arith)
       go (negsuc n) g t = omega arith
 
-  pub pos-cast : lt_z x (pos 0) ≡ false → T (non_neg x) × Fits w (nat_abs x)
-  pos-cast t = go x f t
+  pub pos_cast : lt_z x (pos 0) ≡ false → T (non_neg x) × Fits w (nat_abs x)
+  pos_cast t = go x f t
     where
       go : (y : ℤ) → SFits w y → lt_z y (pos 0) ≡ false → T (non_neg y) × Fits w (nat_abs y)
       go (pos n) g t = (tt, record { fits = half_full w g.sfits })
       go (negsuc n) g t = let z : ◌≡◌ {A = ℕ} 0 1 = cc in absurd (omega arith)
 
-  pub pos-bits : lt_z x (pos 0) ≡ false → nat_abs x ≡ of_z w x
-  pos-bits t = go x t
+  pub pos_bits : lt_z x (pos 0) ≡ false → nat_abs x ≡ of_z w x
+  pos_bits t = go x t
     where
       go : (y : ℤ) → lt_z y (pos 0) ≡ false → nat_abs y ≡ of_z w y
       go (pos n) t = refl

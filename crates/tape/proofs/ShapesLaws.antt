@@ -16,12 +16,12 @@ use Rattle.meaning.specs.declared.Date.{Date}
 use Rattle.meaning.specs.declared.Time.TheVariants.{LocalDate, LocalTime, LocalDateTime, OffsetDateTime}
 use Rattle.meaning.specs.declared.Record.{Record}
 use Rattle.meaning.specs.Bytes.{le, flag}
-use Rattle.meaning.specs.Tape.{recordBytes}
-use Rattle.meaning.specs.Between.Words.{mark, mark_of, low_of, mid_of, high_of, monthDay, fourWords, FitDate, Fit}
-use Rattle.meaning.proofs.Records.{record-words}
+use Rattle.meaning.specs.Tape.{record_bytes}
+use Rattle.meaning.specs.Between.Words.{mark, mark_of, low_of, mid_of, high_of, month_day, four_words, FitDate, Fit}
+use Rattle.meaning.proofs.Records.{record_words}
 use Rattle.tape.specs.declared.Words.{Words}
 use Rattle.tape.specs.declared.Shape.{Shape}
-use Rattle.tape.specs.Between.Shapes.{Worded, Holds, Loaded, Written, notFinite, dateOf, recordOf, onlyRecord, Common, Shaped, shaped, junk}
+use Rattle.tape.specs.Between.Shapes.{Worded, Holds, Loaded, Written, not_finite, date_of, record_of, only_record, Common, Shaped, shaped, junk}
 
 pub flag_small : (b : Bool) → flag b ≤ 1
 flag_small true = omega arith
@@ -41,37 +41,37 @@ DateFits (Record.Time t) = Fit (Record.Time t)
 DateFits (Record.Array count end) = Unit {0}
 DateFits (Record.Object count end) = Unit {0}
 
-words-bytes : (r : Record) → DateFits r → recordBytes r ≡ fourWords (mark_of r) (low_of r) (mid_of r) (high_of r)
-unfolding recordBytes fourWords mark_of low_of mid_of high_of le
-words-bytes Record.Null f = refl
-words-bytes (Record.Bool true) f = refl
-words-bytes (Record.Bool false) f = refl
-words-bytes (Record.Number (Finite true coefficient power)) f = refl
-words-bytes (Record.Number (Finite false coefficient power)) f = refl
-words-bytes (Record.Number NotANumber) f = refl
-words-bytes (Record.Number (Infinite false)) f = refl
-words-bytes (Record.Number (Infinite true)) f = refl
-words-bytes (Record.Str size start) f = refl
-words-bytes (Record.Key size start) f = refl
-words-bytes (Record.Bin size start) f = refl
-words-bytes (Record.Time t) f = record-words (Record.Time t) f
-words-bytes (Record.Array count end) f = refl
-words-bytes (Record.Object count end) f = refl
+words_bytes : (r : Record) → DateFits r → record_bytes r ≡ four_words (mark_of r) (low_of r) (mid_of r) (high_of r)
+unfolding record_bytes four_words mark_of low_of mid_of high_of le
+words_bytes Record.Null f = refl
+words_bytes (Record.Bool true) f = refl
+words_bytes (Record.Bool false) f = refl
+words_bytes (Record.Number (Finite true coefficient power)) f = refl
+words_bytes (Record.Number (Finite false coefficient power)) f = refl
+words_bytes (Record.Number NotANumber) f = refl
+words_bytes (Record.Number (Infinite false)) f = refl
+words_bytes (Record.Number (Infinite true)) f = refl
+words_bytes (Record.Str size start) f = refl
+words_bytes (Record.Key size start) f = refl
+words_bytes (Record.Bin size start) f = refl
+words_bytes (Record.Time t) f = record_words (Record.Time t) f
+words_bytes (Record.Array count end) f = refl
+words_bytes (Record.Object count end) f = refl
 
 pub written : (r : Record) (w : Words) → DateFits r → Worded r w → Written r w
 written r w f e = record {
   worded = e;
-  bytes-are = words-bytes r f ∙ sym (ap₂ (λ (a b : ℕ). fourWords a b w.mid w.high) e.mark-is e.low-is
-      ∙ ap₂ (fourWords (mark_of r) (low_of r)) e.mid-is e.high_is);
+  bytes_are = words_bytes r f ∙ sym (ap₂ (λ (a b : ℕ). four_words a b w.mid w.high) e.mark_is e.low_is
+      ∙ ap₂ (four_words (mark_of r) (low_of r)) e.mid_is e.high_is);
 }
 
 pub written_as : (r : Record) (w : Words) → DateFits r → Holds w (mark_of r) (low_of r) (mid_of r) (high_of r) → Written r w
-written_as r w f e = written r w f (record { mark-is = e.mark-held; low-is = e.low_held; mid-is = e.mid-held; high_is = e.high_held })
+written_as r w f e = written r w f (record { mark_is = e.mark_held; low_is = e.low_held; mid_is = e.mid_held; high_is = e.high_held })
 
-pub infinite-mid : (b : Bool) (f : ℕ) → f ≡ flag b → 1 + f ≡ mid_of (Record.Number (Infinite b))
+pub infinite_mid : (b : Bool) (f : ℕ) → f ≡ flag b → 1 + f ≡ mid_of (Record.Number (Infinite b))
 unfolding mid_of
-infinite-mid true f e = omega arith
-infinite-mid false f e = omega arith
+infinite_mid true f e = omega arith
+infinite_mid false f e = omega arith
 
 -- ---- from the numbers to the record
 
@@ -79,68 +79,68 @@ infinite-mid false f e = omega arith
 pub past : (a k : ℕ) (x : Record) {y z : Record} → (a ≡ k → ⊥) → y ≡ z → y ≡ cond (eqb a k) x z
 past a k x {z = z} n e = e ∙ sym (ap (λ (b : Bool). cond b x z) (ne_eqb a k n))
 
-date-back : (d : Date) (o : ℕ) → FitDate d → dateOf d.year (monthDay d o) ≡ d
-date-back d o f =
-    let m : monthDay d o % 256 ≡ d.month = omega arith in
-    let q : monthDay d o / 256 ≡ d.day + o * 256 = omega arith in
-    let e : monthDay d o / 256 % 256 ≡ d.day = ap (λ (x : ℕ). x % 256) q ∙ omega arith in
+date_back : (d : Date) (o : ℕ) → FitDate d → date_of d.year (month_day d o) ≡ d
+date_back d o f =
+    let m : month_day d o % 256 ≡ d.month = omega arith in
+    let q : month_day d o / 256 ≡ d.day + o * 256 = omega arith in
+    let e : month_day d o / 256 % 256 ≡ d.day = ap (λ (x : ℕ). x % 256) q ∙ omega arith in
     λ i. record { year = d.year; month = m i; day = e i }
 
-record-back : (r : Record) → Fit r → recordOf (mark_of r) (low_of r) (mid_of r) (high_of r) ≡ r
-unfolding recordOf notFinite mark_of low_of mid_of high_of
-record-back Record.Null f = refl
-record-back (Record.Bool true) f = refl
-record-back (Record.Bool false) f = refl
-record-back (Record.Number (Finite true coefficient power)) f = ap (λ (z : ℤ). Record.Number (Finite true coefficient z)) (to_z-of_z w32 power f.1)
-record-back (Record.Number (Finite false coefficient power)) f = ap (λ (z : ℤ). Record.Number (Finite false coefficient z)) (to_z-of_z w32 power f.1)
-record-back (Record.Number NotANumber) f = refl
-record-back (Record.Number (Infinite false)) f = refl
-record-back (Record.Number (Infinite true)) f = refl
-record-back (Record.Str size start) f = refl
-record-back (Record.Key size start) f = refl
-record-back (Record.Bin size start) f = refl
-record-back (Record.Time (LocalDate d)) f = ap (λ (x : Date). Record.Time (LocalDate x)) (date-back d 0 f)
-record-back (Record.Time (LocalTime t)) f = refl
-record-back (Record.Time (LocalDateTime d t)) f = ap (λ (x : Date). Record.Time (LocalDateTime x t)) (date-back d 0 f.0)
-record-back (Record.Time (OffsetDateTime d t offset)) f =
+record_back : (r : Record) → Fit r → record_of (mark_of r) (low_of r) (mid_of r) (high_of r) ≡ r
+unfolding record_of not_finite mark_of low_of mid_of high_of
+record_back Record.Null f = refl
+record_back (Record.Bool true) f = refl
+record_back (Record.Bool false) f = refl
+record_back (Record.Number (Finite true coefficient power)) f = ap (λ (z : ℤ). Record.Number (Finite true coefficient z)) (to_z-of_z w32 power f.1)
+record_back (Record.Number (Finite false coefficient power)) f = ap (λ (z : ℤ). Record.Number (Finite false coefficient z)) (to_z-of_z w32 power f.1)
+record_back (Record.Number NotANumber) f = refl
+record_back (Record.Number (Infinite false)) f = refl
+record_back (Record.Number (Infinite true)) f = refl
+record_back (Record.Str size start) f = refl
+record_back (Record.Key size start) f = refl
+record_back (Record.Bin size start) f = refl
+record_back (Record.Time (LocalDate d)) f = ap (λ (x : Date). Record.Time (LocalDate x)) (date_back d 0 f)
+record_back (Record.Time (LocalTime t)) f = refl
+record_back (Record.Time (LocalDateTime d t)) f = ap (λ (x : Date). Record.Time (LocalDateTime x t)) (date_back d 0 f.0)
+record_back (Record.Time (OffsetDateTime d t offset)) f =
     let o = of_z w16 offset in
-    let e : monthDay d o / 65536 ≡ o = omega arith in
-    ap₂ (λ (x : Date) (z : ℤ). Record.Time (OffsetDateTime x t z)) (date-back d o f.0) (ap (to_z w16) e ∙ to_z-of_z w16 offset f.2)
-record-back (Record.Array count end) f = refl
-record-back (Record.Object count end) f = refl
+    let e : month_day d o / 65536 ≡ o = omega arith in
+    ap₂ (λ (x : Date) (z : ℤ). Record.Time (OffsetDateTime x t z)) (date_back d o f.0) (ap (to_z w16) e ∙ to_z-of_z w16 offset f.2)
+record_back (Record.Array count end) f = refl
+record_back (Record.Object count end) f = refl
 
--- the record with these numbers, if there is one, is the one that `recordOf` gives
-pub only : (w : Words) (r : Record) → Fit r → Worded r w → recordOf w.mark w.low w.mid w.high ≡ r
+-- the record with these numbers, if there is one, is the one that `record_of` gives
+pub only : (w : Words) (r : Record) → Fit r → Worded r w → record_of w.mark w.low w.mid w.high ≡ r
 only w r f e =
-    ap₂ (λ (a b : ℕ). recordOf a b w.mid w.high) e.mark-is e.low-is
-    ∙ ap₂ (recordOf (mark_of r) (low_of r)) e.mid-is e.high_is
-    ∙ record-back r f
+    ap₂ (λ (a b : ℕ). record_of a b w.mid w.high) e.mark_is e.low_is
+    ∙ ap₂ (record_of (mark_of r) (low_of r)) e.mid_is e.high_is
+    ∙ record_back r f
 
 -- which it is, by the mark
 module _ (a low mid high : ℕ) where
-  pub only-key : a ≡ mark "k" "y" → recordOf a low mid high ≡ Record.Key mid high
-  unfolding recordOf
-  only-key e = ap (λ (x : ℕ). recordOf x low mid high) e
+  pub only_key : a ≡ mark "k" "y" → record_of a low mid high ≡ Record.Key mid high
+  unfolding record_of
+  only_key e = ap (λ (x : ℕ). record_of x low mid high) e
 
-  pub only-text : a ≡ mark "s" "t" → recordOf a low mid high ≡ Record.Str mid high
-  unfolding recordOf
-  only-text e = ap (λ (x : ℕ). recordOf x low mid high) e
+  pub only_text : a ≡ mark "s" "t" → record_of a low mid high ≡ Record.Str mid high
+  unfolding record_of
+  only_text e = ap (λ (x : ℕ). record_of x low mid high) e
 
-  pub only-finite : a ≡ mark "n" "b" → recordOf a low mid high ≡ Record.Number (Finite (eqb low 1) high (to_z w32 mid))
-  unfolding recordOf
-  only-finite e = ap (λ (x : ℕ). recordOf x low mid high) e
+  pub only_finite : a ≡ mark "n" "b" → record_of a low mid high ≡ Record.Number (Finite (eqb low 1) high (to_z w32 mid))
+  unfolding record_of
+  only_finite e = ap (λ (x : ℕ). record_of x low mid high) e
 
-  pub only-array : a ≡ mark "a" "r" → recordOf a low mid high ≡ Record.Array mid high
-  unfolding recordOf
-  only-array e = ap (λ (x : ℕ). recordOf x low mid high) e
+  pub only_array : a ≡ mark "a" "r" → record_of a low mid high ≡ Record.Array mid high
+  unfolding record_of
+  only_array e = ap (λ (x : ℕ). record_of x low mid high) e
 
-  pub only-object : a ≡ mark "o" "b" → recordOf a low mid high ≡ Record.Object mid high
-  unfolding recordOf
-  only-object e = ap (λ (x : ℕ). recordOf x low mid high) e
+  pub only_object : a ≡ mark "o" "b" → record_of a low mid high ≡ Record.Object mid high
+  unfolding record_of
+  only_object e = ap (λ (x : ℕ). record_of x low mid high) e
 
 -- a number that is 0 or 1 is a sign's
-flag-back : (n : ℕ) → n ≤ 1 → n ≡ flag (eqb n 1)
-flag-back n h =
+flag_back : (n : ℕ) → n ≤ 1 → n ≡ flag (eqb n 1)
+flag_back n h =
     elim (dec_le 1 n) [
       | yes g ↦ let e : n ≡ 1 = omega arith in e ∙ ap flag (sym (eq-eqb n 1 e))
       | no g ↦ let e : n ≡ 0 = omega arith in e ∙ ap flag (sym (ne_eqb n 1 (λ q. omega arith)))
@@ -148,53 +148,53 @@ flag-back n h =
 
 -- and where its unnamed bytes are zero, it has these numbers
 module _ (w : Words) where
-  pub key-words : w.mark ≡ mark "k" "y" → w.low ≡ 0 → Worded (Record.Key w.mid w.high) w
+  pub key_words : w.mark ≡ mark "k" "y" → w.low ≡ 0 → Worded (Record.Key w.mid w.high) w
   unfolding mark_of low_of mid_of high_of
-  key-words m l = record { mark-is = m; low-is = l; mid-is = refl; high_is = refl }
+  key_words m l = record { mark_is = m; low_is = l; mid_is = refl; high_is = refl }
 
-  pub text-words : w.mark ≡ mark "s" "t" → w.low ≡ 0 → Worded (Record.Str w.mid w.high) w
+  pub text_words : w.mark ≡ mark "s" "t" → w.low ≡ 0 → Worded (Record.Str w.mid w.high) w
   unfolding mark_of low_of mid_of high_of
-  text-words m l = record { mark-is = m; low-is = l; mid-is = refl; high_is = refl }
+  text_words m l = record { mark_is = m; low_is = l; mid_is = refl; high_is = refl }
 
-  pub finite-words : w.mark ≡ mark "n" "b" → w.low ≤ 1 → w.mid < 2 ^ 32 → Worded (Record.Number (Finite (eqb w.low 1) w.high (to_z w32 w.mid))) w
+  pub finite_words : w.mark ≡ mark "n" "b" → w.low ≤ 1 → w.mid < 2 ^ 32 → Worded (Record.Number (Finite (eqb w.low 1) w.high (to_z w32 w.mid))) w
   unfolding mark_of low_of mid_of high_of
-  finite-words m l f = record {
-    mark-is = m;
-    low-is = flag-back w.low l;
-    mid-is = sym (of_z-to_z w32 w.mid (record { fits = f }));
+  finite_words m l f = record {
+    mark_is = m;
+    low_is = flag_back w.low l;
+    mid_is = sym (of_z-to_z w32 w.mid (record { fits = f }));
     high_is = refl;
   }
 
-  pub array-words : w.mark ≡ mark "a" "r" → w.low ≡ 0 → Worded (Record.Array w.mid w.high) w
+  pub array_words : w.mark ≡ mark "a" "r" → w.low ≡ 0 → Worded (Record.Array w.mid w.high) w
   unfolding mark_of low_of mid_of high_of
-  array-words m l = record { mark-is = m; low-is = l; mid-is = refl; high_is = refl }
+  array_words m l = record { mark_is = m; low_is = l; mid_is = refl; high_is = refl }
 
-  pub object-words : w.mark ≡ mark "o" "b" → w.low ≡ 0 → Worded (Record.Object w.mid w.high) w
+  pub object_words : w.mark ≡ mark "o" "b" → w.low ≡ 0 → Worded (Record.Object w.mid w.high) w
   unfolding mark_of low_of mid_of high_of
-  object-words m l = record { mark-is = m; low-is = l; mid-is = refl; high_is = refl }
+  object_words m l = record { mark_is = m; low_is = l; mid_is = refl; high_is = refl }
 
-  pub not-common : Common w false
-  not-common = record { worded = λ e. let z : ◌≡◌ {A = ℕ} 0 1 = cc in absurd (omega arith) }
+  pub not_common : Common w false
+  not_common = record { worded = λ e. let z : ◌≡◌ {A = ℕ} 0 1 = cc in absurd (omega arith) }
 
-  pub is-common : {r : Record} {b : Bool} → onlyRecord w ≡ r → Worded r w → Common w b
-  is-common e g = record { worded = λ t. subst (λ (x : Record). Worded x w) (sym e) g }
+  pub is_common : {r : Record} {b : Bool} → only_record w ≡ r → Worded r w → Common w b
+  is_common e g = record { worded = λ t. subst (λ (x : Record). Worded x w) (sym e) g }
 
 -- so where that one has other numbers, there is none
-module _ (w v : Words) (r : Record) (is : r ≡ recordOf w.mark w.low w.mid w.high) (g : Worded r v) where
-  junk-by : ((s : Record) → Fit s → Worded s w → Worded s v → ⊥) → Shaped w Shape.Junk
-  junk-by n = junk (λ s f e. let q : r ≡ s = is ∙ only w s f e in n s f e (rw q at g))
+module _ (w v : Words) (r : Record) (is : r ≡ record_of w.mark w.low w.mid w.high) (g : Worded r v) where
+  junk_by : ((s : Record) → Fit s → Worded s w → Worded s v → ⊥) → Shaped w Shape.Junk
+  junk_by n = junk (λ s f e. let q : r ≡ s = is ∙ only w s f e in n s f e (rw q at g))
 
-  pub other-mark : (v.mark ≡ w.mark → ⊥) → Shaped w Shape.Junk
-  other-mark n = junk-by (λ s f e h. n (h.mark-is ∙ sym e.mark-is))
+  pub other_mark : (v.mark ≡ w.mark → ⊥) → Shaped w Shape.Junk
+  other_mark n = junk_by (λ s f e h. n (h.mark_is ∙ sym e.mark_is))
 
-  pub other-low : (v.low ≡ w.low → ⊥) → Shaped w Shape.Junk
-  other-low n = junk-by (λ s f e h. n (h.low-is ∙ sym e.low-is))
+  pub other_low : (v.low ≡ w.low → ⊥) → Shaped w Shape.Junk
+  other_low n = junk_by (λ s f e h. n (h.low_is ∙ sym e.low_is))
 
-  pub other-mid : (v.mid ≡ w.mid → ⊥) → Shaped w Shape.Junk
-  other-mid n = junk-by (λ s f e h. n (h.mid-is ∙ sym e.mid-is))
+  pub other_mid : (v.mid ≡ w.mid → ⊥) → Shaped w Shape.Junk
+  other_mid n = junk_by (λ s f e h. n (h.mid_is ∙ sym e.mid_is))
 
-  pub other-high : (v.high ≡ w.high → ⊥) → Shaped w Shape.Junk
-  other-high n = junk-by (λ s f e h. n (h.high_is ∙ sym e.high_is))
+  pub other_high : (v.high ≡ w.high → ⊥) → Shaped w Shape.Junk
+  other_high n = junk_by (λ s f e h. n (h.high_is ∙ sym e.high_is))
 
 -- ---- the record that may have these numbers fits its places
 
@@ -202,15 +202,15 @@ by_cond : {A : Type 0} (P : A → Type 0) (b : Bool) (x y : A) → P x → P y �
 by_cond P true x y p q = p
 by_cond P false x y p q = q
 
-date-fits : (low mid : ℕ) → low < 2 ^ 16 → FitDate (dateOf low mid)
-date-fits low mid h = omega arith
+date_fits : (low mid : ℕ) → low < 2 ^ 16 → FitDate (date_of low mid)
+date_fits low mid h = omega arith
 
-pub record-of-fits : (w : Words) → Loaded w → Fit (recordOf w.mark w.low w.mid w.high)
-unfolding recordOf notFinite
-record-of-fits w l =
+pub record_of_fits : (w : Words) → Loaded w → Fit (record_of w.mark w.low w.mid w.high)
+unfolding record_of not_finite
+record_of_fits w l =
     let high = l.high_small in
-    let mid = l.mid-small in
-    let date = date-fits w.low w.mid l.low_small in
+    let mid = l.mid_small in
+    let date = date_fits w.low w.mid l.low_small in
     let offset : w.mid / 65536 < 2 ^ 16 = omega arith in
     by_cond Fit (eqb w.mark (mark "b" "o")) _ _ tt
     (by_cond Fit (eqb w.mark (mark "n" "b")) _ _ (high, to_z-Fits w32 w.mid (record { fits = mid }))
@@ -227,11 +227,11 @@ record-of-fits w l =
     (by_cond Fit (eqb w.mark (mark "o" "b")) _ _ (mid, high) tt)))))))))))
 
 -- the numbers agree: there is a record
-pub same-words : (w v : Words) (r : Record) → Loaded w → r ≡ recordOf w.mark w.low w.mid w.high → Worded r v
+pub same_words : (w v : Words) (r : Record) → Loaded w → r ≡ record_of w.mark w.low w.mid w.high → Worded r v
     → v.mark ≡ w.mark → v.low ≡ w.low → v.mid ≡ w.mid → v.high ≡ w.high → Shaped w (Shape.Record r)
-same-words w v r l is g a b c d =
-    shaped (subst Fit (sym is) (record-of-fits w l))
-    (record { mark-is = sym a ∙ g.mark-is; low-is = sym b ∙ g.low-is; mid-is = sym c ∙ g.mid-is; high_is = sym d ∙ g.high_is })
+same_words w v r l is g a b c d =
+    shaped (subst Fit (sym is) (record_of_fits w l))
+    (record { mark_is = sym a ∙ g.mark_is; low_is = sym b ∙ g.low_is; mid_is = sym c ∙ g.mid_is; high_is = sym d ∙ g.high_is })
 
-pub common-shape : (w : Words) (r : Record) {b : Bool} → Loaded w → Common w b → b ≡ true → r ≡ onlyRecord w → Shaped w (Shape.Record r)
-common-shape w r l c t e = shaped (subst Fit (sym e) (record-of-fits w l)) (subst (λ (x : Record). Worded x w) (sym e) (c.worded t))
+pub common_shape : (w : Words) (r : Record) {b : Bool} → Loaded w → Common w b → b ≡ true → r ≡ only_record w → Shaped w (Shape.Record r)
+common_shape w r l c t e = shaped (subst Fit (sym e) (record_of_fits w l)) (subst (λ (x : Record). Worded x w) (sym e) (c.worded t))

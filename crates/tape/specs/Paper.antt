@@ -1,9 +1,9 @@
 -- What `look` answers, in the terms of docs/FORMAT.md, 10.1. Assumes nothing.
 use Rattle.rules.specs.Paper.{Said, done}
 use Rattle.meaning.specs.declared.Record.{Record}
-use Rattle.meaning.specs.Paper.{refusalSaid}
+use Rattle.meaning.specs.Paper.{refusal_said}
 use Rattle.tape.specs.declared.Looked.{Looked}
 
-abbrev pub lookSaid : Looked → Said Record
-lookSaid (Looked.Record r) = done r
-lookSaid (Looked.Refused why) = refusalSaid why
+abbrev pub look_said : Looked → Said Record
+look_said (Looked.Record r) = done r
+look_said (Looked.Refused why) = refusal_said why

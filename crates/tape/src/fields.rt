@@ -1,6 +1,6 @@
 // Whether a record's own fields are as they must be, each rule by itself.
 ghost use Rattle.std.specs.Prelude.{◌≤◌, ◌<◌, nat_abs};
-ghost use Rattle.meaning.specs.Limits.{day, offsetLimit};
+ghost use Rattle.meaning.specs.Limits.{day, offset_limit};
 ghost use Rattle.meaning.specs.Good.{GoodFinite, GoodNumber, GoodDate, GoodTime};
 ghost use Rattle.meaning.specs.Look.{Inside, Utf8Inside, Ends, OwnFields};
 ghost use Rattle.rules.specs.Between.Tests.{Decides};
@@ -65,7 +65,7 @@ fn good_clock(clock: u64) -> bool
 
 // An offset lies within its limit on either side of 0.
 fn good_offset(offset: i16) -> bool
-    ensures { Decides (nat_abs offset ≤ offsetLimit) result }
+    ensures { Decides (nat_abs offset ≤ offset_limit) result }
 {
     if offset < LEAST_OFFSET {
         return false;

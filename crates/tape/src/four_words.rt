@@ -1,8 +1,8 @@
 // A record and its four numbers, each way.
 ghost use Rattle.std.specs.Prelude.{◌≡◌, ◌+◌, ◌≤◌, ◌<◌, ◌^◌, length};
 ghost use Rattle.meaning.specs.declared.Record.{Record};
-ghost use Rattle.meaning.specs.Between.Words.{monthDay, fourWords, FitDate};
-ghost use Rattle.tape.specs.Between.Shapes.{Written, Holds, Loaded, notFinite, dateOf, containerOf, timeOf, bytes_of, onlyRecord, Common, Shaped, wordsAt};
+ghost use Rattle.meaning.specs.Between.Words.{month_day, four_words, FitDate};
+ghost use Rattle.tape.specs.Between.Shapes.{Written, Holds, Loaded, not_finite, date_of, container_of, time_of, bytes_of, only_record, Common, Shaped, words_at};
 
 use crate::{Shape, Words, little_endian};
 use meaning::{Date, Number, Record, Time};
@@ -68,7 +68,7 @@ fn number_words(n: Number) -> Words
 
 // Month, day and offset in bytes 4-7.
 fn month_day(d: Date, offset: u16) -> u64
-    ensures { (result ≡ monthDay d offset) × FitDate d }
+    ensures { (result ≡ month_day d offset) × FitDate d }
 {
     let month = d.month as u64;
     let day = d.day as u64;
@@ -156,7 +156,7 @@ pub fn words_of(r: Record) -> Words
 // The sixteen bytes of four numbers.
 pub fn put_words(bytes: &mut [u8], w: Words)
     requires { length bytes.old ≡ 16 }
-    ensures { bytes.new ≡ fourWords w.mark w.low w.mid w.high }
+    ensures { bytes.new ≡ four_words w.mark w.low w.mid w.high }
 {
     little_endian::store2(bytes, 0, w.mark);
     little_endian::store2(bytes, 2, w.low);
@@ -166,7 +166,7 @@ pub fn put_words(bytes: &mut [u8], w: Words)
 
 // 0 is NaN and 2 is -Infinity; any other number is taken for Infinity, and not tested here.
 fn not_finite(mid: u64) -> Number
-    ensures { result ≡ notFinite mid }
+    ensures { result ≡ not_finite mid }
 {
     if mid == 0 {
         return Number::NotANumber;
@@ -180,7 +180,7 @@ fn not_finite(mid: u64) -> Number
 // The year is in bytes 2-3, the month in byte 4, the day in byte 5.
 fn date_of(low: u64, mid: u64) -> Date
     requires { low < 2 ^ 16 }
-    ensures { result ≡ dateOf low mid }
+    ensures { result ≡ date_of low mid }
 {
     Date {
         year: low as u16,
@@ -191,7 +191,7 @@ fn date_of(low: u64, mid: u64) -> Date
 
 // The container with these four numbers; null where the mark is no container's.
 fn container_of(w: Words) -> Record
-    ensures { result ≡ containerOf w.mark w.mid w.high }
+    ensures { result ≡ container_of w.mark w.mid w.high }
 {
     let mark = w.mark;
     let count = w.mid as usize;
@@ -208,7 +208,7 @@ fn container_of(w: Words) -> Record
 // The time with these four numbers, or a container.
 fn time_of(w: Words) -> Record
     requires { Loaded w }
-    ensures { result ≡ timeOf w.mark w.low w.mid w.high }
+    ensures { result ≡ time_of w.mark w.low w.mid w.high }
 {
     let mark = w.mark;
     let low = w.low;
@@ -259,7 +259,7 @@ fn bytes_of(w: Words) -> Record
 // The record with these four numbers, if there is one; what they must be beside the mark is not tested here.
 fn record_of(w: Words) -> Record
     requires { Loaded w }
-    ensures { result ≡ onlyRecord w }
+    ensures { result ≡ only_record w }
 {
     let mark = w.mark;
     let low = w.low;
@@ -285,7 +285,7 @@ fn record_of(w: Words) -> Record
 // callers. The last answer has a local of its own, so that the others need no place in memory.
 fn common_record(w: Words) -> Record
     requires { Loaded w }
-    ensures { result ≡ onlyRecord w }
+    ensures { result ≡ only_record w }
 {
     let mark = w.mark;
     let low = w.low;
@@ -390,7 +390,7 @@ fn shape_of(w: Words) -> Shape
 // The four numbers in the sixteen bytes from the place `at`.
 pub fn words_at(tape: &[u8], at: usize) -> Words
     requires { at + 16 ≤ length tape.now }
-    ensures { result ≡ wordsAt tape.now at }
+    ensures { result ≡ words_at tape.now at }
 {
     let mark = little_endian::load2(tape, at);
     let low = little_endian::load2(tape, at + 2);
@@ -407,7 +407,7 @@ pub fn words_at(tape: &[u8], at: usize) -> Words
 // What stands in the sixteen bytes from the place `at`.
 pub fn shape_at(tape: &[u8], at: usize) -> Shape
     requires { at + 16 ≤ length tape.now }
-    ensures { Shaped (wordsAt tape.now at) result }
+    ensures { Shaped (words_at tape.now at) result }
 {
     shape_of(words_at(tape, at))
 }
@@ -415,7 +415,7 @@ pub fn shape_at(tape: &[u8], at: usize) -> Shape
 // The one record that may stand in the sixteen bytes from the place `at`.
 pub fn only_at(tape: &[u8], at: usize) -> Record
     requires { at + 16 ≤ length tape.now }
-    ensures { result ≡ onlyRecord (wordsAt tape.now at) }
+    ensures { result ≡ only_record (words_at tape.now at) }
 {
     common_record(words_at(tape, at))
 }

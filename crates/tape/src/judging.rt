@@ -5,13 +5,13 @@ ghost use Rattle.std.specs.Prelude.{◌≡◌, ◌+◌, ◌≤◌, ◌<◌, ◌^
 ghost use Rattle.std.specs.Int.{w32};
 ghost use Rattle.std.proofs.Common.{to_z};
 ghost use Rattle.rules.specs.Between.Tests.{Decides};
-ghost use Rattle.meaning.specs.Limits.{storeLimit};
+ghost use Rattle.meaning.specs.Limits.{store_limit};
 ghost use Rattle.meaning.specs.Good.{GoodFinite};
-ghost use Rattle.meaning.specs.Look.{wholeRecords, Utf8Inside, Ends};
+ghost use Rattle.meaning.specs.Look.{whole_records, Utf8Inside, Ends};
 ghost use Rattle.tape.specs.declared.judging.Turn.{Turn};
 ghost use Rattle.tape.specs.Between.Judging.{Sized, ended_of, Forms, Judges};
 ghost use Rattle.tape.specs.Between.Shapes.{Loaded};
-ghost use Rattle.tape.specs.Between.Turns.{valueDue, keyDue, counted, passOf, openOf, leafOf, bytesEnd, Tested, LeafIs, TurnIs};
+ghost use Rattle.tape.specs.Between.Turns.{value_due, key_due, counted, pass_of, open_of, leaf_of, bytes_end, Tested, LeafIs, TurnIs};
 
 use crate::{Judged, Looked, Words, fields, four_words, key, little_endian};
 use meaning::{DEPTH_LIMIT, RECORD_LIMIT, RECORD_SIZE, Record, STORE_LIMIT};
@@ -32,7 +32,7 @@ enum Turn {
 
 // A value is due: at the root, in an array, in an object after a key.
 fn value_due(rest: usize) -> bool
-    ensures { result ≡ valueDue rest }
+    ensures { result ≡ value_due rest }
 {
     if rest == 0 {
         return false;
@@ -45,7 +45,7 @@ fn value_due(rest: usize) -> bool
 
 // A key is due: in an object, where no value is.
 fn key_due(rest: usize) -> bool
-    ensures { result ≡ keyDue rest }
+    ensures { result ≡ key_due rest }
 {
     rest % 4 == 1
 }
@@ -63,7 +63,7 @@ fn counted(rest: usize) -> bool
 // Bytes start where those before ended.
 fn pass(length: usize, start: usize, at: usize) -> Turn
     requires { start + length < 2 ^ 64 }
-    ensures { result ≡ passOf length start at }
+    ensures { result ≡ pass_of length start at }
 {
     if start == at {
         return Turn::Pass(at + length);
@@ -73,8 +73,8 @@ fn pass(length: usize, start: usize, at: usize) -> Turn
 
 // A record that is no key and no container, where a value is due.
 fn leaf(r: Record, at: usize) -> Turn
-    requires { bytesEnd r < 2 ^ 64 }
-    ensures { result ≡ leafOf r at }
+    requires { bytes_end r < 2 ^ 64 }
+    ensures { result ≡ leaf_of r at }
 {
     match r {
         Record::Null => Turn::Pass(at),
@@ -94,7 +94,7 @@ fn leaf(r: Record, at: usize) -> Turn
 
 // The same, by its index.
 fn any_leaf(tape: &[u8], store: &[u8], index: usize, at: usize) -> Turn
-    requires { length store.now ≤ storeLimit }
+    requires { length store.now ≤ store_limit }
     ensures { LeafIs tape.now store.now index at result }
 {
     match crate::look(tape, store, index) {
@@ -105,8 +105,8 @@ fn any_leaf(tape: &[u8], store: &[u8], index: usize, at: usize) -> Turn
 
 // A string or a key, where it may stand.
 fn text(w: Words, store: &[u8], at: usize) -> Turn
-    requires { Loaded w × (length store.now ≤ storeLimit) }
-    ensures { Tested ((w.low ≡ 0) × Utf8Inside w.mid w.high store.now) (passOf w.mid w.high at) result }
+    requires { Loaded w × (length store.now ≤ store_limit) }
+    ensures { Tested ((w.low ≡ 0) × Utf8Inside w.mid w.high store.now) (pass_of w.mid w.high at) result }
 {
     if w.low != 0 {
         return Turn::No;
@@ -138,7 +138,7 @@ fn number(w: Words, at: usize) -> Turn
 
 // An array or an object, where a value is due; so much is to come in it.
 fn container(w: Words, index: usize, whole: usize, depth: usize, rest: usize) -> Turn
-    ensures { Tested ((w.low ≡ 0) × Ends w.high index whole) (openOf w.high rest depth) result }
+    ensures { Tested ((w.low ≡ 0) × Ends w.high index whole) (open_of w.high rest depth) result }
 {
     if w.low != 0 {
         return Turn::No;
@@ -156,7 +156,7 @@ fn container(w: Words, index: usize, whole: usize, depth: usize, rest: usize) ->
 // What the record at an index does, where so much is still to come in what is open so deep. The last answer has a local of its
 // own, so that the others need no place in memory.
 fn turn_at(tape: &[u8], store: &[u8], index: usize, rest: usize, at: usize, depth: usize) -> Turn
-    requires { length store.now ≤ storeLimit }
+    requires { length store.now ≤ store_limit }
     ensures { TurnIs tape.now store.now index rest at depth result }
 {
     let whole = tape.len() / RECORD_SIZE;
@@ -221,7 +221,7 @@ fn ended(rest: usize, at: usize, room: usize) -> Judged
 // the innermost in `end` and `rest`, at first the end of all. It stops at the first fault, so each byte of the store is passed at
 // most twice.
 fn records(tape: &[u8], store: &[u8], mut end: usize) -> Judged
-    requires { Sized tape.now store.now × (end ≡ wholeRecords tape.now) }
+    requires { Sized tape.now store.now × (end ≡ whole_records tape.now) }
     ensures { Forms tape.now store.now result }
 {
     let mut ends: [usize; DEPTH_LIMIT] = [0; DEPTH_LIMIT];

@@ -2,7 +2,7 @@
 // in a table. Where it has no slot left, the next pass takes in the keys from there on: each pass is a window.
 ghost use Rattle.std.specs.Prelude.{◌≡◌, ◌≤◌, ◌<◌, ◌^◌, length};
 ghost use Rattle.meaning.specs.Once.{same};
-ghost use Rattle.once.specs.Hash.{hashOf};
+ghost use Rattle.once.specs.Hash.{hash_of};
 ghost use Rattle.tape.specs.Between.Key.{first_of, Standing, SomeKey, SameKey, SlotHolds, SlotIs, Seeks, Repeats, Coming, Notes};
 ghost use Rattle.tape.specs.Between.Key.{Innermost, Walking, Closes, Readied, Steps, Passed, Empty, Windowed, Later};
 
@@ -35,7 +35,7 @@ fn equal(a: &[u8], b: &[u8]) -> bool
 
 // The tag of a key.
 fn tag(key: &[u8], salt: u32) -> u32
-    ensures { result ≡ hashOf salt key.now }
+    ensures { result ≡ hash_of salt key.now }
 {
     let mut h = once::seeded(salt);
     let mut i = 0;

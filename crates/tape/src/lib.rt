@@ -6,8 +6,8 @@ mod key;
 pub mod little_endian;
 
 ghost use Rattle.std.specs.Prelude.{◌≡◌, ◌<◌};
-ghost use Rattle.tape.specs.Between.Putting.{putRecord};
-ghost use Rattle.meaning.specs.Look.{wholeRecords};
+ghost use Rattle.tape.specs.Between.Putting.{put_record};
+ghost use Rattle.meaning.specs.Look.{whole_records};
 ghost use Rattle.tape.specs.Looking.{Looks};
 ghost use Rattle.tape.specs.Between.Standing.{RecordIs};
 
@@ -47,7 +47,7 @@ pub enum Judged {
 // Put the record at this index, where the tape has sixteen bytes for it; else nothing is written, so that measuring is the
 // same walk over empty buffers.
 pub fn put_record(tape: &mut [u8], index: usize, r: Record)
-    ensures { tape.new ≡ putRecord tape.old index r }
+    ensures { tape.new ≡ put_record tape.old index r }
 {
     let whole = tape.len() / RECORD_SIZE;
     if index < whole {
@@ -78,7 +78,7 @@ pub fn look(tape: &[u8], store: &[u8], index: usize) -> Looked
 
 // The record at this index of a well-formed tape. Nothing is tested: it is for callers that know so from `judge`.
 pub fn record_at(tape: &[u8], index: usize) -> Record
-    requires { index < wholeRecords tape.now }
+    requires { index < whole_records tape.now }
     ensures { RecordIs tape.now index result }
 {
     four_words::only_at(tape, index * RECORD_SIZE)

@@ -11,22 +11,22 @@ use Rattle.meaning.specs.declared.Number.{Number}
 use Rattle.meaning.specs.declared.Time.{Time}
 use Rattle.meaning.specs.declared.Record.{Record}
 use Rattle.meaning.specs.Letters.{letters}
-use Rattle.meaning.specs.Canonical.{numberText, quoted, binaryText, timeText}
-use Rattle.meaning.proofs.Quotes.{pairs-length}
+use Rattle.meaning.specs.Canonical.{number_text, quoted, binary_text, time_text}
+use Rattle.meaning.proofs.Quotes.{pairs_length}
 use Rattle.writer.specs.Between.Walk.{part, printed, closes, follows, share}
-use Rattle.writer.proofs.PiecesLaws.{binary-is}
+use Rattle.writer.proofs.PiecesLaws.{binary_is}
 
-pub closes-none : (end i : ℕ) → end ≡ i + 1 → closes end i ≡ 2
+pub closes_none : (end i : ℕ) → end ≡ i + 1 → closes end i ≡ 2
 unfolding closes
-closes-none end i e = rw (eq-eqb end (i + 1) e)
+closes_none end i e = rw (eq-eqb end (i + 1) e)
 
-pub closes-some : (end i : ℕ) → (end ≡ i + 1 → ⊥) → closes end i ≡ 1
+pub closes_some : (end i : ℕ) → (end ≡ i + 1 → ⊥) → closes end i ≡ 1
 unfolding closes
-closes-some end i h = rw (ne_eqb end (i + 1) h)
+closes_some end i h = rw (ne_eqb end (i + 1) h)
 
-pub closes-few : (end i : ℕ) → closes end i ≤ 2
+pub closes_few : (end i : ℕ) → closes end i ≤ 2
 unfolding closes
-closes-few end i = go (eqb end (i + 1))
+closes_few end i = go (eqb end (i + 1))
   where
     go : (t : Bool) → cond t 2 1 ≤ 2
     go true = omega arith
@@ -36,56 +36,56 @@ module _ {r : Record} (store : List ℕ) where
   of : {s : Record} → r ≡ s → printed r store ≡ printed s store
   of {s} e = ap (λ (x : Record). printed x store) e
 
-  pub null-printed : r ≡ Record.Null → printed r store ≡ letters "null"
+  pub null_printed : r ≡ Record.Null → printed r store ≡ letters "null"
   unfolding printed
-  null-printed e = of e
+  null_printed e = of e
 
-  pub bool-printed : {b : Bool} → r ≡ Record.Bool b → printed r store ≡ printed (Record.Bool b) []
+  pub bool_printed : {b : Bool} → r ≡ Record.Bool b → printed r store ≡ printed (Record.Bool b) []
   unfolding printed
-  bool-printed e = of e
+  bool_printed e = of e
 
-  pub number-printed : {n : Number} → r ≡ Record.Number n → printed r store ≡ numberText n
+  pub number_printed : {n : Number} → r ≡ Record.Number n → printed r store ≡ number_text n
   unfolding printed
-  number-printed e = of e
+  number_printed e = of e
 
-  pub string-printed : {size start : ℕ} → r ≡ Record.Str size start → printed r store ≡ quoted (part store size start)
+  pub string_printed : {size start : ℕ} → r ≡ Record.Str size start → printed r store ≡ quoted (part store size start)
   unfolding printed
-  string-printed e = of e
+  string_printed e = of e
 
-  pub key-printed : {size start : ℕ} → r ≡ Record.Key size start → printed r store ≡ quoted (part store size start) ++ letters ":"
+  pub key_printed : {size start : ℕ} → r ≡ Record.Key size start → printed r store ≡ quoted (part store size start) ++ letters ":"
   unfolding printed
-  key-printed e = of e
+  key_printed e = of e
 
-  pub binary-printed : {size start : ℕ} → r ≡ Record.Bin size start → printed r store ≡ binaryText (part store size start)
+  pub binary_printed : {size start : ℕ} → r ≡ Record.Bin size start → printed r store ≡ binary_text (part store size start)
   unfolding printed
-  binary-printed e = of e
+  binary_printed e = of e
 
-  pub time-printed : {t : Time} → r ≡ Record.Time t → printed r store ≡ timeText t
+  pub time_printed : {t : Time} → r ≡ Record.Time t → printed r store ≡ time_text t
   unfolding printed
-  time-printed e = of e
+  time_printed e = of e
 
-  pub array-printed : {count end : ℕ} → r ≡ Record.Array count end → printed r store ≡ letters "["
+  pub array_printed : {count end : ℕ} → r ≡ Record.Array count end → printed r store ≡ letters "["
   unfolding printed
-  array-printed e = of e
+  array_printed e = of e
 
-  pub object-printed : {count end : ℕ} → r ≡ Record.Object count end → printed r store ≡ letters "{"
+  pub object_printed : {count end : ℕ} → r ≡ Record.Object count end → printed r store ≡ letters "{"
   unfolding printed
-  object-printed e = of e
+  object_printed e = of e
 
-pub true-printed : (b : Bool) → b ≡ true → printed (Record.Bool b) [] ≡ letters "true"
+pub true_printed : (b : Bool) → b ≡ true → printed (Record.Bool b) [] ≡ letters "true"
 unfolding printed
-true-printed b e = ap (λ (x : Bool). printed (Record.Bool x) []) e
+true_printed b e = ap (λ (x : Bool). printed (Record.Bool x) []) e
 
-pub false-printed : (b : Bool) → b ≡ false → printed (Record.Bool b) [] ≡ letters "false"
+pub false_printed : (b : Bool) → b ≡ false → printed (Record.Bool b) [] ≡ letters "false"
 unfolding printed
-false-printed b e = ap (λ (x : Bool). printed (Record.Bool x) []) e
+false_printed b e = ap (λ (x : Bool). printed (Record.Bool x) []) e
 
 -- a part of the store has the bytes that it says
 pub part_length : (store : List ℕ) (size start : ℕ) → start + size ≤ length store → length (part store size start) ≡ size
 part_length store size start h = length-take size (drop start store) ∙ omega (arith, length-drop start store)
 
-pub binary-length : (s : List ℕ) → length (binaryText s) ≡ 2 * length s + 1
-binary-length s = ap length (binary-is s) ∙ omega (arith, pairs-length s)
+pub binary_length : (s : List ℕ) → length (binary_text s) ≡ 2 * length s + 1
+binary_length s = ap length (binary_is s) ∙ omega (arith, pairs_length s)
 
 -- ---- shares
 
@@ -93,38 +93,38 @@ module _ {r : Record} (i : ℕ) (store : List ℕ) where
   same : {s : Record} → r ≡ s → share r i store ≡ share s i store
   same {s} e = ap (λ (x : Record). share x i store) e
 
-  pub null-share : r ≡ Record.Null → share r i store ≡ 5
+  pub null_share : r ≡ Record.Null → share r i store ≡ 5
   unfolding printed follows
-  null-share e = same e
+  null_share e = same e
 
-  pub bool-share : {b : Bool} → r ≡ Record.Bool b → share r i store ≡ length (printed (Record.Bool b) []) + 1
+  pub bool_share : {b : Bool} → r ≡ Record.Bool b → share r i store ≡ length (printed (Record.Bool b) []) + 1
   unfolding printed follows
-  bool-share e = same e
+  bool_share e = same e
 
-  pub number-share : {n : Number} → r ≡ Record.Number n → share r i store ≡ length (numberText n) + 1
+  pub number_share : {n : Number} → r ≡ Record.Number n → share r i store ≡ length (number_text n) + 1
   unfolding printed follows
-  number-share e = same e
+  number_share e = same e
 
-  pub string-share : {size start : ℕ} → r ≡ Record.Str size start → share r i store ≡ length (quoted (part store size start)) + 1
+  pub string_share : {size start : ℕ} → r ≡ Record.Str size start → share r i store ≡ length (quoted (part store size start)) + 1
   unfolding printed follows
-  string-share e = same e
+  string_share e = same e
 
-  pub key-share : {size start : ℕ} → r ≡ Record.Key size start → share r i store ≡ length (quoted (part store size start)) + 1
+  pub key_share : {size start : ℕ} → r ≡ Record.Key size start → share r i store ≡ length (quoted (part store size start)) + 1
   unfolding printed follows
-  key-share {size} {start} e = same e ∙ omega (arith, length-append (quoted (part store size start)) (letters ":"))
+  key_share {size} {start} e = same e ∙ omega (arith, length-append (quoted (part store size start)) (letters ":"))
 
-  pub binary-share : {size start : ℕ} → r ≡ Record.Bin size start → start + size ≤ length store → share r i store ≡ 2 * size + 2
+  pub binary_share : {size start : ℕ} → r ≡ Record.Bin size start → start + size ≤ length store → share r i store ≡ 2 * size + 2
   unfolding printed follows
-  binary-share {size} {start} e h = same e ∙ omega (arith, binary-length (part store size start), part_length store size start h)
+  binary_share {size} {start} e h = same e ∙ omega (arith, binary_length (part store size start), part_length store size start h)
 
-  pub time-share : {t : Time} → r ≡ Record.Time t → share r i store ≡ length (timeText t) + 1
+  pub time_share : {t : Time} → r ≡ Record.Time t → share r i store ≡ length (time_text t) + 1
   unfolding printed follows
-  time-share e = same e
+  time_share e = same e
 
-  pub array-share : {count end : ℕ} → r ≡ Record.Array count end → share r i store ≡ 1 + closes end i
+  pub array_share : {count end : ℕ} → r ≡ Record.Array count end → share r i store ≡ 1 + closes end i
   unfolding printed follows
-  array-share e = same e
+  array_share e = same e
 
-  pub object-share : {count end : ℕ} → r ≡ Record.Object count end → share r i store ≡ 1 + closes end i
+  pub object_share : {count end : ℕ} → r ≡ Record.Object count end → share r i store ≡ 1 + closes end i
   unfolding printed follows
-  object-share e = same e
+  object_share e = same e

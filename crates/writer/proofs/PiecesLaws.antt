@@ -8,15 +8,15 @@ use lib.IntN.{ℤ, pos, negsuc, nat_abs}
 use lib.ListN.{length, get_or, take, drop, length-append}
 use borrow.Author.Tests.{lt-ltb, le-ltb, eq-eqb, ne_eqb}
 use Rattle.meaning.specs.Letters.{letters, ch}
-use Rattle.meaning.specs.Limits.{fractionDigits, second, storeLimit}
+use Rattle.meaning.specs.Limits.{fraction_digits, second, store_limit}
 use Rattle.meaning.specs.declared.Number.TheVariants.{Finite, NotANumber, Infinite}
 use Rattle.meaning.specs.declared.Date.{Date}
 use Rattle.meaning.specs.declared.Time.TheVariants.{LocalDate, LocalTime, LocalDateTime, OffsetDateTime}
-use Rattle.meaning.specs.Canonical.{decimal, fixed, trimmed, hexPair, escaped, escapes, quoted, hexPairs, binaryText, minusText, minutesText, powerText}
-use Rattle.meaning.specs.Canonical.{finiteText, numberText, offsetText, fractionText, dateText, clockText, timeText}
-use Rattle.meaning.proofs.Digits.{fixed-length, trimmed-less}
-use Rattle.meaning.proofs.Text.{date-length}
-use Rattle.meaning.proofs.Quotes.{escaped-plain, escaped-low, escapes-more, escapes-length, quoted-length}
+use Rattle.meaning.specs.Canonical.{decimal, fixed, trimmed, hex_pair, escaped, escapes, quoted, hex_pairs, binary_text, minus_text, minutes_text, power_text}
+use Rattle.meaning.specs.Canonical.{finite_text, number_text, offset_text, fraction_text, date_text, clock_text, time_text}
+use Rattle.meaning.proofs.Digits.{fixed_length, trimmed_less}
+use Rattle.meaning.proofs.Text.{date_length}
+use Rattle.meaning.proofs.Quotes.{escaped_plain, escaped_low, escapes_more, escapes_length, quoted_length}
 use Rattle.writer.specs.declared.Signed.{Signed}
 use Rattle.writer.specs.Between.Pieces.{negative, SignAndSize, Lettered}
 
@@ -25,106 +25,106 @@ length_three a b c = simp length-append
 
 -- ---- numbers
 
-pub finite-text : (minus : Bool) (c : ℕ) (p : ℤ) → numberText (Finite minus c p) ≡ minusText minus ++ finiteText c p
-unfolding numberText
-finite-text minus c p = refl
+pub finite_text_lem : (minus : Bool) (c : ℕ) (p : ℤ) → number_text (Finite minus c p) ≡ minus_text minus ++ finite_text c p
+unfolding number_text
+finite_text_lem minus c p = refl
 
-pub nan-text : numberText NotANumber ≡ letters "NaN"
-unfolding numberText
-nan-text = refl
+pub nan_text : number_text NotANumber ≡ letters "NaN"
+unfolding number_text
+nan_text = refl
 
-pub infinite-text : (minus : Bool) → numberText (Infinite minus) ≡ minusText minus ++ letters "Infinity"
-unfolding numberText
-infinite-text minus = refl
+pub infinite_text : (minus : Bool) → number_text (Infinite minus) ≡ minus_text minus ++ letters "Infinity"
+unfolding number_text
+infinite_text minus = refl
 
 -- ---- powers
 
-pub power-none : (p : ℤ) → nat_abs p ≡ 0 → powerText p ≡ []
-unfolding powerText
-power-none (pos zero) e = refl
-power-none (pos (suc n)) e = absurd (omega arith)
-power-none (negsuc n) e = absurd (omega arith)
+pub power_none : (p : ℤ) → nat_abs p ≡ 0 → power_text p ≡ []
+unfolding power_text
+power_none (pos zero) e = refl
+power_none (pos (suc n)) e = absurd (omega arith)
+power_none (negsuc n) e = absurd (omega arith)
 
-pub power-some : (p : ℤ) → (nat_abs p ≡ 0 → ⊥) → powerText p ≡ letters "e" ++ minusText (negative p) ++ decimal (nat_abs p)
-unfolding powerText
-power-some (pos zero) h = absurd (h refl)
-power-some (pos (suc n)) h = refl
-power-some (negsuc n) h = refl
+pub power_some : (p : ℤ) → (nat_abs p ≡ 0 → ⊥) → power_text p ≡ letters "e" ++ minus_text (negative p) ++ decimal (nat_abs p)
+unfolding power_text
+power_some (pos zero) h = absurd (h refl)
+power_some (pos (suc n)) h = refl
+power_some (negsuc n) h = refl
 
 -- by the sign and the size that were made of it
-pub power-at-zero : (p : ℤ) (r : Signed) → SignAndSize p r → r.size ≡ 0 → powerText p ≡ []
-power-at-zero p r s e = power-none p (sym s.size ∙ e)
+pub power_at_zero : (p : ℤ) (r : Signed) → SignAndSize p r → r.size ≡ 0 → power_text p ≡ []
+power_at_zero p r s e = power_none p (sym s.size ∙ e)
 
-pub power-split : (p : ℤ) (r : Signed) → SignAndSize p r → (r.size ≡ 0 → ⊥) → powerText p ≡ letters "e" ++ minusText r.minus ++ decimal r.size
-power-split p r s h =
-    power-some p (λ e. h (s.size ∙ e))
-    ∙ ap (λ (b : Bool). letters "e" ++ minusText b ++ decimal (nat_abs p)) (sym s.sign)
-    ∙ ap (λ (n : ℕ). letters "e" ++ minusText r.minus ++ decimal n) (sym s.size)
+pub power_split : (p : ℤ) (r : Signed) → SignAndSize p r → (r.size ≡ 0 → ⊥) → power_text p ≡ letters "e" ++ minus_text r.minus ++ decimal r.size
+power_split p r s h =
+    power_some p (λ e. h (s.size ∙ e))
+    ∙ ap (λ (b : Bool). letters "e" ++ minus_text b ++ decimal (nat_abs p)) (sym s.sign)
+    ∙ ap (λ (n : ℕ). letters "e" ++ minus_text r.minus ++ decimal n) (sym s.size)
 
 -- ---- offsets
 
-pub minutes-length : (n : ℕ) → length (minutesText n) ≡ 5
-minutes-length n = simp (length-append, fixed-length)
+pub minutes_length : (n : ℕ) → length (minutes_text n) ≡ 5
+minutes_length n = simp (length-append, fixed_length)
 
-pub offset-none : (z : ℤ) → nat_abs z ≡ 0 → offsetText z ≡ letters "Z"
-unfolding offsetText
-offset-none (pos zero) e = refl
-offset-none (pos (suc n)) e = absurd (omega arith)
-offset-none (negsuc n) e = absurd (omega arith)
+pub offset_none : (z : ℤ) → nat_abs z ≡ 0 → offset_text z ≡ letters "Z"
+unfolding offset_text
+offset_none (pos zero) e = refl
+offset_none (pos (suc n)) e = absurd (omega arith)
+offset_none (negsuc n) e = absurd (omega arith)
 
-pub offset-minus : (z : ℤ) → (nat_abs z ≡ 0 → ⊥) → negative z ≡ true → offsetText z ≡ letters "-" ++ minutesText (nat_abs z)
-unfolding offsetText
-offset-minus (pos n) h e = let x : ◌≡◌ {A = ℕ} 0 1 = cc in absurd (omega arith)
-offset-minus (negsuc n) h e = refl
+pub offset_minus : (z : ℤ) → (nat_abs z ≡ 0 → ⊥) → negative z ≡ true → offset_text z ≡ letters "-" ++ minutes_text (nat_abs z)
+unfolding offset_text
+offset_minus (pos n) h e = let x : ◌≡◌ {A = ℕ} 0 1 = cc in absurd (omega arith)
+offset_minus (negsuc n) h e = refl
 
-pub offset-plus : (z : ℤ) → (nat_abs z ≡ 0 → ⊥) → negative z ≡ false → offsetText z ≡ letters "+" ++ minutesText (nat_abs z)
-unfolding offsetText
-offset-plus (pos zero) h e = absurd (h refl)
-offset-plus (pos (suc n)) h e = refl
-offset-plus (negsuc n) h e = let x : ◌≡◌ {A = ℕ} 0 1 = cc in absurd (omega arith)
+pub offset_plus : (z : ℤ) → (nat_abs z ≡ 0 → ⊥) → negative z ≡ false → offset_text z ≡ letters "+" ++ minutes_text (nat_abs z)
+unfolding offset_text
+offset_plus (pos zero) h e = absurd (h refl)
+offset_plus (pos (suc n)) h e = refl
+offset_plus (negsuc n) h e = let x : ◌≡◌ {A = ℕ} 0 1 = cc in absurd (omega arith)
 
 module _ (z : ℤ) (r : Signed) (s : SignAndSize z r) where
-  pub offset-at-zero : r.size ≡ 0 → offsetText z ≡ letters "Z"
-  offset-at-zero e = offset-none z (sym s.size ∙ e)
+  pub offset_at_zero : r.size ≡ 0 → offset_text z ≡ letters "Z"
+  offset_at_zero e = offset_none z (sym s.size ∙ e)
 
-  pub offset-below : (r.size ≡ 0 → ⊥) → r.minus ≡ true → offsetText z ≡ letters "-" ++ minutesText r.size
-  offset-below h e =
-      offset-minus z (λ g. h (s.size ∙ g)) (sym s.sign ∙ e) ∙ ap (λ (n : ℕ). letters "-" ++ minutesText n) (sym s.size)
+  pub offset_below : (r.size ≡ 0 → ⊥) → r.minus ≡ true → offset_text z ≡ letters "-" ++ minutes_text r.size
+  offset_below h e =
+      offset_minus z (λ g. h (s.size ∙ g)) (sym s.sign ∙ e) ∙ ap (λ (n : ℕ). letters "-" ++ minutes_text n) (sym s.size)
 
-  pub offset-above : (r.size ≡ 0 → ⊥) → r.minus ≡ false → offsetText z ≡ letters "+" ++ minutesText r.size
-  offset-above h e =
-      offset-plus z (λ g. h (s.size ∙ g)) (sym s.sign ∙ e) ∙ ap (λ (n : ℕ). letters "+" ++ minutesText n) (sym s.size)
+  pub offset_above : (r.size ≡ 0 → ⊥) → r.minus ≡ false → offset_text z ≡ letters "+" ++ minutes_text r.size
+  offset_above h e =
+      offset_plus z (λ g. h (s.size ∙ g)) (sym s.sign ∙ e) ∙ ap (λ (n : ℕ). letters "+" ++ minutes_text n) (sym s.size)
 
-  pub offset-signed : (r.size ≡ 0 → ⊥) → length (offsetText z) ≡ 6
-  offset-signed h = go r.minus refl
+  pub offset_signed : (r.size ≡ 0 → ⊥) → length (offset_text z) ≡ 6
+  offset_signed h = go r.minus refl
     where
-      go : (b : Bool) → r.minus ≡ b → length (offsetText z) ≡ 6
-      go true e = ap length (offset-below h e) ∙ omega (arith, minutes-length r.size)
-      go false e = ap length (offset-above h e) ∙ omega (arith, minutes-length r.size)
+      go : (b : Bool) → r.minus ≡ b → length (offset_text z) ≡ 6
+      go true e = ap length (offset_below h e) ∙ omega (arith, minutes_length r.size)
+      go false e = ap length (offset_above h e) ∙ omega (arith, minutes_length r.size)
 
 -- ---- fractions
 
-pub fraction-none : (n : ℕ) → n ≡ 0 → fractionText n ≡ []
-unfolding fractionText
-fraction-none n e = simp (eq-eqb n 0 e)
+pub fraction_none : (n : ℕ) → n ≡ 0 → fraction_text n ≡ []
+unfolding fraction_text
+fraction_none n e = simp (eq-eqb n 0 e)
 
-pub fraction-some : (n : ℕ) → (n ≡ 0 → ⊥) → fractionText n ≡ letters "." ++ trimmed fractionDigits n
-unfolding fractionText
-fraction-some n h = simp (ne_eqb n 0 h)
+pub fraction_some : (n : ℕ) → (n ≡ 0 → ⊥) → fraction_text n ≡ letters "." ++ trimmed fraction_digits n
+unfolding fraction_text
+fraction_some n h = simp (ne_eqb n 0 h)
 
 -- the last digit is not 0: nothing is cut
-pub trimmed-kept : (w n : ℕ) → 0 < w → (n % 10 ≡ 0 → ⊥) → trimmed w n ≡ fixed w n
+pub trimmed_kept : (w n : ℕ) → 0 < w → (n % 10 ≡ 0 → ⊥) → trimmed w n ≡ fixed w n
 unfolding trimmed
-trimmed-kept zero n p h = absurd (omega arith)
-trimmed-kept (suc w) n p h = simp (ne_eqb (n % 10) 0 h)
+trimmed_kept zero n p h = absurd (omega arith)
+trimmed_kept (suc w) n p h = simp (ne_eqb (n % 10) 0 h)
 
-pub trimmed-cut : (w n : ℕ) → 0 < w → n % 10 ≡ 0 → trimmed w n ≡ trimmed (w - 1) (n / 10)
-trimmed-cut zero n p h = absurd (omega arith)
-trimmed-cut (suc w) n p h = let z : w ≡ suc w - 1 = omega arith in trimmed-less w n h ∙ ap (λ (k : ℕ). trimmed k (n / 10)) z
+pub trimmed_cut : (w n : ℕ) → 0 < w → n % 10 ≡ 0 → trimmed w n ≡ trimmed (w - 1) (n / 10)
+trimmed_cut zero n p h = absurd (omega arith)
+trimmed_cut (suc w) n p h = let z : w ≡ suc w - 1 = omega arith in trimmed_less w n h ∙ ap (λ (k : ℕ). trimmed k (n / 10)) z
 
-pub trimmed-zero : (n m : ℕ) → trimmed 0 n ≡ fixed 0 m
+pub trimmed_zero : (n m : ℕ) → trimmed 0 n ≡ fixed 0 m
 unfolding trimmed fixed
-trimmed-zero n m = refl
+trimmed_zero n m = refl
 
 -- ---- escapes
 
@@ -133,95 +133,95 @@ pub data Short : ℕ → ℕ → Type 0 where
   quote : Short (ch "\"") (ch "\"")
   backslash : Short (ch "\\") (ch "\\")
   backspace : Short (ch "\u{8}") (ch "b")
-  form-feed : Short (ch "\u{c}") (ch "f")
-  line-feed : Short (ch "\n") (ch "n")
+  form_feed : Short (ch "\u{c}") (ch "f")
+  line_feed : Short (ch "\n") (ch "n")
   return : Short (ch "\r") (ch "r")
   tab : Short (ch "\t") (ch "t")
 
-short-text : {c r : ℕ} → Short c r → (escaped c ≡ letters "\\" ++ (r ∷ [])) × (0 < r)
+short_text : {c r : ℕ} → Short c r → (escaped c ≡ letters "\\" ++ (r ∷ [])) × (0 < r)
 unfolding escaped
-short-text quote = (refl, omega arith)
-short-text backslash = (refl, omega arith)
-short-text backspace = (refl, omega arith)
-short-text form-feed = (refl, omega arith)
-short-text line-feed = (refl, omega arith)
-short-text return = (refl, omega arith)
-short-text tab = (refl, omega arith)
+short_text quote = (refl, omega arith)
+short_text backslash = (refl, omega arith)
+short_text backspace = (refl, omega arith)
+short_text form_feed = (refl, omega arith)
+short_text line_feed = (refl, omega arith)
+short_text return = (refl, omega arith)
+short_text tab = (refl, omega arith)
 
-pub lettered-short : {c r : ℕ} (b : ℕ) → Short c r → b ≡ c → Lettered b r
-lettered-short {c} {r} b s e =
-    let t = short-text s in
+pub lettered_short : {c r : ℕ} (b : ℕ) → Short c r → b ≡ c → Lettered b r
+lettered_short {c} {r} b s e =
+    let t = short_text s in
     record { short = λ g. ap escaped e ∙ t.0; other = λ g. absurd (omega (arith, t.1)) }
 
-pub lettered-plain : (b : ℕ) → (b ≡ ch "\"" → ⊥) → (b ≡ ch "\\" → ⊥) → ch " " ≤ b → Lettered b 0
-lettered-plain b q s h = record { short = λ g. absurd (g refl); other = λ g. escaped-plain b q s h ∙ simp (le-ltb b (ch " ") h) }
+pub lettered_plain : (b : ℕ) → (b ≡ ch "\"" → ⊥) → (b ≡ ch "\\" → ⊥) → ch " " ≤ b → Lettered b 0
+lettered_plain b q s h = record { short = λ g. absurd (g refl); other = λ g. escaped_plain b q s h ∙ simp (le-ltb b (ch " ") h) }
 
-pub lettered-low : (b : ℕ) → (b ≡ ch "\u{8}" → ⊥) → (b ≡ ch "\u{c}" → ⊥) → (b ≡ ch "\n" → ⊥) → (b ≡ ch "\r" → ⊥) → (b ≡ ch "\t" → ⊥) → b < ch " "
+pub lettered_low : (b : ℕ) → (b ≡ ch "\u{8}" → ⊥) → (b ≡ ch "\u{c}" → ⊥) → (b ≡ ch "\n" → ⊥) → (b ≡ ch "\r" → ⊥) → (b ≡ ch "\t" → ⊥) → b < ch " "
     → Lettered b 0
-lettered-low b h1 h2 h3 h4 h5 h =
-    record { short = λ g. absurd (g refl); other = λ g. escaped-low b h1 h2 h3 h4 h5 h ∙ simp (lt-ltb b (ch " ") h) }
+lettered_low b h1 h2 h3 h4 h5 h =
+    record { short = λ g. absurd (g refl); other = λ g. escaped_low b h1 h2 h3 h4 h5 h ∙ simp (lt-ltb b (ch " ") h) }
 
 module _ (b r : ℕ) (l : Lettered b r) (z : r ≡ 0) where
-  pub low-text : b < ch " " → escaped b ≡ letters "\\u00" ++ hexPair b
-  low-text h = l.other z ∙ simp (lt-ltb b (ch " ") h)
+  pub low_text : b < ch " " → escaped b ≡ letters "\\u00" ++ hex_pair b
+  low_text h = l.other z ∙ simp (lt-ltb b (ch " ") h)
 
-  pub plain-text : ch " " ≤ b → escaped b ≡ b ∷ []
-  plain-text h = l.other z ∙ simp (le-ltb b (ch " ") h)
+  pub plain_text : ch " " ≤ b → escaped b ≡ b ∷ []
+  plain_text h = l.other z ∙ simp (le-ltb b (ch " ") h)
 
 -- ---- strings and binary, from one byte to the next
 
-pub count-more : (s : List ℕ) (i : ℕ) → i < length s → length (escapes (drop i s)) ≡ length (escaped (get_or s i 0)) + length (escapes (drop (i + 1) s))
-count-more s i h = ap length (escapes-more s i h) ∙ length-append (escaped (get_or s i 0)) (escapes (drop (i + 1) s))
+pub count_more : (s : List ℕ) (i : ℕ) → i < length s → length (escapes (drop i s)) ≡ length (escaped (get_or s i 0)) + length (escapes (drop (i + 1) s))
+count_more s i h = ap length (escapes_more s i h) ∙ length-append (escaped (get_or s i 0)) (escapes (drop (i + 1) s))
 
-pub quoted-small : (s : List ℕ) → length s ≤ storeLimit → length (quoted s) < 2 ^ 30
-quoted-small s h = omega (arith, quoted-length s, escapes-length s)
+pub quoted_small : (s : List ℕ) → length s ≤ store_limit → length (quoted s) < 2 ^ 30
+quoted_small s h = omega (arith, quoted_length s, escapes_length s)
 
-pub quoted-parts : (s : List ℕ) → quoted s ≡ letters "\"" ++ escapes s ++ letters "\""
+pub quoted_parts : (s : List ℕ) → quoted s ≡ letters "\"" ++ escapes s ++ letters "\""
 unfolding quoted
-quoted-parts s = refl
+quoted_parts s = refl
 
-pub binary-is : (s : List ℕ) → binaryText s ≡ letters "$" ++ hexPairs s
-unfolding binaryText
-binary-is s = refl
+pub binary_is : (s : List ℕ) → binary_text s ≡ letters "$" ++ hex_pairs s
+unfolding binary_text
+binary_is s = refl
 
 -- a part of the store, by its start and end
-pub part-to : (store : List ℕ) (start size : ℕ) → take (start + size - start) (drop start store) ≡ take size (drop start store)
-part-to store start size = let z : start + size - start ≡ size = omega arith in ap (λ (k : ℕ). take k (drop start store)) z
+pub part_to : (store : List ℕ) (start size : ℕ) → take (start + size - start) (drop start store) ≡ take size (drop start store)
+part_to store start size = let z : start + size - start ≡ size = omega arith in ap (λ (k : ℕ). take k (drop start store)) z
 
 -- ---- dates and times
 
-pub date-parts : (d : Date) → dateText d ≡ fixed 4 d.year ++ letters "-" ++ fixed 2 d.month ++ letters "-" ++ fixed 2 d.day
-unfolding dateText
-date-parts d = refl
+pub date_parts : (d : Date) → date_text d ≡ fixed 4 d.year ++ letters "-" ++ fixed 2 d.month ++ letters "-" ++ fixed 2 d.day
+unfolding date_text
+date_parts d = refl
 
-pub clock-parts : (t : ℕ)
-    → clockText t
+pub clock_parts : (t : ℕ)
+    → clock_text t
     ≡ fixed 2 (t / (60 * 60 * second)) ++ letters ":" ++ fixed 2 (t / (60 * second) % 60) ++ letters ":" ++ fixed 2 (t / second % 60)
-    ++ fractionText (t % second)
-unfolding clockText
-clock-parts t = refl
+    ++ fraction_text (t % second)
+unfolding clock_text
+clock_parts t = refl
 
 module _ (d : Date) (t : ℕ) where
-  pub local-date-time : timeText (LocalDateTime d t) ≡ dateText d ++ letters "T" ++ clockText t
-  unfolding timeText
-  local-date-time = refl
+  pub local_date_time : time_text (LocalDateTime d t) ≡ date_text d ++ letters "T" ++ clock_text t
+  unfolding time_text
+  local_date_time = refl
 
-  pub offset-date-time : (o : ℤ) → timeText (OffsetDateTime d t o) ≡ dateText d ++ letters "T" ++ clockText t ++ offsetText o
-  unfolding timeText
-  offset-date-time o = refl
+  pub offset_date_time : (o : ℤ) → time_text (OffsetDateTime d t o) ≡ date_text d ++ letters "T" ++ clock_text t ++ offset_text o
+  unfolding time_text
+  offset_date_time o = refl
 
-  pub local-date-time-length : length (timeText (LocalDateTime d t)) ≡ 11 + length (clockText t)
-  local-date-time-length = ap length local-date-time ∙ length_three (dateText d) (letters "T") (clockText t) ∙ omega (arith, date-length d)
+  pub local_date_time_length : length (time_text (LocalDateTime d t)) ≡ 11 + length (clock_text t)
+  local_date_time_length = ap length local_date_time ∙ length_three (date_text d) (letters "T") (clock_text t) ∙ omega (arith, date_length d)
 
-  pub offset-date-time-length : (o : ℤ) → length (timeText (OffsetDateTime d t o)) ≡ 11 + length (clockText t) + length (offsetText o)
-  offset-date-time-length o =
-      ap length (offset-date-time o) ∙ length-append (dateText d ++ letters "T" ++ clockText t) (offsetText o)
-      ∙ omega (arith, date-length d, length_three (dateText d) (letters "T") (clockText t))
+  pub offset_date_time_length : (o : ℤ) → length (time_text (OffsetDateTime d t o)) ≡ 11 + length (clock_text t) + length (offset_text o)
+  offset_date_time_length o =
+      ap length (offset_date_time o) ∙ length-append (date_text d ++ letters "T" ++ clock_text t) (offset_text o)
+      ∙ omega (arith, date_length d, length_three (date_text d) (letters "T") (clock_text t))
 
-pub date-alone : (d : Date) → timeText (LocalDate d) ≡ dateText d
-unfolding timeText
-date-alone d = refl
+pub date_alone : (d : Date) → time_text (LocalDate d) ≡ date_text d
+unfolding time_text
+date_alone d = refl
 
-pub clock-alone : (t : ℕ) → timeText (LocalTime t) ≡ clockText t
-unfolding timeText
-clock-alone t = refl
+pub clock_alone : (t : ℕ) → time_text (LocalTime t) ≡ clock_text t
+unfolding time_text
+clock_alone t = refl

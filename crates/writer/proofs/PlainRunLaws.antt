@@ -9,16 +9,16 @@ use native.Mathlib.Omega.{arith}
 use lib.ListN.{length, get_or, take, drop, length-append, length-take, length-drop}
 use Rattle.meaning.specs.Letters.{ch}
 use Rattle.meaning.specs.Canonical.{escaped, escapes}
-use Rattle.meaning.proofs.Quotes.{escaped-plain, escapes-more}
+use Rattle.meaning.proofs.Quotes.{escaped_plain, escapes_more}
 use Rattle.writer.specs.Between.Pieces.{Ease, EaseAll, PlainRun, PlainLast}
 use Rattle.writer.proofs.LaidLaws.{drop_more}
 
 -- ---- one byte
 
-pub ease-of : (b a p q l r : ℕ) → (b < 32 → a ≡ 0) → (b ≡ ch "\"" → p ≡ 0) → (b ≡ ch "\\" → q ≡ 0) → (l ≤ p) × (l ≤ q) → (r ≤ a) × (r ≤ l) → Ease b r
-ease-of b a p q l r low quote slash x y =
+pub ease_of : (b a p q l r : ℕ) → (b < 32 → a ≡ 0) → (b ≡ ch "\"" → p ≡ 0) → (b ≡ ch "\\" → q ≡ 0) → (l ≤ p) × (l ≤ q) → (r ≤ a) × (r ≤ l) → Ease b r
+ease_of b a p q l r low quote slash x y =
     record {
-      plain = λ n. escaped-plain b (λ e. n (omega (arith, quote e))) (λ e. n (omega (arith, slash e)))
+      plain = λ n. escaped_plain b (λ e. n (omega (arith, quote e))) (λ e. n (omega (arith, slash e)))
           (elim (dec_le 32 b) [ yes h ↦ h | no h ↦ absurd (n (omega (arith, low (lt_of_not-le h)))) ]);
     }
 
@@ -38,8 +38,8 @@ all_more s at k least b r d e h =
       ];
     }
 
-pub all-full : (s : List ℕ) (at k r : ℕ) → k ≤ 16 → 16 ≤ k → EaseAll s at k r → EaseAll s at 16 r
-all-full s at k r l h d = let z : k ≡ 16 = omega arith in subst (λ (x : ℕ). EaseAll s at x r) z d
+pub all_full : (s : List ℕ) (at k r : ℕ) → k ≤ 16 → 16 ≤ k → EaseAll s at k r → EaseAll s at 16 r
+all_full s at k r l h d = let z : k ≡ 16 = omega arith in subst (λ (x : ℕ). EaseAll s at x r) z d
 
 -- ---- a run
 
@@ -63,27 +63,27 @@ module _ (s : List ℕ) where
         behind = omega arith;
         within = omega arith;
         each = λ k f g. let z : i ≡ k = omega arith in
-            subst (λ (x : ℕ). escaped (get_or s x 0) ≡ get_or s x 0 ∷ []) z (escaped-plain (get_or s i 0) quote slash low);
+            subst (λ (x : ℕ). escaped (get_or s x 0) ≡ get_or s x 0 ∷ []) z (escaped_plain (get_or s i 0) quote slash low);
       }
       )
 
-  all-at : (at r k : ℕ) → EaseAll s at 16 r → (r ≡ 0 → ⊥) → at ≤ k → k < at + 16 → escaped (get_or s k 0) ≡ get_or s k 0 ∷ []
-  all-at at r k d n f g =
+  all_at : (at r k : ℕ) → EaseAll s at 16 r → (r ≡ 0 → ⊥) → at ≤ k → k < at + 16 → escaped (get_or s k 0) ≡ get_or s k 0 ∷ []
+  all_at at r k d n f g =
       let z : at + (k - at) ≡ k = omega arith in
       subst (λ (x : ℕ). escaped (get_or s x 0) ≡ get_or s x 0 ∷ []) z ((d.each (k - at) (omega arith)).plain n)
 
-  pub run-block : (from i r : ℕ) → PlainRun s from i → 16 ≤ length s - i → EaseAll s i 16 r → (r ≡ 0 → ⊥) → PlainRun s from (i + 16)
-  run-block from i r p h d n =
-      run_join from i (i + 16) p (record { behind = omega arith; within = omega arith; each = λ k f g. all-at i r k d n f g })
+  pub run_block : (from i r : ℕ) → PlainRun s from i → 16 ≤ length s - i → EaseAll s i 16 r → (r ≡ 0 → ⊥) → PlainRun s from (i + 16)
+  run_block from i r p h d n =
+      run_join from i (i + 16) p (record { behind = omega arith; within = omega arith; each = λ k f g. all_at i r k d n f g })
 
   pub last_none : PlainLast s false
   last_none = record { run = λ e. let z : ◌≡◌ {A = ℕ} 0 1 = cc in absurd (omega arith) }
 
   pub last_block : (r : ℕ) {b : Bool} → 16 ≤ length s → EaseAll s (length s - 16) 16 r → (r ≡ 0 → ⊥) → PlainLast s b
-  last_block r h d n = record { run = λ e k f g. all-at (length s - 16) r k d n (omega arith) (omega arith) }
+  last_block r h d n = record { run = λ e k f g. all_at (length s - 16) r k d n (omega arith) (omega arith) }
 
-  pub run-last : (from i : ℕ) {b : Bool} → PlainRun s from i → length s - i < 16 → PlainLast s b → b ≡ true → PlainRun s from (length s)
-  run-last from i p h d e =
+  pub run_last : (from i : ℕ) {b : Bool} → PlainRun s from i → length s - i < 16 → PlainLast s b → b ≡ true → PlainRun s from (length s)
+  run_last from i p h d e =
       run_join from i (length s) p (record { behind = p.within; within = omega arith; each = λ k f g. d.run e k (omega arith) g })
 
   -- ---- its text is itself
@@ -93,19 +93,19 @@ module _ (s : List ℕ) where
   text_of zero i h each = let z : i ≡ i + 0 = omega arith in ap (λ (k : ℕ). escapes (drop k s)) z
   text_of (suc n) i h each =
       let z : i + 1 + n ≡ i + suc n = omega arith in
-      escapes-more s i (omega arith)
+      escapes_more s i (omega arith)
       ∙ ap₂ (λ (x y : List ℕ). x ++ y) (each i (omega arith) (omega arith)) (text_of n (i + 1) (omega arith) (λ k f g. each k (omega arith) (omega arith)))
       ∙ ap (λ (k : ℕ). get_or s i 0 ∷ (take n (drop (i + 1) s) ++ escapes (drop k s))) z
       ∙ ap (λ (l : List ℕ). take (suc n) l ++ escapes (drop (i + suc n) s)) (sym (drop_more s i (omega arith)))
 
   module _ (i j : ℕ) (p : PlainRun s i j) where
-    pub run-text : escapes (drop i s) ≡ take (j - i) (drop i s) ++ escapes (drop j s)
-    run-text =
+    pub run_text : escapes (drop i s) ≡ take (j - i) (drop i s) ++ escapes (drop j s)
+    run_text =
         let z : i + (j - i) ≡ j = omega (arith, p.behind) in
         text_of (j - i) i (omega (arith, p.behind, p.within)) (λ k f g. p.each k f (omega arith))
         ∙ ap (λ (k : ℕ). take (j - i) (drop i s) ++ escapes (drop k s)) z
 
-    pub run-count : length (escapes (drop i s)) ≡ j - i + length (escapes (drop j s))
-    run-count =
-        ap length run-text ∙ length-append (take (j - i) (drop i s)) (escapes (drop j s))
+    pub run_count : length (escapes (drop i s)) ≡ j - i + length (escapes (drop j s))
+    run_count =
+        ap length run_text ∙ length-append (take (j - i) (drop i s)) (escapes (drop j s))
         ∙ omega (arith, length-take (j - i) (drop i s), length-drop i s, p.behind, p.within)

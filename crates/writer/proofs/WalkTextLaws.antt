@@ -9,16 +9,16 @@ use lib.ListN.{length, get_or, take, drop, set, length-append}
 use lib.Seq.{get_or_at, get_or-set_same, get_or-set_other}
 use Rattle.meaning.specs.declared.Record.{Record}
 use Rattle.meaning.specs.Letters.{letters, ch}
-use Rattle.meaning.specs.Limits.{depthLimit}
+use Rattle.meaning.specs.Limits.{depth_limit}
 use Rattle.meaning.specs.Meaning.{Meaning, Meanings, Members, null, bool, number, string, binary, time, array, object, none, more, bare, member}
-use Rattle.meaning.specs.Good.{depth, elementsDepth, membersDepth}
-use Rattle.meaning.specs.Tape.{records, elementsRecords, membersRecords, elementsCount, membersCount, store_of, elementsStore, membersStore, recordsOf}
-use Rattle.meaning.specs.Tape.{elementsOf, members_of, end_of}
-use Rattle.meaning.specs.Canonical.{textWith, canonical, elementsText, membersText, elementsComma, membersComma, quoted, binaryText}
-use Rattle.meaning.proofs.Bytes.{part-is}
-use Rattle.meaning.proofs.Sizes.{most-left, most-right, some-record, elements-length, members-length}
+use Rattle.meaning.specs.Good.{depth, elements_depth, members_depth}
+use Rattle.meaning.specs.Tape.{records, elements_records, members_records, elements_count, members_count, store_of, elements_store, members_store, records_of}
+use Rattle.meaning.specs.Tape.{elements_of, members_of, end_of}
+use Rattle.meaning.specs.Canonical.{text_with, canonical, elements_text, members_text, elements_comma, members_comma, quoted, binary_text}
+use Rattle.meaning.proofs.Bytes.{part_is}
+use Rattle.meaning.proofs.Sizes.{most_left, most_right, some_record, elements_length, members_length}
 use Rattle.writer.specs.declared.Effect.{Effect}
-use Rattle.writer.specs.Between.Walk.{printed, commaText, effect_of}
+use Rattle.writer.specs.Between.Walk.{printed, comma_text, effect_of}
 
 -- the containers around the one that is open: the end of each, and the bracket that closes it
 pub data Stack : Type 0 where
@@ -34,39 +34,39 @@ unfoldable pub frames : ℕ → List ℕ → List ℕ → Stack
 frames zero ends closers = bottom
 frames (suc d) ends closers = within (get_or ends d 0) (get_or closers d 0) (frames d ends closers)
 
-pub frames-height : (d : ℕ) (ends closers : List ℕ) → height (frames d ends closers) ≡ d
+pub frames_height : (d : ℕ) (ends closers : List ℕ) → height (frames d ends closers) ≡ d
 unfolding frames height
-frames-height zero ends closers = refl
-frames-height (suc d) ends closers = omega (arith, frames-height d ends closers)
+frames_height zero ends closers = refl
+frames_height (suc d) ends closers = omega (arith, frames_height d ends closers)
 
-frames-below : (d k : ℕ) (ends closers : List ℕ) (e c : ℕ) → d ≤ k → frames d (set ends k e) (set closers k c) ≡ frames d ends closers
+frames_below : (d k : ℕ) (ends closers : List ℕ) (e c : ℕ) → d ≤ k → frames d (set ends k e) (set closers k c) ≡ frames d ends closers
 unfolding frames
-frames-below zero k ends closers e c h = refl
-frames-below (suc d) k ends closers e c h =
+frames_below zero k ends closers e c h = refl
+frames_below (suc d) k ends closers e c h =
     ap₂ (λ (x y : ℕ). within x y (frames d (set ends k e) (set closers k c))) (get_or-set_other ends k d e 0 (λ z. omega arith))
     (get_or-set_other closers k d c 0 (λ z. omega arith))
-    ∙ ap (within (get_or ends d 0) (get_or closers d 0)) (frames-below d k ends closers e c (omega arith))
+    ∙ ap (within (get_or ends d 0) (get_or closers d 0)) (frames_below d k ends closers e c (omega arith))
 
-pub frames-push : (d : ℕ) (ends closers : List ℕ) (e c : ℕ) → d < length ends → d < length closers
+pub frames_push : (d : ℕ) (ends closers : List ℕ) (e c : ℕ) → d < length ends → d < length closers
     → frames (d + 1) (set ends d e) (set closers d c) ≡ within e c (frames d ends closers)
 unfolding frames
-frames-push d ends closers e c h k =
+frames_push d ends closers e c h k =
     ap (λ (x : ℕ). frames x (set ends d e) (set closers d c)) (add-one d)
     ∙ ap₂ (λ (x y : ℕ). within x y (frames d (set ends d e) (set closers d c))) (get_or-set_same ends d e 0 h) (get_or-set_same closers d c 0 k)
-    ∙ ap (within e c) (frames-below d d ends closers e c (omega arith))
+    ∙ ap (within e c) (frames_below d d ends closers e c (omega arith))
 
-pub frames-pop : (d : ℕ) (ends closers : List ℕ) → 0 < d
+pub frames_pop : (d : ℕ) (ends closers : List ℕ) → 0 < d
     → frames d ends closers ≡ within (get_or ends (d - 1) 0) (get_or closers (d - 1) 0) (frames (d - 1) ends closers)
 unfolding frames
-frames-pop zero ends closers h = absurd (omega arith)
-frames-pop (suc d) ends closers h =
+frames_pop zero ends closers h = absurd (omega arith)
+frames_pop (suc d) ends closers h =
     let z : d ≡ suc d - 1 = omega arith in
     ap (λ (x : ℕ). within (get_or ends x 0) (get_or closers x 0) (frames x ends closers)) z
 
-pub frames-none : (d : ℕ) (ends closers : List ℕ) → d ≡ 0 → frames d ends closers ≡ bottom
+pub frames_none : (d : ℕ) (ends closers : List ℕ) → d ≡ 0 → frames d ends closers ≡ bottom
 unfolding frames
-frames-none zero ends closers e = refl
-frames-none (suc d) ends closers e = absurd (omega arith)
+frames_none zero ends closers e = refl
+frames_none (suc d) ends closers e = absurd (omega arith)
 
 module _ (rs : List Record) (store : List ℕ) where
   -- At record i, a comma due or not, in a container with this end and bracket, in these: the text that comes.
@@ -75,11 +75,11 @@ module _ (rs : List Record) (store : List ℕ) where
     close : {i : ℕ} {comma : Bool} {end closer : ℕ} {around : Stack} {t : List ℕ} (end' closer' : ℕ) (around' : Stack) (u : List ℕ)
         → i ≡ end → around ≡ within end' closer' around' → t ≡ closer ∷ u → Prints i true end' closer' around' u → Prints i comma end closer around t
     pass : {i : ℕ} {comma : Bool} {end closer : ℕ} {around : Stack} {t : List ℕ} (comma' : Bool) (u : List ℕ) → i < end → i < length rs
-        → effect_of (get_or rs i Record.Null) ≡ Effect.Pass comma' → t ≡ commaText comma ++ printed (get_or rs i Record.Null) store ++ u
+        → effect_of (get_or rs i Record.Null) ≡ Effect.Pass comma' → t ≡ comma_text comma ++ printed (get_or rs i Record.Null) store ++ u
         → Prints (i + 1) comma' end closer around u → Prints i comma end closer around t
     enter : {i : ℕ} {comma : Bool} {end closer : ℕ} {around : Stack} {t : List ℕ} (end' closer' : ℕ) (u : List ℕ) → i < end → i < length rs
-        → height around < depthLimit
-        → effect_of (get_or rs i Record.Null) ≡ Effect.Open closer' end' → t ≡ commaText comma ++ printed (get_or rs i Record.Null) store ++ u
+        → height around < depth_limit
+        → effect_of (get_or rs i Record.Null) ≡ Effect.Open closer' end' → t ≡ comma_text comma ++ printed (get_or rs i Record.Null) store ++ u
         → Prints (i + 1) false end' closer' (within end closer around) u → Prints i comma end closer around t
 
   -- the record at i
@@ -95,37 +95,37 @@ module _ (rs : List Record) (store : List ℕ) where
       }
 
   passes : (r : Record) (comma comma' : Bool) (i end closer : ℕ) (around : Stack) (u : List ℕ) → Stands i r → i < end → effect_of r ≡ Effect.Pass comma'
-      → Prints (i + 1) comma' end closer around u → Prints i comma end closer around (commaText comma ++ printed r store ++ u)
+      → Prints (i + 1) comma' end closer around u → Prints i comma end closer around (comma_text comma ++ printed r store ++ u)
   passes r comma comma' i end closer around u s h e k =
-      pass comma' u h s.inside (ap effect_of s.is ∙ e) (ap (λ (x : Record). commaText comma ++ printed x store ++ u) (sym s.is)) k
+      pass comma' u h s.inside (ap effect_of s.is ∙ e) (ap (λ (x : Record). comma_text comma ++ printed x store ++ u) (sym s.is)) k
 
-  enters : (r : Record) (comma : Bool) (i end closer end' closer' : ℕ) (around : Stack) (u : List ℕ) → Stands i r → i < end → height around < depthLimit
+  enters : (r : Record) (comma : Bool) (i end closer end' closer' : ℕ) (around : Stack) (u : List ℕ) → Stands i r → i < end → height around < depth_limit
       → effect_of r ≡ Effect.Open closer' end'
-      → Prints (i + 1) false end' closer' (within end closer around) u → Prints i comma end closer around (commaText comma ++ printed r store ++ u)
+      → Prints (i + 1) false end' closer' (within end closer around) u → Prints i comma end closer around (comma_text comma ++ printed r store ++ u)
   enters r comma i end closer end' closer' around u s h d e k =
-      enter end' closer' u h s.inside d (ap effect_of s.is ∙ e) (ap (λ (x : Record). commaText comma ++ printed x store ++ u) (sym s.is)) k
+      enter end' closer' u h s.inside d (ap effect_of s.is ∙ e) (ap (λ (x : Record). comma_text comma ++ printed x store ++ u) (sym s.is)) k
 
-  prints-as : {i j : ℕ} {comma : Bool} {end closer : ℕ} {around : Stack} {t u : List ℕ} → i ≡ j → t ≡ u
+  prints_as : {i j : ℕ} {comma : Bool} {end closer : ℕ} {around : Stack} {t u : List ℕ} → i ≡ j → t ≡ u
       → Prints i comma end closer around t → Prints j comma end closer around u
-  prints-as {i} {j} {comma} {end} {closer} {around} {t} {u} e f p =
+  prints_as {i} {j} {comma} {end} {closer} {around} {t} {u} e f p =
       subst (λ (x : ℕ). Prints x comma end closer around u) e (subst (λ (x : List ℕ). Prints i comma end closer around x) f p)
 
   -- a comma is due after these
-  abbrev commaAfter : Meanings → Bool
-  commaAfter none = false
-  commaAfter (more ms m) = true
+  abbrev comma_after : Meanings → Bool
+  comma_after none = false
+  comma_after (more ms m) = true
 
-  abbrev commaAfterMembers : Members → Bool
-  commaAfterMembers bare = false
-  commaAfterMembers (member ms k m) = true
+  abbrev comma_after_members : Members → Bool
+  comma_after_members bare = false
+  comma_after_members (member ms k m) = true
 
-  comma-is : (ms : Meanings) → commaText (commaAfter ms) ≡ elementsComma ms
-  comma-is none = refl
-  comma-is (more ms m) = refl
+  comma_is : (ms : Meanings) → comma_text (comma_after ms) ≡ elements_comma ms
+  comma_is none = refl
+  comma_is (more ms m) = refl
 
-  members-comma-is : (ms : Members) → commaText (commaAfterMembers ms) ≡ membersComma ms
-  members-comma-is bare = refl
-  members-comma-is (member ms k m) = refl
+  members_comma_is : (ms : Members) → comma_text (comma_after_members ms) ≡ members_comma ms
+  members_comma_is bare = refl
+  members_comma_is (member ms k m) = refl
 
   -- where a value's records and bytes lie
   record Lies (these : List Record) (i : ℕ) (bytes : List ℕ) (at : ℕ) : Type 0 where
@@ -141,8 +141,8 @@ module _ (rs : List Record) (store : List ℕ) where
   first : (r : Record) {these : List Record} {i : ℕ} {bytes : List ℕ} {at : ℕ} → Lies (r ∷ these) i bytes at → Stands i r
   first r {these} {i} l = stands l.pre r (these ++ l.post) i l.split l.index
 
-  rest-lies : (r : Record) {these : List Record} {i : ℕ} {bytes : List ℕ} {at : ℕ} → Lies (r ∷ these) i bytes at → Lies these (i + 1) bytes at
-  rest-lies r {these} {i} {bytes} {at} l =
+  rest_lies : (r : Record) {these : List Record} {i : ℕ} {bytes : List ℕ} {at : ℕ} → Lies (r ∷ these) i bytes at → Lies these (i + 1) bytes at
+  rest_lies r {these} {i} {bytes} {at} l =
       record {
         pre = l.pre ++ (r ∷ []);
         post = l.post;
@@ -154,8 +154,8 @@ module _ (rs : List Record) (store : List ℕ) where
         start = l.start;
       }
 
-  left-lies : (a b : List Record) (x y : List ℕ) {i at : ℕ} → Lies (a ++ b) i (x ++ y) at → Lies a i x at
-  left-lies a b x y {i} {at} l =
+  left_lies : (a b : List Record) (x y : List ℕ) {i at : ℕ} → Lies (a ++ b) i (x ++ y) at → Lies a i x at
+  left_lies a b x y {i} {at} l =
       record {
         pre = l.pre;
         post = b ++ l.post;
@@ -167,9 +167,9 @@ module _ (rs : List Record) (store : List ℕ) where
         start = l.start;
       }
 
-  right-lies : (a b : List Record) (x y : List ℕ) {i at : ℕ} (j at' : ℕ)
+  right_lies : (a b : List Record) (x y : List ℕ) {i at : ℕ} (j at' : ℕ)
       → Lies (a ++ b) i (x ++ y) at → i + length a ≡ j → at + length x ≡ at' → Lies b j y at'
-  right-lies a b x y {i} {at} j at' l e f =
+  right_lies a b x y {i} {at} j at' l e f =
       record {
         pre = l.pre ++ a;
         post = l.post;
@@ -181,117 +181,117 @@ module _ (rs : List Record) (store : List ℕ) where
         start = omega (arith, l.start, length-append l.before x);
       }
 
-  part-text : {these : List Record} {i : ℕ} {s : List ℕ} {at : ℕ} → Lies these i s at → take (length s) (drop at store) ≡ s
-  part-text {s = s} {at = at} l = part-is store l.before s l.after l.stored at l.start
+  part_text : {these : List Record} {i : ℕ} {s : List ℕ} {at : ℕ} → Lies these i s at → take (length s) (drop at store) ≡ s
+  part_text {s = s} {at = at} l = part_is store l.before s l.after l.stored at l.start
 
   bracketed : (c o e : List ℕ) (x : ℕ) (t : List ℕ) → c ++ o ++ (e ++ (x ∷ t)) ≡ c ++ (o ++ e ++ (x ∷ [])) ++ t
   bracketed c o e x t = simp append_assoc
 
   mutual
-    unfolding recordsOf records store_of textWith printed effect_of depth height
+    unfolding records_of records store_of text_with printed effect_of depth height
 
-    value-prints : (m : Meaning) (i at : ℕ) → Lies (recordsOf m i at) i (store_of m) at → (comma : Bool) (end closer : ℕ) (around : Stack) (t : List ℕ)
-        → i + records m ≤ end → height around + depth m ≤ depthLimit
-        → Prints (i + records m) true end closer around t → Prints i comma end closer around (commaText comma ++ canonical m ++ t)
-    value-prints null i at l comma end closer around t h d k = passes Record.Null comma true i end closer around t (first Record.Null l) (omega arith) refl k
-    value-prints (bool b) i at l comma end closer around t h d k =
+    value_prints : (m : Meaning) (i at : ℕ) → Lies (records_of m i at) i (store_of m) at → (comma : Bool) (end closer : ℕ) (around : Stack) (t : List ℕ)
+        → i + records m ≤ end → height around + depth m ≤ depth_limit
+        → Prints (i + records m) true end closer around t → Prints i comma end closer around (comma_text comma ++ canonical m ++ t)
+    value_prints null i at l comma end closer around t h d k = passes Record.Null comma true i end closer around t (first Record.Null l) (omega arith) refl k
+    value_prints (bool b) i at l comma end closer around t h d k =
         passes (Record.Bool b) comma true i end closer around t (first (Record.Bool b) l) (omega arith) refl k
-    value-prints (number n) i at l comma end closer around t h d k =
+    value_prints (number n) i at l comma end closer around t h d k =
         passes (Record.Number n) comma true i end closer around t (first (Record.Number n) l) (omega arith) refl k
-    value-prints (string s) i at l comma end closer around t h d k =
+    value_prints (string s) i at l comma end closer around t h d k =
         let r = Record.Str (length s) at in
-        prints-as refl (ap (λ (x : List ℕ). commaText comma ++ quoted x ++ t) (part-text l))
+        prints_as refl (ap (λ (x : List ℕ). comma_text comma ++ quoted x ++ t) (part_text l))
         (passes r comma true i end closer around t (first r l) (omega arith) refl k)
-    value-prints (binary s) i at l comma end closer around t h d k =
+    value_prints (binary s) i at l comma end closer around t h d k =
         let r = Record.Bin (length s) at in
-        prints-as refl (ap (λ (x : List ℕ). commaText comma ++ binaryText x ++ t) (part-text l))
+        prints_as refl (ap (λ (x : List ℕ). comma_text comma ++ binary_text x ++ t) (part_text l))
         (passes r comma true i end closer around t (first r l) (omega arith) refl k)
-    value-prints (time x) i at l comma end closer around t h d k =
+    value_prints (time x) i at l comma end closer around t h d k =
         passes (Record.Time x) comma true i end closer around t (first (Record.Time x) l) (omega arith) refl k
-    value-prints (array ms) i at l comma end closer around t h d k =
-        let last = end_of i (elementsRecords ms) in
-        let r = Record.Array (elementsCount ms) last in
-        let back : Prints last true end closer around t = prints-as (omega arith) refl k in
-        let closed : Prints last (commaAfter ms) last (ch "]") (within end closer around) (ch "]" ∷ t) = close end closer around t refl refl refl back in
+    value_prints (array ms) i at l comma end closer around t h d k =
+        let last = end_of i (elements_records ms) in
+        let r = Record.Array (elements_count ms) last in
+        let back : Prints last true end closer around t = prints_as (omega arith) refl k in
+        let closed : Prints last (comma_after ms) last (ch "]") (within end closer around) (ch "]" ∷ t) = close end closer around t refl refl refl back in
         let inner =
-        elements-print ms (i + 1) at (rest-lies r l) last (ch "]") (within end closer around) (ch "]" ∷ t) (omega arith) (omega arith) closed in
-        prints-as refl (bracketed (commaText comma) (letters "[") (elementsText ms) (ch "]") t)
-        (enters r comma i end closer last (ch "]") around (elementsText ms ++ (ch "]" ∷ t)) (first r l) (omega arith) (omega arith) refl inner)
-    value-prints (object ms) i at l comma end closer around t h d k =
-        let last = end_of i (membersRecords ms) in
-        let r = Record.Object (membersCount ms) last in
-        let back : Prints last true end closer around t = prints-as (omega arith) refl k in
-        let closed : Prints last (commaAfterMembers ms) last (ch "}") (within end closer around) (ch "}" ∷ t) =
+        elements_print ms (i + 1) at (rest_lies r l) last (ch "]") (within end closer around) (ch "]" ∷ t) (omega arith) (omega arith) closed in
+        prints_as refl (bracketed (comma_text comma) (letters "[") (elements_text ms) (ch "]") t)
+        (enters r comma i end closer last (ch "]") around (elements_text ms ++ (ch "]" ∷ t)) (first r l) (omega arith) (omega arith) refl inner)
+    value_prints (object ms) i at l comma end closer around t h d k =
+        let last = end_of i (members_records ms) in
+        let r = Record.Object (members_count ms) last in
+        let back : Prints last true end closer around t = prints_as (omega arith) refl k in
+        let closed : Prints last (comma_after_members ms) last (ch "}") (within end closer around) (ch "}" ∷ t) =
         close end closer around t refl refl refl back in
         let inner =
-        members-print ms (i + 1) at (rest-lies r l) last (ch "}") (within end closer around) (ch "}" ∷ t) (omega arith) (omega arith) closed in
-        prints-as refl (bracketed (commaText comma) (letters "{") (membersText ms) (ch "}") t)
-        (enters r comma i end closer last (ch "}") around (membersText ms ++ (ch "}" ∷ t)) (first r l) (omega arith) (omega arith) refl inner)
+        members_print ms (i + 1) at (rest_lies r l) last (ch "}") (within end closer around) (ch "}" ∷ t) (omega arith) (omega arith) closed in
+        prints_as refl (bracketed (comma_text comma) (letters "{") (members_text ms) (ch "}") t)
+        (enters r comma i end closer last (ch "}") around (members_text ms ++ (ch "}" ∷ t)) (first r l) (omega arith) (omega arith) refl inner)
 
-    elements-print : (ms : Meanings) (i at : ℕ) → Lies (elementsOf ms i at) i (elementsStore ms) at → (end closer : ℕ) (around : Stack) (t : List ℕ)
-        → i + elementsRecords ms ≤ end → height around + elementsDepth ms ≤ depthLimit
-        → Prints (i + elementsRecords ms) (commaAfter ms) end closer around t → Prints i false end closer around (elementsText ms ++ t)
-    elements-print none i at l end closer around t h d k = prints-as (omega arith) refl k
-    elements-print (more ms m) i at l end closer around t h d k =
-        let i' = i + elementsRecords ms in
-        let at' = at + length (elementsStore ms) in
-        let rs' = recordsOf m i' at' in
-        let last = right-lies (elementsOf ms i at) rs' (elementsStore ms) (store_of m) i' at' l (omega (arith, elements-length ms i at)) refl in
-        let then = commaText (commaAfter ms) ++ canonical m ++ t in
+    elements_print : (ms : Meanings) (i at : ℕ) → Lies (elements_of ms i at) i (elements_store ms) at → (end closer : ℕ) (around : Stack) (t : List ℕ)
+        → i + elements_records ms ≤ end → height around + elements_depth ms ≤ depth_limit
+        → Prints (i + elements_records ms) (comma_after ms) end closer around t → Prints i false end closer around (elements_text ms ++ t)
+    elements_print none i at l end closer around t h d k = prints_as (omega arith) refl k
+    elements_print (more ms m) i at l end closer around t h d k =
+        let i' = i + elements_records ms in
+        let at' = at + length (elements_store ms) in
+        let rs' = records_of m i' at' in
+        let last = right_lies (elements_of ms i at) rs' (elements_store ms) (store_of m) i' at' l (omega (arith, elements_length ms i at)) refl in
+        let then = comma_text (comma_after ms) ++ canonical m ++ t in
         let value =
-        value-prints m i' at' last (commaAfter ms) end closer around t (omega arith) (omega (arith, most-right (elementsDepth ms) (depth m)))
-        (prints-as (omega arith) refl k) in
-        prints-as refl (ap (λ (c : List ℕ). elementsText ms ++ (c ++ canonical m ++ t)) (comma-is ms) ∙ simp append_assoc)
-        (elements-print ms i at (left-lies (elementsOf ms i at) rs' (elementsStore ms) (store_of m) l) end closer around then (omega arith)
-        (omega (arith, most-left (elementsDepth ms) (depth m))) value)
+        value_prints m i' at' last (comma_after ms) end closer around t (omega arith) (omega (arith, most_right (elements_depth ms) (depth m)))
+        (prints_as (omega arith) refl k) in
+        prints_as refl (ap (λ (c : List ℕ). elements_text ms ++ (c ++ canonical m ++ t)) (comma_is ms) ∙ simp append_assoc)
+        (elements_print ms i at (left_lies (elements_of ms i at) rs' (elements_store ms) (store_of m) l) end closer around then (omega arith)
+        (omega (arith, most_left (elements_depth ms) (depth m))) value)
 
-    members-print : (ms : Members) (i at : ℕ) → Lies (members_of ms i at) i (membersStore ms) at → (end closer : ℕ) (around : Stack) (t : List ℕ)
-        → i + membersRecords ms ≤ end → height around + membersDepth ms ≤ depthLimit
-        → Prints (i + membersRecords ms) (commaAfterMembers ms) end closer around t → Prints i false end closer around (membersText ms ++ t)
-    members-print bare i at l end closer around t h d k = prints-as (omega arith) refl k
-    members-print (member ms s m) i at l end closer around t h d k =
-        let i' = i + membersRecords ms in
-        let at' = at + length (membersStore ms) in
+    members_print : (ms : Members) (i at : ℕ) → Lies (members_of ms i at) i (members_store ms) at → (end closer : ℕ) (around : Stack) (t : List ℕ)
+        → i + members_records ms ≤ end → height around + members_depth ms ≤ depth_limit
+        → Prints (i + members_records ms) (comma_after_members ms) end closer around t → Prints i false end closer around (members_text ms ++ t)
+    members_print bare i at l end closer around t h d k = prints_as (omega arith) refl k
+    members_print (member ms s m) i at l end closer around t h d k =
+        let i' = i + members_records ms in
+        let at' = at + length (members_store ms) in
         let key = Record.Key (length s) at' in
         let ks = members_of ms i at ++ (key ∷ []) in
-        let ss = membersStore ms ++ s in
-        let rs' = recordsOf m (i' + 1) (at' + length s) in
-        let n : i + length ks ≡ i' + 1 = omega (arith, length-append (members_of ms i at) (key ∷ []), members-length ms i at) in
-        let z : at + length ss ≡ at' + length s = omega (arith, length-append (membersStore ms) s) in
-        let last = right-lies ks rs' ss (store_of m) (i' + 1) (at' + length s) l n z in
-        let keys = left-lies ks rs' ss (store_of m) l in
-        let one = right-lies (members_of ms i at) (key ∷ []) (membersStore ms) s i' at' keys (omega (arith, members-length ms i at)) refl in
-        let front = left-lies (members_of ms i at) (key ∷ []) (membersStore ms) s keys in
+        let ss = members_store ms ++ s in
+        let rs' = records_of m (i' + 1) (at' + length s) in
+        let n : i + length ks ≡ i' + 1 = omega (arith, length-append (members_of ms i at) (key ∷ []), members_length ms i at) in
+        let z : at + length ss ≡ at' + length s = omega (arith, length-append (members_store ms) s) in
+        let last = right_lies ks rs' ss (store_of m) (i' + 1) (at' + length s) l n z in
+        let keys = left_lies ks rs' ss (store_of m) l in
+        let one = right_lies (members_of ms i at) (key ∷ []) (members_store ms) s i' at' keys (omega (arith, members_length ms i at)) refl in
+        let front = left_lies (members_of ms i at) (key ∷ []) (members_store ms) s keys in
         let then = canonical m ++ t in
         let value =
-        value-prints m (i' + 1) (at' + length s) last false end closer around t (omega arith) (omega (arith, most-right (membersDepth ms) (depth m)))
-        (prints-as (omega arith) refl k) in
-        let named = passes key (commaAfterMembers ms) false i' end closer around then (first key one) (omega (arith, some-record m)) refl value in
-        let text = commaText (commaAfterMembers ms) ++ printed key store ++ then in
-        prints-as refl
-        (ap₂ (λ (c x : List ℕ). membersText ms ++ (c ++ (quoted x ++ letters ":") ++ (canonical m ++ t))) (members-comma-is ms) (part-text one)
+        value_prints m (i' + 1) (at' + length s) last false end closer around t (omega arith) (omega (arith, most_right (members_depth ms) (depth m)))
+        (prints_as (omega arith) refl k) in
+        let named = passes key (comma_after_members ms) false i' end closer around then (first key one) (omega (arith, some_record m)) refl value in
+        let text = comma_text (comma_after_members ms) ++ printed key store ++ then in
+        prints_as refl
+        (ap₂ (λ (c x : List ℕ). members_text ms ++ (c ++ (quoted x ++ letters ":") ++ (canonical m ++ t))) (members_comma_is ms) (part_text one)
         ∙ simp append_assoc)
-        (members-print ms i at front end closer around text (omega (arith, some-record m)) (omega (arith, most-left (membersDepth ms) (depth m))) named)
+        (members_print ms i at front end closer around text (omega (arith, some_record m)) (omega (arith, most_left (members_depth ms) (depth m))) named)
 
   -- ---- and what comes at a state, from the text that comes
 
   -- the walk ends
-  pub prints-done : {i : ℕ} {comma : Bool} {end closer : ℕ} {around : Stack} {t : List ℕ}
+  pub prints_done : {i : ℕ} {comma : Bool} {end closer : ℕ} {around : Stack} {t : List ℕ}
       → Prints i comma end closer around t → i ≡ end → around ≡ bottom → t ≡ []
-  prints-done (done e s x) h b = x
-  prints-done (close f c s u e a x k) h b = let z : ◌≡◌ {A = ℕ} 0 1 = cc in absurd (omega arith)
-  prints-done (pass c u l j e x k) h b = absurd (omega arith)
-  prints-done (enter f c u l j d e x k) h b = absurd (omega arith)
+  prints_done (done e s x) h b = x
+  prints_done (close f c s u e a x k) h b = let z : ◌≡◌ {A = ℕ} 0 1 = cc in absurd (omega arith)
+  prints_done (pass c u l j e x k) h b = absurd (omega arith)
+  prints_done (enter f c u l j d e x k) h b = absurd (omega arith)
 
   pub record Closes (i closer end' closer' : ℕ) (around' : Stack) (t : List ℕ) : Type 0 where
     pub rest : List ℕ
     pub text : t ≡ closer ∷ rest
     pub next : Prints i true end' closer' around' rest
 
-  pub prints-close : {i : ℕ} {comma : Bool} {end closer : ℕ} {around : Stack} {t : List ℕ} (end' closer' : ℕ) (around' : Stack)
+  pub prints_close : {i : ℕ} {comma : Bool} {end closer : ℕ} {around : Stack} {t : List ℕ} (end' closer' : ℕ) (around' : Stack)
       → Prints i comma end closer around t → i ≡ end → around ≡ within end' closer' around' → Closes i closer end' closer' around' t
-  prints-close end' closer' around' (done e s x) h b = let z : ◌≡◌ {A = ℕ} 0 1 = cc in absurd (omega arith)
-  prints-close {i} end' closer' around' (close f c s u e a x k) h b =
+  prints_close end' closer' around' (done e s x) h b = let z : ◌≡◌ {A = ℕ} 0 1 = cc in absurd (omega arith)
+  prints_close {i} end' closer' around' (close f c s u e a x k) h b =
       let z : f ≡ end' = cc in
       let y : c ≡ closer' = cc in
       let w : s ≡ around' = cc in
@@ -302,24 +302,24 @@ module _ (rs : List Record) (store : List ℕ) where
             subst (λ (v : Stack). Prints i true end' closer' v u) w
             (subst (λ (v : ℕ). Prints i true end' v s u) y (subst (λ (v : ℕ). Prints i true v c s u) z k));
       }
-  prints-close end' closer' around' (pass c u l j e x k) h b = absurd (omega arith)
-  prints-close end' closer' around' (enter f c u l j d e x k) h b = absurd (omega arith)
+  prints_close end' closer' around' (pass c u l j e x k) h b = absurd (omega arith)
+  prints_close end' closer' around' (enter f c u l j d e x k) h b = absurd (omega arith)
 
   pub record Takes (i : ℕ) (comma : Bool) (end closer : ℕ) (around : Stack) (t : List ℕ) : Type 0 where
     pub low : i < end
     pub inside : i < length rs
     pub rest : List ℕ
-    pub text : t ≡ commaText comma ++ printed (get_or rs i Record.Null) store ++ rest
+    pub text : t ≡ comma_text comma ++ printed (get_or rs i Record.Null) store ++ rest
     pub passed : (due : Bool) → effect_of (get_or rs i Record.Null) ≡ Effect.Pass due → Prints (i + 1) due end closer around rest
     pub entered : (closer' end' : ℕ) → effect_of (get_or rs i Record.Null) ≡ Effect.Open closer' end'
-        → (height around < depthLimit) × Prints (i + 1) false end' closer' (within end closer around) rest
+        → (height around < depth_limit) × Prints (i + 1) false end' closer' (within end closer around) rest
 
   -- a record comes
-  pub prints-take : {i : ℕ} {comma : Bool} {end closer : ℕ} {around : Stack} {t : List ℕ} → Prints i comma end closer around t → (i ≡ end → ⊥)
+  pub prints_take : {i : ℕ} {comma : Bool} {end closer : ℕ} {around : Stack} {t : List ℕ} → Prints i comma end closer around t → (i ≡ end → ⊥)
       → Takes i comma end closer around t
-  prints-take (done e s x) h = absurd (h e)
-  prints-take (close f c s u e a x k) h = absurd (h e)
-  prints-take {i} {end = end} {closer = closer} {around = around} (pass c u l j e x k) h =
+  prints_take (done e s x) h = absurd (h e)
+  prints_take (close f c s u e a x k) h = absurd (h e)
+  prints_take {i} {end = end} {closer = closer} {around = around} (pass c u l j e x k) h =
       record {
         low = l;
         inside = j;
@@ -328,7 +328,7 @@ module _ (rs : List Record) (store : List ℕ) where
         passed = λ due q. let z : c ≡ due = cc in subst (λ (v : Bool). Prints (i + 1) v end closer around u) z k;
         entered = λ g f q. let z : ◌≡◌ {A = ℕ} 0 1 = cc in absurd (omega arith);
       }
-  prints-take {i} {end = end} {closer = closer} {around = around} (enter f c u l j d e x k) h =
+  prints_take {i} {end = end} {closer = closer} {around = around} (enter f c u l j d e x k) h =
       record {
         low = l;
         inside = j;
@@ -343,11 +343,11 @@ module _ (rs : List Record) (store : List ℕ) where
       }
 
 -- the whole text of a meaning that is not too deep
-pub prints-all : (m : Meaning) (store : List ℕ) → store ≡ store_of m → depth m ≤ depthLimit
-    → Prints (recordsOf m 0 0) store 0 false (records m) 0 bottom (canonical m)
+pub prints_all : (m : Meaning) (store : List ℕ) → store ≡ store_of m → depth m ≤ depth_limit
+    → Prints (records_of m 0 0) store 0 false (records m) 0 bottom (canonical m)
 unfolding height
-prints-all m store e h =
-    let rs = recordsOf m 0 0 in
+prints_all m store e h =
+    let rs = records_of m 0 0 in
     let l : Lies rs store rs 0 (store_of m) 0 =
     record {
       pre = [];
@@ -359,5 +359,5 @@ prints-all m store e h =
       stored = e ∙ sym (append-nil (store_of m));
       start = refl;
     } in
-    prints-as rs store refl (append-nil (canonical m))
-    (value-prints rs store m 0 0 l false (records m) 0 bottom [] (omega arith) (omega arith) (done (omega arith) refl refl))
+    prints_as rs store refl (append-nil (canonical m))
+    (value_prints rs store m 0 0 l false (records m) 0 bottom [] (omega arith) (omega arith) (done (omega arith) refl refl))

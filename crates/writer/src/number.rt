@@ -1,7 +1,7 @@
 // The text of a number.
 ghost use Rattle.std.specs.Prelude.{◌≡◌, ◌+◌, ◌≤◌, ◌<◌, length};
-ghost use Rattle.meaning.specs.Canonical.{decimal, minusText, powerText, pointed, finiteText, numberText};
-ghost use Rattle.meaning.specs.Limits.{plainDigits};
+ghost use Rattle.meaning.specs.Canonical.{decimal, minus_text, power_text, pointed, finite_text, number_text};
+ghost use Rattle.meaning.specs.Limits.{plain_digits};
 ghost use Rattle.writer.specs.Between.Laid.{Put, PutAt};
 ghost use Rattle.writer.specs.Between.Pieces.{FormOf, PointedLength, SignAndSize};
 
@@ -26,8 +26,8 @@ pub fn sign_and_size(x: i32) -> Signed
 
 // Minus if set.
 fn minus_at(out: &mut [u8], at: usize, minus: bool) -> usize
-    requires { at + length (minusText minus) ≤ length out.old }
-    ensures { PutAt (minusText minus) at out.old out.new result }
+    requires { at + length (minus_text minus) ≤ length out.old }
+    ensures { PutAt (minus_text minus) at out.old out.new result }
 {
     if minus {
         return byte_or_digit::byte_at(out, at, b'-');
@@ -37,15 +37,15 @@ fn minus_at(out: &mut [u8], at: usize, minus: bool) -> usize
 
 // The length of the same.
 fn minus_len(minus: bool) -> usize
-    ensures { (result ≡ length (minusText minus)) × (result ≤ 1) }
+    ensures { (result ≡ length (minus_text minus)) × (result ≤ 1) }
 {
     if minus { 1 } else { 0 }
 }
 
 // `e` and the power where it is not 0.
 fn power_at(out: &mut [u8], at: usize, power: i32) -> usize
-    requires { at + length (powerText power) ≤ length out.old }
-    ensures { PutAt (powerText power) at out.old out.new result }
+    requires { at + length (power_text power) ≤ length out.old }
+    ensures { PutAt (power_text power) at out.old out.new result }
 {
     let p = sign_and_size(power);
     let size = p.size;
@@ -59,7 +59,7 @@ fn power_at(out: &mut [u8], at: usize, power: i32) -> usize
 
 // The length of the same.
 fn power_len(power: i32) -> usize
-    ensures { (result ≡ length (powerText power)) × (result ≤ 22) }
+    ensures { (result ≡ length (power_text power)) × (result ≤ 22) }
 {
     let p = sign_and_size(power);
     let size = p.size;
@@ -71,7 +71,7 @@ fn power_len(power: i32) -> usize
 
 // Which form a number of d digits with this power has.
 fn form(d: usize, power: i32) -> Form
-    requires { d ≤ plainDigits }
+    requires { d ≤ plain_digits }
     ensures { FormOf d power result }
 {
     let p = sign_and_size(power);
@@ -90,7 +90,7 @@ fn form(d: usize, power: i32) -> Form
 
 // The d digits of c with the last n of them after a point, with `0.` and zeros in front where they are too few.
 fn pointed_at(out: &mut [u8], at: usize, d: usize, n: usize, c: u64) -> usize
-    requires { (d ≡ length (decimal c)) × (0 < n) × (d ≤ plainDigits) × (at + length (pointed n c) ≤ length out.old) }
+    requires { (d ≡ length (decimal c)) × (0 < n) × (d ≤ plain_digits) × (at + length (pointed n c) ≤ length out.old) }
     ensures { PutAt (pointed n c) at out.old out.new result }
 {
     if d <= n {
@@ -104,7 +104,7 @@ fn pointed_at(out: &mut [u8], at: usize, d: usize, n: usize, c: u64) -> usize
 
 // The length of the same.
 fn pointed_len(d: usize, n: usize) -> usize
-    requires { (d ≤ plainDigits) × (n ≤ plainDigits) }
+    requires { (d ≤ plain_digits) × (n ≤ plain_digits) }
     ensures { PointedLength d n result }
 {
     if d <= n {
@@ -115,8 +115,8 @@ fn pointed_len(d: usize, n: usize) -> usize
 
 // The coefficient and the power, in the form they have.
 fn finite_at(out: &mut [u8], at: usize, c: u64, power: i32) -> usize
-    requires { at + length (finiteText c power) ≤ length out.old }
-    ensures { PutAt (finiteText c power) at out.old out.new result }
+    requires { at + length (finite_text c power) ≤ length out.old }
+    ensures { PutAt (finite_text c power) at out.old out.new result }
 {
     let d = byte_or_digit::decimal_len(c);
     match form(d, power) {
@@ -134,7 +134,7 @@ fn finite_at(out: &mut [u8], at: usize, c: u64, power: i32) -> usize
 
 // The length of the same.
 fn finite_len(c: u64, power: i32) -> usize
-    ensures { (result ≡ length (finiteText c power)) × (result ≤ 42) }
+    ensures { (result ≡ length (finite_text c power)) × (result ≤ 42) }
 {
     let d = byte_or_digit::decimal_len(c);
     match form(d, power) {
@@ -146,8 +146,8 @@ fn finite_len(c: u64, power: i32) -> usize
 
 // Into the lent part of the output, from its start.
 fn write_number(out: &mut [u8], n: Number) -> usize
-    requires { length (numberText n) ≤ length out.old }
-    ensures { Put (numberText n) out.old out.new result }
+    requires { length (number_text n) ≤ length out.old }
+    ensures { Put (number_text n) out.old out.new result }
 {
     match n {
         Number::Finite {
@@ -168,7 +168,7 @@ fn write_number(out: &mut [u8], n: Number) -> usize
 
 // The length of a number's text.
 pub fn number_len(n: Number) -> usize
-    ensures { (result ≡ length (numberText n)) × (result < 64) }
+    ensures { (result ≡ length (number_text n)) × (result < 64) }
 {
     match n {
         Number::Finite {
@@ -183,8 +183,8 @@ pub fn number_len(n: Number) -> usize
 
 // The output from `at` on is lent.
 pub fn number_at(out: &mut [u8], at: usize, n: Number) -> usize
-    requires { at + length (numberText n) ≤ length out.old }
-    ensures { PutAt (numberText n) at out.old out.new result }
+    requires { at + length (number_text n) ≤ length out.old }
+    ensures { PutAt (number_text n) at out.old out.new result }
 {
     at + write_number(&mut out[at..], n)
 }

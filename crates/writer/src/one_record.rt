@@ -2,12 +2,12 @@
 ghost use Rattle.std.specs.Prelude.{◌≡◌, [], ◌+◌, ◌≤◌, ◌<◌};
 ghost use lib.ListN.{length};
 ghost use Rattle.meaning.specs.declared.Record.{Record};
-ghost use Rattle.meaning.specs.Limits.{recordLimit, storeLimit};
+ghost use Rattle.meaning.specs.Limits.{record_limit, store_limit};
 ghost use Rattle.meaning.specs.Canonical.{quoted};
-ghost use Rattle.meaning.specs.Json.{jsonForm};
-ghost use Rattle.tape.specs.Between.Turns.{bytesEnd};
+ghost use Rattle.meaning.specs.Json.{json_form};
+ghost use Rattle.tape.specs.Between.Turns.{bytes_end};
 ghost use Rattle.writer.specs.Between.Laid.{PutAt};
-ghost use Rattle.writer.specs.Between.Walk.{part, printed, commaText, effect_of, closes, share};
+ghost use Rattle.writer.specs.Between.Walk.{part, printed, comma_text, effect_of, closes, share};
 
 use crate::{Effect, byte_or_digit, number, string_or_binary, time_value};
 use meaning::{Number, Record};
@@ -40,8 +40,8 @@ pub fn effect_of(r: Record) -> Effect
 
 // A comma if set.
 pub fn comma_at(out: &mut [u8], at: usize, comma: bool) -> usize
-    requires { at + length (commaText comma) ≤ length out.old }
-    ensures { PutAt (commaText comma) at out.old out.new result }
+    requires { at + length (comma_text comma) ≤ length out.old }
+    ensures { PutAt (comma_text comma) at out.old out.new result }
 {
     if comma {
         return byte_or_digit::byte_at(out, at, b',');
@@ -62,7 +62,7 @@ fn bool_at(out: &mut [u8], at: usize, b: bool) -> usize
 
 // The output from `at` on is lent to the number, string and time writers.
 pub fn printed_at(out: &mut [u8], at: usize, r: Record, store: &[u8]) -> usize
-    requires { (bytesEnd r ≤ length store.now) × (at + length (printed r store.now) ≤ length out.old) }
+    requires { (bytes_end r ≤ length store.now) × (at + length (printed r store.now) ≤ length out.old) }
     ensures { PutAt (printed r store.now) at out.old out.new result }
 {
     match r {
@@ -83,7 +83,7 @@ pub fn printed_at(out: &mut [u8], at: usize, r: Record, store: &[u8]) -> usize
 
 // The closing bracket of a container, or a comma in its place, and the comma after it.
 fn closes(end: usize, index: usize) -> usize
-    requires { index < recordLimit }
+    requires { index < record_limit }
     ensures { result ≡ closes end index }
 {
     if end == index + 1 { 2 } else { 1 }
@@ -91,7 +91,7 @@ fn closes(end: usize, index: usize) -> usize
 
 // The length of a string or key in quotes, from its part of the store.
 fn part_len(store: &[u8], start: usize, length: usize) -> usize
-    requires { (start + length ≤ lib.ListN.length store.now) × (lib.ListN.length store.now ≤ storeLimit) }
+    requires { (start + length ≤ lib.ListN.length store.now) × (lib.ListN.length store.now ≤ store_limit) }
     ensures { result ≡ lib.ListN.length (quoted (part store.now length start)) }
 {
     let end = start + length;
@@ -100,7 +100,7 @@ fn part_len(store: &[u8], start: usize, length: usize) -> usize
 
 // The length of the record's text, with the comma, colon or brackets that go with it.
 pub fn share_of(r: Record, index: usize, store: &[u8]) -> usize
-    requires { (bytesEnd r ≤ length store.now) × (length store.now ≤ storeLimit) × (index < recordLimit) }
+    requires { (bytes_end r ≤ length store.now) × (length store.now ≤ store_limit) × (index < record_limit) }
     ensures { result ≡ share r index store.now }
 {
     match r {
@@ -123,7 +123,7 @@ pub fn share_of(r: Record, index: usize, store: &[u8]) -> usize
 
 // No JSON form: non-finite, binary, time.
 pub fn json_form(r: Record) -> bool
-    ensures { result ≡ jsonForm r }
+    ensures { result ≡ json_form r }
 {
     match r {
         Record::Null => true,

@@ -1,8 +1,8 @@
 // The text of strings, keys and binary.
 ghost use Rattle.std.specs.Prelude.{◌≡◌, [], ◌∷◌, ◌+◌, ◌≤◌, ◌<◌};
 ghost use lib.ListN.{length, take, drop};
-ghost use Rattle.meaning.specs.Limits.{storeLimit};
-ghost use Rattle.meaning.specs.Canonical.{hexDigit, hexPair, escaped, escapes, quoted, hexPairs, binaryText};
+ghost use Rattle.meaning.specs.Limits.{store_limit};
+ghost use Rattle.meaning.specs.Canonical.{hex_digit, hex_pair, escaped, escapes, quoted, hex_pairs, binary_text};
 ghost use Rattle.writer.specs.Between.Laid.{Put, PutAt};
 ghost use Rattle.writer.specs.Between.Pieces.{Lettered};
 
@@ -14,7 +14,7 @@ const SHORT: usize = 16;
 // The digit as a byte of the text, in lower case.
 fn hex_digit(d: u8) -> u8
     requires { d < 16 }
-    ensures { result ≡ hexDigit d }
+    ensures { result ≡ hex_digit d }
 {
     if d < 10 { b'0' + d } else { b'a' + (d - 10) }
 }
@@ -22,7 +22,7 @@ fn hex_digit(d: u8) -> u8
 // A byte as two hex digits, the high one first.
 fn pair_at(out: &mut [u8], at: usize, b: u8) -> usize
     requires { at + 2 ≤ length out.old }
-    ensures { PutAt (hexPair b) at out.old out.new result }
+    ensures { PutAt (hex_pair b) at out.old out.new result }
 {
     let second = byte_or_digit::byte_at(out, at, hex_digit(b / 16));
     byte_or_digit::byte_at(out, second, hex_digit(b % 16))
@@ -146,7 +146,7 @@ fn write_string(out: &mut [u8], s: &[u8]) -> usize
 
 // The length with both quotes, byte by byte.
 fn short_len(s: &[u8]) -> usize
-    requires { length s.now ≤ storeLimit }
+    requires { length s.now ≤ store_limit }
     ensures { result ≡ length (quoted s.now) }
 {
     let mut total: usize = 2;
@@ -160,7 +160,7 @@ fn short_len(s: &[u8]) -> usize
 
 // The same, run by run.
 fn runs_len(s: &[u8]) -> usize
-    requires { length s.now ≤ storeLimit }
+    requires { length s.now ≤ store_limit }
     ensures { result ≡ length (quoted s.now) }
 {
     let mut total: usize = 2;
@@ -180,7 +180,7 @@ fn runs_len(s: &[u8]) -> usize
 
 // The length of a string's text with both quotes.
 pub fn string_len(s: &[u8]) -> usize
-    requires { length s.now ≤ storeLimit }
+    requires { length s.now ≤ store_limit }
     ensures { result ≡ length (quoted s.now) }
 {
     if s.len() < SHORT {
@@ -201,8 +201,8 @@ pub fn string_at(out: &mut [u8], at: usize, store: &[u8], start: usize, length: 
 
 // Each byte as a hex pair, with nothing between them.
 fn pairs_at(out: &mut [u8], at: usize, s: &[u8]) -> usize
-    requires { at + length (hexPairs s.now) ≤ length out.old }
-    ensures { PutAt (hexPairs s.now) at out.old out.new result }
+    requires { at + length (hex_pairs s.now) ≤ length out.old }
+    ensures { PutAt (hex_pairs s.now) at out.old out.new result }
 {
     let mut end = at;
     let mut i: usize = 0;
@@ -215,8 +215,8 @@ fn pairs_at(out: &mut [u8], at: usize, s: &[u8]) -> usize
 
 // Into the lent part of the output, from its start: `$` and lower-case hex.
 fn write_binary(out: &mut [u8], s: &[u8]) -> usize
-    requires { length (binaryText s.now) ≤ length out.old }
-    ensures { Put (binaryText s.now) out.old out.new result }
+    requires { length (binary_text s.now) ≤ length out.old }
+    ensures { Put (binary_text s.now) out.old out.new result }
 {
     let first = byte_or_digit::byte_at(out, 0, b'$');
     pairs_at(out, first, s)
@@ -225,8 +225,8 @@ fn write_binary(out: &mut [u8], s: &[u8]) -> usize
 // The output from `at` on is lent, and the part of the store that is the binary.
 pub fn binary_at(out: &mut [u8], at: usize, store: &[u8], start: usize, length: usize) -> usize
     requires { (start + length ≤ lib.ListN.length store.now)
-        × (at + lib.ListN.length (binaryText (take length (drop start store.now))) ≤ lib.ListN.length out.old) }
-    ensures { PutAt (binaryText (take length (drop start store.now))) at out.old out.new result }
+        × (at + lib.ListN.length (binary_text (take length (drop start store.now))) ≤ lib.ListN.length out.old) }
+    ensures { PutAt (binary_text (take length (drop start store.now))) at out.old out.new result }
 {
     let end = start + length;
     at + write_binary(&mut out[at..], &store[start..end])

@@ -1,6 +1,6 @@
 // The text of dates, clocks, offsets and the four time types.
 ghost use Rattle.std.specs.Prelude.{◌≡◌, ◌+◌, ◌≤◌, length};
-ghost use Rattle.meaning.specs.Canonical.{dateText, fractionText, clockText, minutesText, offsetText, timeText};
+ghost use Rattle.meaning.specs.Canonical.{date_text, fraction_text, clock_text, minutes_text, offset_text, time_text};
 ghost use Rattle.writer.specs.Between.Laid.{Put, PutAt};
 ghost use Rattle.writer.specs.Between.Pieces.{FractionDigits};
 
@@ -14,8 +14,8 @@ const HOUR: u64 = 60 * MINUTE;
 
 // Year, month and day in four, two and two digits, with `-` between.
 fn date_at(out: &mut [u8], at: usize, d: Date) -> usize
-    requires { at + length (dateText d) ≤ length out.old }
-    ensures { PutAt (dateText d) at out.old out.new result }
+    requires { at + length (date_text d) ≤ length out.old }
+    ensures { PutAt (date_text d) at out.old out.new result }
 {
     let a = byte_or_digit::digits_at(out, at, 4, d.year as u64);
     let b = byte_or_digit::byte_at(out, a, b'-');
@@ -48,8 +48,8 @@ fn trimmed(n: u64) -> Trimmed
 
 // Fraction only if not 0.
 fn fraction_at(out: &mut [u8], at: usize, n: u64) -> usize
-    requires { at + length (fractionText n) ≤ length out.old }
-    ensures { PutAt (fractionText n) at out.old out.new result }
+    requires { at + length (fraction_text n) ≤ length out.old }
+    ensures { PutAt (fraction_text n) at out.old out.new result }
 {
     if n == 0 {
         return at;
@@ -61,7 +61,7 @@ fn fraction_at(out: &mut [u8], at: usize, n: u64) -> usize
 
 // The length of the same, with its point.
 fn fraction_len(n: u64) -> usize
-    ensures { (result ≡ length (fractionText n)) × (result ≤ 10) }
+    ensures { (result ≡ length (fraction_text n)) × (result ≤ 10) }
 {
     if n == 0 {
         return 0;
@@ -72,8 +72,8 @@ fn fraction_len(n: u64) -> usize
 
 // A time of day is ((hour x 60 + minute) x 60 + second) x 10^9 + nanoseconds.
 fn clock_at(out: &mut [u8], at: usize, t: u64) -> usize
-    requires { at + length (clockText t) ≤ length out.old }
-    ensures { PutAt (clockText t) at out.old out.new result }
+    requires { at + length (clock_text t) ≤ length out.old }
+    ensures { PutAt (clock_text t) at out.old out.new result }
 {
     let a = byte_or_digit::digits_at(out, at, 2, t / HOUR);
     let b = byte_or_digit::byte_at(out, a, b':');
@@ -85,15 +85,15 @@ fn clock_at(out: &mut [u8], at: usize, t: u64) -> usize
 
 // The length of the same: eight bytes and the fraction.
 fn clock_len(t: u64) -> usize
-    ensures { (result ≡ length (clockText t)) × (result ≤ 18) }
+    ensures { (result ≡ length (clock_text t)) × (result ≤ 18) }
 {
     8 + fraction_len(t % SECOND)
 }
 
 // A number of minutes as hh:mm.
 fn minutes_at(out: &mut [u8], at: usize, n: u64) -> usize
-    requires { at + length (minutesText n) ≤ length out.old }
-    ensures { PutAt (minutesText n) at out.old out.new result }
+    requires { at + length (minutes_text n) ≤ length out.old }
+    ensures { PutAt (minutes_text n) at out.old out.new result }
 {
     let a = byte_or_digit::digits_at(out, at, 2, n / 60);
     let b = byte_or_digit::byte_at(out, a, b':');
@@ -102,8 +102,8 @@ fn minutes_at(out: &mut [u8], at: usize, n: u64) -> usize
 
 // Offset 0 as `Z`, otherwise sign and hh:mm.
 fn offset_at(out: &mut [u8], at: usize, offset: i16) -> usize
-    requires { at + length (offsetText offset) ≤ length out.old }
-    ensures { PutAt (offsetText offset) at out.old out.new result }
+    requires { at + length (offset_text offset) ≤ length out.old }
+    ensures { PutAt (offset_text offset) at out.old out.new result }
 {
     let o = number::sign_and_size(offset as i32);
     let size = o.size;
@@ -120,7 +120,7 @@ fn offset_at(out: &mut [u8], at: usize, offset: i16) -> usize
 
 // The length of the same.
 fn offset_len(offset: i16) -> usize
-    ensures { (result ≡ length (offsetText offset)) × (result ≤ 6) }
+    ensures { (result ≡ length (offset_text offset)) × (result ≤ 6) }
 {
     let o = number::sign_and_size(offset as i32);
     if o.size == 0 {
@@ -131,8 +131,8 @@ fn offset_len(offset: i16) -> usize
 
 // Into the lent part of the output, from its start.
 fn write_time(out: &mut [u8], t: Time) -> usize
-    requires { length (timeText t) ≤ length out.old }
-    ensures { Put (timeText t) out.old out.new result }
+    requires { length (time_text t) ≤ length out.old }
+    ensures { Put (time_text t) out.old out.new result }
 {
     match t {
         Time::LocalDate(d) => date_at(out, 0, d),
@@ -157,7 +157,7 @@ fn write_time(out: &mut [u8], t: Time) -> usize
 
 // The length of a time value's text.
 pub fn time_len(t: Time) -> usize
-    ensures { result ≡ length (timeText t) }
+    ensures { result ≡ length (time_text t) }
 {
     match t {
         Time::LocalDate(_) => 10,
@@ -173,8 +173,8 @@ pub fn time_len(t: Time) -> usize
 
 // The output from `at` on is lent.
 pub fn time_at(out: &mut [u8], at: usize, t: Time) -> usize
-    requires { at + length (timeText t) ≤ length out.old }
-    ensures { PutAt (timeText t) at out.old out.new result }
+    requires { at + length (time_text t) ≤ length out.old }
+    ensures { PutAt (time_text t) at out.old out.new result }
 {
     at + write_time(&mut out[at..], t)
 }

@@ -1,6 +1,6 @@
 use mathlib.Core.Path.{sym, ◌∙◌}
 use Rattle.arriving.proofs.StepsLaws.{mode_of}
-use Rattle.arriving.proofs.ArrivingLaws.{sane-told, ended-broken, ended-open, ended-whole, ended-spent}
+use Rattle.arriving.proofs.ArrivingLaws.{sane_told, ended_broken, ended_open, ended_whole, ended_spent}
 use borrow.Author.Rules.{rules}
 use Rattle.arriving.proofs.ended.Statement.{statement}
 use Rattle.arriving.proofs.ended.Tie as tie
@@ -13,11 +13,11 @@ sane-requires : tie.Need-sane-requires
 sane-requires c κs = search rules
 
 returns : tie.Need-returns
-returns c = ended-broken c.before.before.before.before.args.c (sym c.before.before.before.sane.ensures ∙ c.before.before.if1.true)
+returns c = ended_broken c.before.before.before.before.args.c (sym c.before.before.before.sane.ensures ∙ c.before.before.if1.true)
     c.if2.true
 
 finished-requires : tie.Need-finished-requires
-finished-requires c κs = (let s = sane-told c.before.before.before.before.before.before.before.args.c
+finished-requires c κs = (let s = sane_told c.before.before.before.before.before.before.before.args.c
     (sym c.before.before.before.before.before.before.sane.ensures ∙ c.before.before.before.before.before.if1.true) in (
       mode_of c.before.before.before.before.before.before.before.args.c.length
           c.before.before.before.before.before.before.before.args.c.here s.1,
@@ -25,18 +25,18 @@ finished-requires c κs = (let s = sane-told c.before.before.before.before.befor
     ))
 
 returns-2 : tie.Need-returns-2
-returns-2 c = c.finished.ensures ∙ ended-whole c.before.before.before.before.before.before.before.before.args.c
+returns-2 c = c.finished.ensures ∙ ended_whole c.before.before.before.before.before.before.before.before.args.c
     (sym c.before.before.before.before.before.before.before.sane.ensures ∙ c.before.before.before.before.before.before.if1.true)
     c.before.before.before.before.if2.false c.before.before.if3.true
 
 returns-3 : tie.Need-returns-3
-returns-3 c = ended-open c.before.before.before.before.before.before.args.c
+returns-3 c = ended_open c.before.before.before.before.before.before.args.c
     (sym c.before.before.before.before.before.sane.ensures ∙ c.before.before.before.before.if1.true) c.before.before.if2.false
     c.if3.false
 
 returns-4 : tie.Need-returns-4
-returns-4 c = ended-spent c.before.before.args.c (sym c.before.sane.ensures ∙ c.if1.false)
+returns-4 c = ended_spent c.before.before.args.c (sym c.before.sane.ensures ∙ c.if1.false)
 
-pub ended-spec : {M : Type 1} → statement M
-ended-spec =
+pub ended_spec : {M : Type 1} → statement M
+ended_spec =
     tie.close (tie.spec sane-requires returns finished-requires returns-2 returns-3 returns-4)

@@ -1,5 +1,5 @@
 use mathlib.Core.Path.{refl}
-use Rattle.arriving.specs.Between.Arriving.{saneMode}
+use Rattle.arriving.specs.Between.Arriving.{sane_mode}
 use Rattle.arriving.proofs.StepsLaws.{by}
 use borrow.Author.Rules.{rules}
 use Rattle.arriving.proofs.sane_mode.Statement.{statement}
@@ -48,55 +48,55 @@ enum-told-11 : tie.Need-enum-told-11
 enum-told-11 c = search rules
 
 returns : tie.Need-returns
-unfolding saneMode
-returns c = by (saneMode c.before.before.args.n) c.enum_told.given.1 refl
+unfolding sane_mode
+returns c = by (sane_mode c.before.before.args.n) c.enum_told.given.1 refl
 
 returns-2 : tie.Need-returns-2
-unfolding saneMode
-returns-2 c = by (saneMode c.before.before.args.n) c.enum-told2.given.1 refl
+unfolding sane_mode
+returns-2 c = by (sane_mode c.before.before.args.n) c.enum-told2.given.1 refl
 
 returns-3 : tie.Need-returns-3
-unfolding saneMode
-returns-3 c = by (saneMode c.before.before.args.n) c.enum-told3.given.1 refl
+unfolding sane_mode
+returns-3 c = by (sane_mode c.before.before.args.n) c.enum-told3.given.1 refl
 
 returns-4 : tie.Need-returns-4
-unfolding saneMode
-returns-4 c = by (saneMode c.before.before.args.n) c.enum-told4.given.1 refl
+unfolding sane_mode
+returns-4 c = by (sane_mode c.before.before.args.n) c.enum-told4.given.1 refl
 
 returns-5 : tie.Need-returns-5
-unfolding saneMode
-returns-5 c = by (saneMode c.before.before.args.n) c.enum-told5.given.1 refl
+unfolding sane_mode
+returns-5 c = by (sane_mode c.before.before.args.n) c.enum-told5.given.1 refl
 
 returns-6 : tie.Need-returns-6
-unfolding saneMode
-returns-6 c = by (saneMode c.before.before.args.n) c.enum-told6.given.1 refl
+unfolding sane_mode
+returns-6 c = by (sane_mode c.before.before.args.n) c.enum-told6.given.1 refl
 
 returns-7 : tie.Need-returns-7
-unfolding saneMode
-returns-7 c = by (saneMode c.before.before.before.before.args.n) c.before.before.mode.given.1 c.sane-figure.ensures
+unfolding sane_mode
+returns-7 c = by (sane_mode c.before.before.before.before.args.n) c.before.before.mode.given.1 c.sane-figure.ensures
 
 returns-8 : tie.Need-returns-8
-unfolding saneMode
-returns-8 c = by (saneMode c.before.before.args.n) c.enum-told7.given.1 refl
+unfolding sane_mode
+returns-8 c = by (sane_mode c.before.before.args.n) c.enum-told7.given.1 refl
 
 returns-9 : tie.Need-returns-9
-unfolding saneMode
-returns-9 c = by (saneMode c.before.before.args.n) c.enum-told8.given.1 refl
+unfolding sane_mode
+returns-9 c = by (sane_mode c.before.before.args.n) c.enum-told8.given.1 refl
 
 returns-10 : tie.Need-returns-10
-unfolding saneMode
-returns-10 c = by (saneMode c.before.before.args.n) c.enum-told9.given.1 refl
+unfolding sane_mode
+returns-10 c = by (sane_mode c.before.before.args.n) c.enum-told9.given.1 refl
 
 returns-11 : tie.Need-returns-11
-unfolding saneMode
-returns-11 c = by (saneMode c.before.before.args.n) c.enum-told10.given.1 refl
+unfolding sane_mode
+returns-11 c = by (sane_mode c.before.before.args.n) c.enum-told10.given.1 refl
 
 returns-12 : tie.Need-returns-12
-unfolding saneMode
-returns-12 c = by (saneMode c.before.before.args.n) c.enum-told11.given.1 refl
+unfolding sane_mode
+returns-12 c = by (sane_mode c.before.before.args.n) c.enum-told11.given.1 refl
 
-pub sane-mode-spec : {M : Type 1} → statement M
-sane-mode-spec =
+pub sane_mode_spec : {M : Type 1} → statement M
+sane_mode_spec =
     tie.close
     (tie.spec
     enum_told

@@ -1,8 +1,8 @@
 use mathlib.Core.Path.{ap}
 use lib.ListN.{replicate}
-use Rattle.meaning.specs.Limits.{depthLimit}
+use Rattle.meaning.specs.Limits.{depth_limit}
 use Rattle.arriving.specs.declared.Core.{Core}
-use Rattle.arriving.specs.Between.Arriving.{checkOf}
+use Rattle.arriving.specs.Between.Arriving.{check_of}
 use borrow.Author.Rules.{rules}
 use Rattle.arriving.proofs.spent.Statement.{statement}
 use Rattle.arriving.proofs.spent.Tie as tie
@@ -14,8 +14,8 @@ spent-core-requires : tie.Need-spent-core-requires
 spent-core-requires c κs = search rules
 
 returns : tie.Need-returns
-unfolding depthLimit
-returns c = ap (λ (c : Core). checkOf c (replicate depthLimit 0)) c.spent-core.ensures
+unfolding depth_limit
+returns c = ap (λ (c : Core). check_of c (replicate depth_limit 0)) c.spent-core.ensures
 
-pub spent-spec : {M : Type 1} → statement M
-spent-spec = tie.close (tie.spec spent-core-requires returns)
+pub spent_spec : {M : Type 1} → statement M
+spent_spec = tie.close (tie.spec spent-core-requires returns)

@@ -1,7 +1,7 @@
 -- The check while a text arrives (docs/FORMAT.md, 13.2): its state, what a part does to it, what it comes to. Assumes
 -- nothing.
 use Rattle.std.specs.Prelude.{ℕ, suc, ◌+◌, ◌*◌, ◌-◌, Bool, true, false, cond, ◌&&◌, List, [], ◌∷◌, ◌++◌, eqb, leb, length, replicate}
-use Rattle.meaning.specs.Limits.{textLimit, depthLimit}
+use Rattle.meaning.specs.Limits.{text_limit, depth_limit}
 use Rattle.meaning.specs.declared.Refusal.TheVariants.{TextTooLong, NotUtf8, NotGrammar}
 use Rattle.reader.specs.declared.Answer.{Answer}
 use Rattle.reader.specs.declared.Answer.TheVariants.{Counts, Refused}
@@ -16,65 +16,65 @@ use Rattle.arriving.specs.declared.states.Here.{Here}
 use Rattle.arriving.specs.declared.states.Out.{Out}
 use Rattle.arriving.specs.declared.states.Out.TheVariants.{Takes, Stops, Breaks}
 use Rattle.arriving.specs.Between.Octets as Octets
-use Rattle.arriving.specs.Between.Figures.{nextFigure, saneFigure}
-use Rattle.arriving.specs.Between.Times.{nextMoment}
-use Rattle.arriving.specs.Between.Strings.{nextQuoted}
-use Rattle.arriving.specs.Between.Small.{nextWord, nextOctets, nextName}
-use Rattle.arriving.specs.Between.Steps.{Stand, here_of, walked, afterValue}
+use Rattle.arriving.specs.Between.Figures.{next_figure, sane_figure}
+use Rattle.arriving.specs.Between.Times.{next_moment}
+use Rattle.arriving.specs.Between.Strings.{next_quoted}
+use Rattle.arriving.specs.Between.Small.{next_word, next_octets, next_name}
+use Rattle.arriving.specs.Between.Steps.{Stand, here_of, walked, after_value}
 
 abbrev pub core_of : ℕ → Utf → Here → Core
 core_of n u h = record { length = n; utf = u; here = h }
 
-abbrev pub checkOf : Core → List ℕ → Check
-checkOf c ks = record { core = c; kinds = ks }
+abbrev pub check_of : Core → List ℕ → Check
+check_of c ks = record { core = c; kinds = ks }
 
 -- nothing has come
-abbrev pub startedCore : Core
-startedCore = core_of 0 Octets.between (here_of Mode.At Due.Value 0 0 0)
+abbrev pub started_core : Core
+started_core = core_of 0 Octets.between (here_of Mode.At Due.Value 0 0 0)
 
 abbrev pub started : Check
-started = checkOf startedCore (replicate depthLimit 0)
+started = check_of started_core (replicate depth_limit 0)
 
 -- too many bytes have come, or the state never came from a start
-abbrev pub spentCore : Core
-spentCore = core_of (suc textLimit) Octets.between (here_of (Mode.Failed TextTooLong) Due.Value 0 0 0)
+abbrev pub spent_core : Core
+spent_core = core_of (suc text_limit) Octets.between (here_of (Mode.Failed TextTooLong) Due.Value 0 0 0)
 
 abbrev pub spent : Check
-spent = checkOf spentCore (replicate depthLimit 0)
+spent = check_of spent_core (replicate depth_limit 0)
 
 -- ---- the bounds that sums and indexes need, kept by every byte
 
-unfoldable pub saneMode : ℕ → ModeOf.Mode → Bool
-saneMode n Mode.At = true
-saneMode n Mode.Slash = true
-saneMode n Mode.Line = true
-saneMode n Mode.Block = true
-saneMode n Mode.Star = true
-saneMode n (Mode.Spelling k) = true
-saneMode n (Mode.Counting f) = saneFigure n f
-saneMode n (Mode.Timing s m) = true
-saneMode n (Mode.Quoting k s) = true
-saneMode n (Mode.Packing o) = true
-saneMode n Mode.Naming = true
-saneMode n (Mode.Failed r) = true
+unfoldable pub sane_mode : ℕ → ModeOf.Mode → Bool
+sane_mode n Mode.At = true
+sane_mode n Mode.Slash = true
+sane_mode n Mode.Line = true
+sane_mode n Mode.Block = true
+sane_mode n Mode.Star = true
+sane_mode n (Mode.Spelling k) = true
+sane_mode n (Mode.Counting f) = sane_figure n f
+sane_mode n (Mode.Timing s m) = true
+sane_mode n (Mode.Quoting k s) = true
+sane_mode n (Mode.Packing o) = true
+sane_mode n Mode.Naming = true
+sane_mode n (Mode.Failed r) = true
 
 -- after n bytes; a byte brings at most 300 store bytes, whatever the state
-unfoldable pub saneHere : ℕ → Here → Bool
-saneHere n h = leb h.depth depthLimit && (leb h.records n && (leb h.stored (300 * n) && saneMode n h.mode))
+unfoldable pub sane_here : ℕ → Here → Bool
+sane_here n h = leb h.depth depth_limit && (leb h.records n && (leb h.stored (300 * n) && sane_mode n h.mode))
 
 unfoldable pub sane : Core → Bool
-sane c = leb c.length textLimit && saneHere c.length c.here
+sane c = leb c.length text_limit && sane_here c.length c.here
 
 -- ---- a part
 
 abbrev pub grown : Core → List ℕ → Stand → Check
-grown c t y = checkOf (core_of (c.length + length t) (Octets.fedUtf c.utf c.length t) y.0) y.1
+grown c t y = check_of (core_of (c.length + length t) (Octets.fed_utf c.utf c.length t) y.0) y.1
 
 unfoldable pub fed : Check → List ℕ → Check
 fed x t =
     let c = x.core in
     let y = grown c t (walked (c.here, x.kinds) c.length t) in
-    cond (sane c) (cond (leb (length t) (textLimit - c.length)) y spent) spent
+    cond (sane c) (cond (leb (length t) (text_limit - c.length)) y spent) spent
 
 -- parts, one after the other
 unfoldable pub feds : Check → List (List ℕ) → Check
@@ -85,37 +85,37 @@ feds x (t ∷ ts) = feds (fed x t) ts
 
 unfoldable pub complete : Here → ℕ → Answer
 complete h p =
-    cond (afterValue h.due) (cond (eqb h.depth 0) (Counts h.records h.stored) (Refused (NotGrammar p)))
+    cond (after_value h.due) (cond (eqb h.depth 0) (Counts h.records h.stored) (Refused (NotGrammar p)))
     (Refused (NotGrammar p))
 
-unfoldable pub endOut : Here → ℕ → Out → Answer
-endOut h p (Takes m n) = Refused (NotGrammar p)
-endOut h p Stops = complete h p
-endOut h p (Breaks r) = Refused r
+unfoldable pub end_out : Here → ℕ → Out → Answer
+end_out h p (Takes m n) = Refused (NotGrammar p)
+end_out h p Stops = complete h p
+end_out h p (Breaks r) = Refused r
 
-unfoldable pub endMode : Here → ℕ → ModeOf.Mode → Answer
-endMode h p Mode.At = complete h p
-endMode h p Mode.Line = complete h p
-endMode h p Mode.Slash = Refused (NotGrammar p)
-endMode h p Mode.Block = Refused (NotGrammar p)
-endMode h p Mode.Star = Refused (NotGrammar p)
-endMode h p (Mode.Spelling n) = endOut h p (nextWord n p 0)
-endMode h p (Mode.Counting f) = endOut h p (nextFigure f p 0)
-endMode h p (Mode.Timing s m) = endOut h p (nextMoment s m p 0)
-endMode h p (Mode.Quoting k s) = endOut h p (nextQuoted k s p 0)
-endMode h p (Mode.Packing o) = endOut h p (nextOctets o p 0)
-endMode h p Mode.Naming = endOut h p (nextName 0)
-endMode h p (Mode.Failed r) = Refused r
+unfoldable pub end_mode : Here → ℕ → ModeOf.Mode → Answer
+end_mode h p Mode.At = complete h p
+end_mode h p Mode.Line = complete h p
+end_mode h p Mode.Slash = Refused (NotGrammar p)
+end_mode h p Mode.Block = Refused (NotGrammar p)
+end_mode h p Mode.Star = Refused (NotGrammar p)
+end_mode h p (Mode.Spelling n) = end_out h p (next_word n p 0)
+end_mode h p (Mode.Counting f) = end_out h p (next_figure f p 0)
+end_mode h p (Mode.Timing s m) = end_out h p (next_moment s m p 0)
+end_mode h p (Mode.Quoting k s) = end_out h p (next_quoted k s p 0)
+end_mode h p (Mode.Packing o) = end_out h p (next_octets o p 0)
+end_mode h p Mode.Naming = end_out h p (next_name 0)
+end_mode h p (Mode.Failed r) = Refused r
 
-unfoldable pub endedCore : Core → Answer
-endedCore c =
+unfoldable pub ended_core : Core → Answer
+ended_core c =
     cond (sane c)
     (cond c.utf.broken (Refused (NotUtf8 c.utf.first))
-    (cond (eqb c.utf.left 0) (endMode c.here c.length c.here.mode) (Refused (NotUtf8 c.utf.first))))
+    (cond (eqb c.utf.left 0) (end_mode c.here c.length c.here.mode) (Refused (NotUtf8 c.utf.first))))
     (Refused TextTooLong)
 
 abbrev pub ended : Check → Answer
-ended x = endedCore x.core
+ended x = ended_core x.core
 
 -- the text of parts
 abbrev pub joined : List (List ℕ) → List ℕ

@@ -3,7 +3,7 @@
 use Rattle.std.specs.Prelude.{ℕ, ◌+◌, cond, List, [], ◌∷◌, ◌++◌, eqb, ltb, leb, get_or}
 use Rattle.meaning.specs.Letters.{letters, ch}
 use Rattle.meaning.specs.declared.Refusal.TheVariants.{NotGrammar}
-use Rattle.machine.specs.Strings.{hexOf, noDigit, short_of, noShort}
+use Rattle.machine.specs.Strings.{hex_of, no_digit, short_of, no_short}
 use Rattle.machine.specs.Names as Names
 use Rattle.arriving.specs.declared.states.Octets as OctetsOf
 use Rattle.arriving.specs.declared.states.Octets.TheVariants as Octets
@@ -14,20 +14,20 @@ use Rattle.arriving.specs.declared.states.Out.TheVariants.{Takes, Stops, Breaks}
 -- ---- words
 
 -- where the letters after the first one begin, in the list of words
-abbrev pub nullAt : ℕ
-nullAt = 1
+abbrev pub null_at : ℕ
+null_at = 1
 
-abbrev pub trueAt : ℕ
-trueAt = 6
+abbrev pub true_at : ℕ
+true_at = 6
 
-abbrev pub falseAt : ℕ
-falseAt = 11
+abbrev pub false_at : ℕ
+false_at = 11
 
-abbrev pub notANumberAt : ℕ
-notANumberAt = 17
+abbrev pub not_a_number_at : ℕ
+not_a_number_at = 17
 
-abbrev pub infinityAt : ℕ
-infinityAt = 21
+abbrev pub infinity_at : ℕ
+infinity_at = 21
 
 abbrev pub closed : List ℕ → List ℕ → List ℕ
 closed word rest = word ++ (0 ∷ rest)
@@ -39,24 +39,24 @@ words =
     (closed (letters "NaN") (closed (letters "Infinity") []))))
 
 -- 0 where the word is whole
-unfoldable pub letterAt : ℕ → ℕ
-letterAt n = get_or words n 0
+unfoldable pub letter_at : ℕ → ℕ
+letter_at n = get_or words n 0
 
 -- in a word before the letter at the place n of the list of words
-unfoldable pub nextWord : ℕ → ℕ → ℕ → Out
-nextWord n p b =
-    cond (eqb (letterAt n) 0) Stops
-    (cond (eqb b (letterAt n)) (Takes (Spelling (n + 1)) 0) (Breaks (NotGrammar p)))
+unfoldable pub next_word : ℕ → ℕ → ℕ → Out
+next_word n p b =
+    cond (eqb (letter_at n) 0) Stops
+    (cond (eqb b (letter_at n)) (Takes (Spelling (n + 1)) 0) (Breaks (NotGrammar p)))
 
 -- ---- identifiers
 
-abbrev pub onName : Names.Class → Out
-onName Names.letter = Takes Naming 1
-onName Names.figure = Takes Naming 1
-onName Names.neither = Stops
+abbrev pub on_name : Names.Class → Out
+on_name Names.letter = Takes Naming 1
+on_name Names.figure = Takes Naming 1
+on_name Names.neither = Stops
 
-unfoldable pub nextName : ℕ → Out
-nextName b = onName (Names.class_of b)
+unfoldable pub next_name : ℕ → Out
+next_name b = on_name (Names.class_of b)
 
 -- ---- binary parts
 
@@ -64,37 +64,37 @@ abbrev pub packs : OctetsOf.Octets → ℕ → Out
 packs o n = Takes (Packing o) n
 
 -- a hexadecimal digit takes the part on; without one it is this instead
-unfoldable pub onDigit : ℕ → Out → Out → Out
-onDigit x next instead = cond (ltb x noDigit) next instead
+unfoldable pub on_digit : ℕ → Out → Out → Out
+on_digit x next instead = cond (ltb x no_digit) next instead
 
-unfoldable pub onShort : ℕ → ℕ → ℕ → Out
-onShort p q c = cond (ltb c noShort) (packs (Octets.Text q) 1) (Breaks (NotGrammar p))
+unfoldable pub on_short : ℕ → ℕ → ℕ → Out
+on_short p q c = cond (ltb c no_short) (packs (Octets.Text q) 1) (Breaks (NotGrammar p))
 
-unfoldable pub onText : ℕ → ℕ → ℕ → Out
-onText p q b =
+unfoldable pub on_text : ℕ → ℕ → ℕ → Out
+on_text p q b =
     cond (eqb b (ch "\\")) (packs (Octets.Escape q) 0)
     (cond (eqb b q) (packs Octets.Done 0)
     (cond (ltb b 0x20) (Breaks (NotGrammar p))
     (cond (leb b 0x7E) (packs (Octets.Text q) 1) (Breaks (NotGrammar p)))))
 
-unfoldable pub onDollar : ℕ → Out
-onDollar b =
+unfoldable pub on_dollar : ℕ → Out
+on_dollar b =
     cond (eqb b (ch "\"")) (packs (Octets.Text b) 0)
-    (cond (eqb b (ch "'")) (packs (Octets.Text b) 0) (onDigit (hexOf b) (packs Octets.Low 0) Stops))
+    (cond (eqb b (ch "'")) (packs (Octets.Text b) 0) (on_digit (hex_of b) (packs Octets.Low 0) Stops))
 
-unfoldable pub onEscape : ℕ → ℕ → ℕ → Out
-onEscape p q b = cond (eqb b (ch "x")) (packs (Octets.Hex q) 0) (onShort p q (short_of b))
+unfoldable pub on_escape : ℕ → ℕ → ℕ → Out
+on_escape p q b = cond (eqb b (ch "x")) (packs (Octets.Hex q) 0) (on_short p q (short_of b))
 
-unfoldable pub onPair : ℕ → Out
-onPair b = cond (eqb b (ch ".")) (packs Octets.Dot 0) (onDigit (hexOf b) (packs Octets.Low 0) Stops)
+unfoldable pub on_pair : ℕ → Out
+on_pair b = cond (eqb b (ch ".")) (packs Octets.Dot 0) (on_digit (hex_of b) (packs Octets.Low 0) Stops)
 
-unfoldable pub nextOctets : OctetsOf.Octets → ℕ → ℕ → Out
-nextOctets Octets.Dollar p b = onDollar b
-nextOctets (Octets.Text q) p b = onText p q b
-nextOctets (Octets.Escape q) p b = onEscape p q b
-nextOctets (Octets.Hex q) p b = onDigit (hexOf b) (packs (Octets.HexLow q) 0) (Breaks (NotGrammar p))
-nextOctets (Octets.HexLow q) p b = onDigit (hexOf b) (packs (Octets.Text q) 1) (Breaks (NotGrammar p))
-nextOctets Octets.Low p b = onDigit (hexOf b) (packs Octets.Pair 1) (Breaks (NotGrammar p))
-nextOctets Octets.Pair p b = onPair b
-nextOctets Octets.Dot p b = onDigit (hexOf b) (packs Octets.Low 0) (Breaks (NotGrammar p))
-nextOctets Octets.Done p b = Stops
+unfoldable pub next_octets : OctetsOf.Octets → ℕ → ℕ → Out
+next_octets Octets.Dollar p b = on_dollar b
+next_octets (Octets.Text q) p b = on_text p q b
+next_octets (Octets.Escape q) p b = on_escape p q b
+next_octets (Octets.Hex q) p b = on_digit (hex_of b) (packs (Octets.HexLow q) 0) (Breaks (NotGrammar p))
+next_octets (Octets.HexLow q) p b = on_digit (hex_of b) (packs (Octets.Text q) 1) (Breaks (NotGrammar p))
+next_octets Octets.Low p b = on_digit (hex_of b) (packs Octets.Pair 1) (Breaks (NotGrammar p))
+next_octets Octets.Pair p b = on_pair b
+next_octets Octets.Dot p b = on_digit (hex_of b) (packs Octets.Low 0) (Breaks (NotGrammar p))
+next_octets Octets.Done p b = Stops

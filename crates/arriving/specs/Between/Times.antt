@@ -1,12 +1,12 @@
 -- A time value (docs/FORMAT.md, 6), a byte at a time, as the check in parts keeps it: of its fields whether they are in
 -- range so far. Assumes nothing.
 use Rattle.std.specs.Prelude.{ℕ, zero, suc, ◌+◌, ◌*◌, ◌-◌, ◌%◌, Bool, cond, ◌&&◌, eqb, leb}
-use Rattle.rules.specs.Between.Decided.{isDate}
+use Rattle.rules.specs.Between.Decided.{is_date}
 use Rattle.meaning.specs.Letters.{ch}
 use Rattle.meaning.specs.declared.Refusal.TheVariants.{NotGrammar, BadTime}
-use Rattle.machine.specs.Numeric.{Dg, digit, other, dgOf, dayOf, letterD, spaceD, otherD}
+use Rattle.machine.specs.Numeric.{Dg, digit, other, dg_of, day_of, letter_d, space_d, other_d}
 use Rattle.machine.specs.Numeric as Numeric
-use Rattle.machine.specs.Numeric.{Sec, digitS, pointS, zuluS, plusS, minusS, otherS, secOf}
+use Rattle.machine.specs.Numeric.{Sec, digit_s, point_s, zulu_s, plus_s, minus_s, other_s, sec_of}
 use Rattle.arriving.specs.declared.states.Stamp.{Stamp}
 use Rattle.arriving.specs.declared.states.Slot.{Slot}
 use Rattle.arriving.specs.declared.states.Slot.TheVariants as Slot
@@ -27,83 +27,83 @@ judged s g = stamp s.first s.dated g
 abbrev pub within : Stamp → ℕ → ℕ → Stamp
 within s v most = judged s (s.good && leb v most)
 
-abbrev pub goesOn : Stamp → Moment → Out
-goesOn s m = Takes (Timing s m) 0
+abbrev pub goes_on : Stamp → Moment → Out
+goes_on s m = Takes (Timing s m) 0
 
 -- the first digit of a field is due
-abbrev pub fieldDue : Stamp → Slot → Out
-fieldDue s l = goesOn s (Field l 2 0)
+abbrev pub field_due : Stamp → Slot → Out
+field_due s l = goes_on s (Field l 2 0)
 
 -- the check is made at the end, and gives 5 at the first byte
-abbrev pub testedOut : Stamp → Out
-testedOut s = cond s.good Stops (Breaks (BadTime s.first))
+abbrev pub tested_out : Stamp → Out
+tested_out s = cond s.good Stops (Breaks (BadTime s.first))
 
 -- a date goes on with a time after T, or after one space followed by a digit
-abbrev pub nextDay : Stamp → Numeric.Day → Out
-nextDay s letterD = fieldDue s Slot.Hour
-nextDay s spaceD = goesOn s Spaced
-nextDay s otherD = testedOut s
+abbrev pub next_day : Stamp → Numeric.Day → Out
+next_day s letter_d = field_due s Slot.Hour
+next_day s space_d = goes_on s Spaced
+next_day s other_d = tested_out s
 
 -- after a date's time of day
-abbrev pub nextOffset : Stamp → Sec → Out
-nextOffset s zuluS = goesOn s Zulu
-nextOffset s plusS = fieldDue s Slot.OffsetHour
-nextOffset s minusS = fieldDue s Slot.OffsetHour
-nextOffset s digitS = testedOut s
-nextOffset s pointS = testedOut s
-nextOffset s otherS = testedOut s
+abbrev pub next_offset : Stamp → Sec → Out
+next_offset s zulu_s = goes_on s Zulu
+next_offset s plus_s = field_due s Slot.OffsetHour
+next_offset s minus_s = field_due s Slot.OffsetHour
+next_offset s digit_s = tested_out s
+next_offset s point_s = tested_out s
+next_offset s other_s = tested_out s
 
 -- a local time has no offset
-abbrev pub nextZone : Stamp → Sec → Out
-nextZone s c = cond s.dated (nextOffset s c) (testedOut s)
+abbrev pub next_zone : Stamp → Sec → Out
+next_zone s c = cond s.dated (next_offset s c) (tested_out s)
 
-abbrev pub nextSecond : Stamp → Sec → Out
-nextSecond s pointS = goesOn s Point
-nextSecond s digitS = nextZone s digitS
-nextSecond s zuluS = nextZone s zuluS
-nextSecond s plusS = nextZone s plusS
-nextSecond s minusS = nextZone s minusS
-nextSecond s otherS = nextZone s otherS
+abbrev pub next_second : Stamp → Sec → Out
+next_second s point_s = goes_on s Point
+next_second s digit_s = next_zone s digit_s
+next_second s zulu_s = next_zone s zulu_s
+next_second s plus_s = next_zone s plus_s
+next_second s minus_s = next_zone s minus_s
+next_second s other_s = next_zone s other_s
 
-abbrev pub nextFraction : Stamp → Sec → Out
-nextFraction s digitS = goesOn s Fraction
-nextFraction s pointS = nextZone s pointS
-nextFraction s zuluS = nextZone s zuluS
-nextFraction s plusS = nextZone s plusS
-nextFraction s minusS = nextZone s minusS
-nextFraction s otherS = nextZone s otherS
+abbrev pub next_fraction : Stamp → Sec → Out
+next_fraction s digit_s = goes_on s Fraction
+next_fraction s point_s = next_zone s point_s
+next_fraction s zulu_s = next_zone s zulu_s
+next_fraction s plus_s = next_zone s plus_s
+next_fraction s minus_s = next_zone s minus_s
+next_fraction s other_s = next_zone s other_s
 
 -- no byte but this, and then the next field
-abbrev pub onlyThen : Stamp → Slot → ℕ → ℕ → ℕ → Out
-onlyThen s l mark p b = cond (eqb b mark) (fieldDue s l) (Breaks (NotGrammar p))
+abbrev pub only_then : Stamp → Slot → ℕ → ℕ → ℕ → Out
+only_then s l mark p b = cond (eqb b mark) (field_due s l) (Breaks (NotGrammar p))
 
 -- after a field of the value v
-abbrev pub nextFull : Stamp → Slot → ℕ → ℕ → ℕ → Out
-nextFull s (Slot.Month y) v p b = onlyThen s (Slot.Day y v) (ch "-") p b
-nextFull s (Slot.Day y m) v p b = nextDay (judged s (isDate y m v)) (dayOf b)
-nextFull s Slot.Hour v p b = onlyThen (within s v 23) Slot.Minute (ch ":") p b
-nextFull s Slot.Minute v p b = onlyThen (within s v 59) Slot.Second (ch ":") p b
-nextFull s Slot.Second v p b = nextSecond (within s v 59) (secOf b)
-nextFull s Slot.OffsetHour v p b = onlyThen (within s v 23) Slot.OffsetMinute (ch ":") p b
-nextFull s Slot.OffsetMinute v p b = testedOut (within s v 59)
+abbrev pub next_full : Stamp → Slot → ℕ → ℕ → ℕ → Out
+next_full s (Slot.Month y) v p b = only_then s (Slot.Day y v) (ch "-") p b
+next_full s (Slot.Day y m) v p b = next_day (judged s (is_date y m v)) (day_of b)
+next_full s Slot.Hour v p b = only_then (within s v 23) Slot.Minute (ch ":") p b
+next_full s Slot.Minute v p b = only_then (within s v 59) Slot.Second (ch ":") p b
+next_full s Slot.Second v p b = next_second (within s v 59) (sec_of b)
+next_full s Slot.OffsetHour v p b = only_then (within s v 23) Slot.OffsetMinute (ch ":") p b
+next_full s Slot.OffsetMinute v p b = tested_out (within s v 59)
 
 -- with n digits more to come; a field has two
-abbrev pub nextField : Stamp → Slot → ℕ → ℕ → ℕ → ℕ → Dg → Out
-nextField s l n v p b digit = goesOn s (Field l n (10 * (v % 10) + (b - ch "0")))
-nextField s l n v p b other = Breaks (NotGrammar p)
+abbrev pub next_field : Stamp → Slot → ℕ → ℕ → ℕ → ℕ → Dg → Out
+next_field s l n v p b digit = goes_on s (Field l n (10 * (v % 10) + (b - ch "0")))
+next_field s l n v p b other = Breaks (NotGrammar p)
 
-abbrev pub nextSpaced : Stamp → ℕ → Dg → Out
-nextSpaced s b digit = goesOn s (Field Slot.Hour 1 (b - ch "0"))
-nextSpaced s b other = testedOut s
+abbrev pub next_spaced : Stamp → ℕ → Dg → Out
+next_spaced s b digit = goes_on s (Field Slot.Hour 1 (b - ch "0"))
+next_spaced s b other = tested_out s
 
-abbrev pub nextPoint : Stamp → ℕ → Dg → Out
-nextPoint s p digit = goesOn s Fraction
-nextPoint s p other = Breaks (NotGrammar p)
+abbrev pub next_point : Stamp → ℕ → Dg → Out
+next_point s p digit = goes_on s Fraction
+next_point s p other = Breaks (NotGrammar p)
 
-unfoldable pub nextMoment : Stamp → Moment → ℕ → ℕ → Out
-nextMoment s (Field l zero v) p b = nextFull s l v p b
-nextMoment s (Field l (suc n) v) p b = nextField s l n v p b (dgOf b)
-nextMoment s Spaced p b = nextSpaced s b (dgOf b)
-nextMoment s Point p b = nextPoint s p (dgOf b)
-nextMoment s Fraction p b = nextFraction s (secOf b)
-nextMoment s Zulu p b = testedOut s
+unfoldable pub next_moment : Stamp → Moment → ℕ → ℕ → Out
+next_moment s (Field l zero v) p b = next_full s l v p b
+next_moment s (Field l (suc n) v) p b = next_field s l n v p b (dg_of b)
+next_moment s Spaced p b = next_spaced s b (dg_of b)
+next_moment s Point p b = next_point s p (dg_of b)
+next_moment s Fraction p b = next_fraction s (sec_of b)
+next_moment s Zulu p b = tested_out s

@@ -11,15 +11,15 @@ use lib.ListN.{length}
 use borrow.Author.Tests.{ltb-true, ltb-false, eqb-true, eqb-false, ne_eqb, le-ltb}
 use Rattle.rules.specs.Rfc3629.{In, Char, Octets, Scalar, encode}
 use Rattle.rules.proofs.Characters.{Each, all_none, all_more, High, long, short}
-use Rattle.rules.proofs.Numbers.{row-1, Numbered, numbered}
+use Rattle.rules.proofs.Numbers.{row_1, Numbered, numbered}
 use Rattle.meaning.specs.Letters.{letters, ch}
 use Rattle.meaning.specs.Good.{Bytes}
-use Rattle.meaning.specs.Canonical.{hexDigit, hexPair, escaped, escapes, quoted, hexPairs, binaryText}
+use Rattle.meaning.specs.Canonical.{hex_digit, hex_pair, escaped, escapes, quoted, hex_pairs, binary_text}
 use Rattle.grammar.specs.Characters.{Of, Among, Hexdig, Digits, Hexadecimal}
-use Rattle.grammar.specs.Strings.{Quote, double, Chars, Quoted, Short, Escape, unescaped, String-part, Concat, String}
-use Rattle.grammar.specs.Binary.{B-part, B-direct, B-value, Binary}
+use Rattle.grammar.specs.Strings.{Quote, double, Chars, Quoted, Short, Escape, unescaped, StringPart, Concat, String}
+use Rattle.grammar.specs.Binary.{BPart, BDirect, BValue, Binary}
 use Rattle.grammar.proofs.Bytewise.{above}
-use Rattle.grammar.proofs.Canonical.Digits.{hex-digit-is, hex-pair-is}
+use Rattle.grammar.proofs.Canonical.Digits.{hex_digit_is, hex_pair_is}
 
 -- by a test
 by : (P : List ℕ → Type 0) (x : Bool) {s t : List ℕ} → (x ≡ true → P s) → (x ≡ false → P t) → P (cond x s t)
@@ -38,20 +38,20 @@ module _ {a u : List ℕ} (r : Inner a u) where
   one {c} {b} s e h = rw h (Chars.escaped {e = c ∷ []} {v = b ∷ []} (Escape.short s) r)
 
   -- `\u00` and two hex digits
-  control : (b : ℕ) → b < 32 → Inner (letters "\\u00" ++ (hexPair b ++ a)) (b ∷ u)
+  control : (b : ℕ) → b < 32 → Inner (letters "\\u00" ++ (hex_pair b ++ a)) (b ∷ u)
   control b h =
-      let d : Hexadecimal 4 (letters "00" ++ hexPair b) b = subst (λ (w : ℕ). Hexadecimal 4 (letters "00" ++ hexPair b) w) (omega arith)
-      (Digits.next (hex-digit-is 0 (omega arith)) (Digits.next (hex-digit-is 0 (omega arith))
-      (Digits.next (hex-digit-is (b / 16) (omega arith)) (Digits.next (hex-digit-is (b % 16) (omega arith)) Digits.over)))) in
-      subst (λ (v : List ℕ). Inner (letters "\\u00" ++ (hexPair b ++ a)) (v ++ u)) (row-1 b (omega arith))
-      (Chars.escaped {e = letters "u00" ++ hexPair b} (Escape.unit {n = b} d (record { top = omega arith; whole = inl (omega arith) })) r)
+      let d : Hexadecimal 4 (letters "00" ++ hex_pair b) b = subst (λ (w : ℕ). Hexadecimal 4 (letters "00" ++ hex_pair b) w) (omega arith)
+      (Digits.next (hex_digit_is 0 (omega arith)) (Digits.next (hex_digit_is 0 (omega arith))
+      (Digits.next (hex_digit_is (b / 16) (omega arith)) (Digits.next (hex_digit_is (b % 16) (omega arith)) Digits.over)))) in
+      subst (λ (v : List ℕ). Inner (letters "\\u00" ++ (hex_pair b ++ a)) (v ++ u)) (row_1 b (omega arith))
+      (Chars.escaped {e = letters "u00" ++ hex_pair b} (Escape.unit {n = b} d (record { top = omega arith; whole = inl (omega arith) })) r)
 
   -- a character that needs no escape
   character : (n : ℕ) → Scalar n → Of unescaped n → Inner (encode n ++ a) (encode n ++ u)
   character n s h = Chars.plain (Among.character s h) r
 
-  single-quote : (b : ℕ) → b ≡ ch "'" → Inner (b ∷ a) (b ∷ u)
-  single-quote b e = rw e (Chars.other-quote r)
+  single_quote : (b : ℕ) → b ≡ ch "'" → Inner (b ∷ a) (b ∷ u)
+  single_quote b e = rw e (Chars.other_quote r)
 
   ranges : (b : ℕ) → 32 ≤ b → b < 0x80 → (b ≡ 0x22 → ⊥) → (b ≡ 0x5C → ⊥) → (b ≡ 0x27 → ⊥) → Of unescaped b
   ranges b l h p q o = go (dec_lt b 0x22) (dec_lt b 0x27) (dec_lt b 0x5C)
@@ -66,33 +66,33 @@ module _ {a u : List ℕ} (r : Inner a u) where
   plain b l h p q = go (ℕ_discrete b 0x27)
     where
       go : Dec (b ≡ 0x27) → Inner (b ∷ a) (b ∷ u)
-      go (yes e) = single-quote b e
-      go (no e) = subst (λ (c : List ℕ). Inner (c ++ a) (c ++ u)) (row-1 b (omega arith))
+      go (yes e) = single_quote b e
+      go (no e) = subst (λ (c : List ℕ). Inner (c ++ a) (c ++ u)) (row_1 b (omega arith))
           (character b (record { top = omega arith; whole = inl (omega arith) }) (ranges b l h p q e))
 
   byte : (b : ℕ) → b < 0x80 → Inner (escaped b ++ a) (b ∷ u)
   unfolding escaped
   byte b h =
-      by (λ e. Inner (e ++ a) (b ∷ u)) (eqb b (ch "\"")) (λ e. one Short.double-quote b (eqb-true b _ e)) (λ p.
-      by (λ e. Inner (e ++ a) (b ∷ u)) (eqb b (ch "\\")) (λ e. one Short.reverse-solidus b (eqb-true b _ e)) (λ q.
+      by (λ e. Inner (e ++ a) (b ∷ u)) (eqb b (ch "\"")) (λ e. one Short.double_quote b (eqb-true b _ e)) (λ p.
+      by (λ e. Inner (e ++ a) (b ∷ u)) (eqb b (ch "\\")) (λ e. one Short.reverse_solidus b (eqb-true b _ e)) (λ q.
       by (λ e. Inner (e ++ a) (b ∷ u)) (eqb b (ch "\u{8}")) (λ e. one Short.backspace b (eqb-true b _ e)) (λ x.
-      by (λ e. Inner (e ++ a) (b ∷ u)) (eqb b (ch "\u{c}")) (λ e. one Short.form-feed b (eqb-true b _ e)) (λ x.
-      by (λ e. Inner (e ++ a) (b ∷ u)) (eqb b (ch "\n")) (λ e. one Short.line-feed b (eqb-true b _ e)) (λ x.
-      by (λ e. Inner (e ++ a) (b ∷ u)) (eqb b (ch "\r")) (λ e. one Short.carriage-return b (eqb-true b _ e)) (λ x.
+      by (λ e. Inner (e ++ a) (b ∷ u)) (eqb b (ch "\u{c}")) (λ e. one Short.form_feed b (eqb-true b _ e)) (λ x.
+      by (λ e. Inner (e ++ a) (b ∷ u)) (eqb b (ch "\n")) (λ e. one Short.line_feed b (eqb-true b _ e)) (λ x.
+      by (λ e. Inner (e ++ a) (b ∷ u)) (eqb b (ch "\r")) (λ e. one Short.carriage_return b (eqb-true b _ e)) (λ x.
       by (λ e. Inner (e ++ a) (b ∷ u)) (eqb b (ch "\t")) (λ e. one Short.tab b (eqb-true b _ e)) (λ x.
       by (λ e. Inner (e ++ a) (b ∷ u)) (ltb b (ch " ")) (λ e. control b (ltb-true b _ e))
       (λ x. plain b (ltb-false b _ x) h (eqb-false b _ p) (eqb-false b _ q)))))))))
 
 -- ---- a longer character
 
-escapes-join : (a b : List ℕ) → escapes (a ++ b) ≡ escapes a ++ escapes b
+escapes_join : (a b : List ℕ) → escapes (a ++ b) ≡ escapes a ++ escapes b
 unfolding escapes
-escapes-join [] b = refl
-escapes-join (c ∷ a) b = rw (escapes-join a b, append_assoc (escaped c) (escapes a) (escapes b))
+escapes_join [] b = refl
+escapes_join (c ∷ a) b = rw (escapes_join a b, append_assoc (escaped c) (escapes a) (escapes b))
 
-high-escaped : (b : ℕ) → 0x80 ≤ b → escaped b ≡ b ∷ []
+high_escaped : (b : ℕ) → 0x80 ≤ b → escaped b ≡ b ∷ []
 unfolding escaped
-high-escaped b h =
+high_escaped b h =
     rw (
       ne_eqb b 0x22 (λ e. omega arith),
       ne_eqb b 0x5C (λ e. omega arith),
@@ -104,16 +104,16 @@ high-escaped b h =
       le-ltb b 0x20 (omega arith),
     )
 
-high-escapes : {c : List ℕ} → Each High c → escapes c ≡ c
+high_escapes : {c : List ℕ} → Each High c → escapes c ≡ c
 unfolding escapes
-high-escapes all_none = refl
-high-escapes (all_more {b = b} h r) = rw (high-escaped b (omega arith), high-escapes r)
+high_escapes all_none = refl
+high_escapes (all_more {b = b} h r) = rw (high_escaped b (omega arith), high_escapes r)
 
 longer : {c a u : List ℕ} → Char c → 1 < length c → Inner a u → Inner (escapes c ++ a) (c ++ u)
 longer {c} {a} {u} x h r =
     let m = numbered x in
     let l = above m.number (subst (λ (d : List ℕ). 1 < length d) m.bytes h) in
-    rw (high-escapes (long x h)) (subst (λ (d : List ℕ). Inner (d ++ a) (d ++ u)) (sym m.bytes)
+    rw (high_escapes (long x h)) (subst (λ (d : List ℕ). Inner (d ++ a) (d ++ u)) (sym m.bytes)
     (character r m.number m.scalar (inr (inr (inr (inl (record { low = omega arith; high = m.scalar.top })))))))
 
 first : {c a u : List ℕ} → Char c → Inner a u → Inner (escapes c ++ a) (c ++ u)
@@ -127,20 +127,20 @@ first {c} {a} {u} x r = go (dec_lt 1 (length c))
 inner : {s : List ℕ} → Octets s → Inner (escapes s) s
 unfolding escapes
 inner Octets.none = Chars.none
-inner (Octets.more {c = c} {t = t} x r) = rw (escapes-join c t) (first x (inner r))
+inner (Octets.more {c = c} {t = t} x r) = rw (escapes_join c t) (first x (inner r))
 
-pub string-derived : {s : List ℕ} → Octets s → String true (quoted s) s
+pub string_derived : {s : List ℕ} → Octets s → String true (quoted s) s
 unfolding quoted
-string-derived x = Concat.part (String-part.one_line (Quoted.quoted double (inner x)))
+string_derived x = Concat.part (StringPart.one_line (Quoted.quoted double (inner x)))
 
 -- ---- binary
 
-pairs : (b : ℕ) (s : List ℕ) → Bytes (b ∷ s) → B-part (hexPairs (b ∷ s)) (b ∷ s)
-unfolding hexPairs
-pairs b [] h = B-part.last (hex-pair-is b h.0)
-pairs b (c ∷ s) h = B-part.more (hex-pair-is b h.0) (pairs c s h.1)
+pairs : (b : ℕ) (s : List ℕ) → Bytes (b ∷ s) → BPart (hex_pairs (b ∷ s)) (b ∷ s)
+unfolding hex_pairs
+pairs b [] h = BPart.last (hex_pair_is b h.0)
+pairs b (c ∷ s) h = BPart.more (hex_pair_is b h.0) (pairs c s h.1)
 
-pub binary-derived : (s : List ℕ) → Bytes s → Binary (binaryText s) s
-unfolding binaryText hexPairs
-binary-derived [] h = Concat.part B-value.empty
-binary-derived (b ∷ s) h = Concat.part (B-value.direct (B-direct.part (pairs b s h)))
+pub binary_derived : (s : List ℕ) → Bytes s → Binary (binary_text s) s
+unfolding binary_text hex_pairs
+binary_derived [] h = Concat.part BValue.empty
+binary_derived (b ∷ s) h = Concat.part (BValue.direct (BDirect.part (pairs b s h)))

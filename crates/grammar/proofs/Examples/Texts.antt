@@ -8,7 +8,7 @@ use Rattle.meaning.specs.declared.Number.TheVariants.{Finite, NotANumber, Infini
 use Rattle.meaning.specs.declared.Date.{Date}
 use Rattle.meaning.specs.declared.Time.TheVariants.{LocalDate, LocalTime, LocalDateTime, OffsetDateTime}
 use Rattle.meaning.specs.Letters.{letters}
-use Rattle.meaning.specs.Clock.{timeOfDay}
+use Rattle.meaning.specs.Clock.{time_of_day}
 use Rattle.meaning.specs.Meaning.{Meaning, null, number, string, binary, time, array, object, none, more, bare, member}
 use Rattle.grammar.specs.Values.{Text}
 
@@ -58,10 +58,10 @@ examples =
     ∷ (letters "\"\"\"\"\"\"", text "")
     -- times, with a tenth fraction digit
     ∷ (letters "2000-02-29", time (LocalDate (date 2000 2 29)))
-    ∷ (letters "10:23:54.345678", time (LocalTime (timeOfDay 10 23 54 345678000)))
-    ∷ (letters "2017-09-05 10:23:54.345678", time (LocalDateTime (date 2017 9 5) (timeOfDay 10 23 54 345678000)))
-    ∷ (letters "2017-09-05T10:23:54.345678+02:00", time (OffsetDateTime (date 2017 9 5) (timeOfDay 10 23 54 345678000) (pos 120)))
-    ∷ (letters "12:00:00.0000000009", time (LocalTime (timeOfDay 12 0 0 0)))
+    ∷ (letters "10:23:54.345678", time (LocalTime (time_of_day 10 23 54 345678000)))
+    ∷ (letters "2017-09-05 10:23:54.345678", time (LocalDateTime (date 2017 9 5) (time_of_day 10 23 54 345678000)))
+    ∷ (letters "2017-09-05T10:23:54.345678+02:00", time (OffsetDateTime (date 2017 9 5) (time_of_day 10 23 54 345678000) (pos 120)))
+    ∷ (letters "12:00:00.0000000009", time (LocalTime (time_of_day 12 0 0 0)))
     -- binary
     ∷ (letters "$\"Hello, \\x77orld!\"", binary (letters "Hello, world!"))
     ∷ (letters "$48656c6c6f.2c20.776f726c64.21", binary (letters "Hello, world!"))

@@ -3,9 +3,9 @@
 use Rattle.std.specs.Prelude.{◌≡◌, List, [], ◌∷◌, ◌++◌, ℕ, ◌+◌, ◌≤◌, ◌<◌, length, get_or, drop}
 use Rattle.meaning.specs.declared.Refusal.TheVariants.{NotGrammar}
 use Rattle.machine.specs.Scan.{Ran, ended, broke, ran}
-use Rattle.machine.specs.Strings.{noDigit}
+use Rattle.machine.specs.Strings.{no_digit}
 use Rattle.machine.specs.Binaries.{St, low, pairs, text, esc, begin, scan}
-use Rattle.items.specs.Between.Places.{digitAt, Runs}
+use Rattle.items.specs.Between.Places.{digit_at, Runs}
 use Rattle.items.specs.Between.PlacedPart.{Meant, Ended}
 use Rattle.items.specs.declared.binary_part.Pair.{Pair}
 use Rattle.items.specs.declared.binary_part.Octet.{Octet}
@@ -13,8 +13,8 @@ use Rattle.items.specs.declared.binary_part.Piece.{Piece}
 
 -- after a pair
 abbrev pub PairSays : List ℕ → ℕ → Pair → Type 0
-PairSays s p (Pair.Digit q) = ((a : List ℕ) → Runs scan s (pairs a) p (low a (digitAt s q)) (q + 1)) × (q < length s)
-    × (p ≤ q) × (digitAt s q < noDigit)
+PairSays s p (Pair.Digit q) = ((a : List ℕ) → Runs scan s (pairs a) p (low a (digit_at s q)) (q + 1)) × (q < length s)
+    × (p ≤ q) × (digit_at s q < no_digit)
 PairSays s p (Pair.End q) = ((a : List ℕ) → ran scan p (pairs a) (drop p s) ≡ ended a q) × (q ≡ p)
 PairSays s p (Pair.NotGrammar q) = (a : List ℕ) → ran scan p (pairs a) (drop p s) ≡ broke (NotGrammar q)
 
@@ -52,7 +52,7 @@ StateSays s c from p start entry exit (Piece.NotGrammar q) = ran scan p c (drop 
 
 -- after the first digit of the first pair
 abbrev pub PairsSays : List ℕ → ℕ → ℕ → List ℕ → List ℕ → Piece → Type 0
-PairsSays s p start entry exit r = StateSays s (low [] (digitAt s p)) p (p + 1) start entry exit r
+PairsSays s p start entry exit r = StateSays s (low [] (digit_at s p)) p (p + 1) start entry exit r
 
 -- after the opening quote
 abbrev pub TextSays : List ℕ → ℕ → ℕ → ℕ → List ℕ → List ℕ → Piece → Type 0

@@ -6,10 +6,10 @@ use Rattle.machine.specs.Names as Names
 use Rattle.items.specs.Between.Places.{Onward}
 use Rattle.items.specs.declared.identifier.Sort.{Sort}
 
-abbrev pub sortIs : Sort → Names.Class
-sortIs Sort.Letter = Names.letter
-sortIs Sort.Figure = Names.figure
-sortIs Sort.Neither = Names.neither
+abbrev pub sort_is : Sort → Names.Class
+sort_is Sort.Letter = Names.letter
+sort_is Sort.Figure = Names.figure
+sort_is Sort.Neither = Names.neither
 
 -- the letters and digits of an identifier from p on end at q
 pub record NameEnds (text : List ℕ) (p q : ℕ) : Type 0 where

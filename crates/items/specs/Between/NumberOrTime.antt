@@ -7,11 +7,11 @@ use Rattle.meaning.specs.declared.Time.{Time}
 use Rattle.meaning.specs.declared.Refusal.{Refusal}
 use Rattle.meaning.specs.declared.Refusal.TheVariants.{NotGrammar}
 use Rattle.meaning.specs.Letters.{ch}
-use Rattle.meaning.specs.Limits.{textLimit, coefficientLimit, fractionDigits}
+use Rattle.meaning.specs.Limits.{text_limit, coefficient_limit, fraction_digits}
 use Rattle.meaning.specs.Limits as Limits
 use Rattle.meaning.specs.Meaning.{Meaning}
 use Rattle.grammar.specs.Characters.{Hexdig}
-use Rattle.machine.specs.Scan.{Ran, ended, broke, unended, goesOn, ran}
+use Rattle.machine.specs.Scan.{Ran, ended, broke, unended, goes_on, ran}
 use Rattle.machine.specs.Numeric as S
 use Rattle.machine.specs.Numeric.{St, Res, Slot, Len, d1, d2, d3, d4, scan, dig, field}
 use Rattle.items.specs.declared.number.Acc.{Acc}
@@ -72,7 +72,7 @@ pub record Reads (s : List ℕ) (i : ℕ) (st : St) (r : Scanned) : Type 0 where
 
 -- the outcome o at the place `at` ends the item as the answer says
 pub record Closes (at : ℕ) (o : Res) (r : Scanned) : Type 0 where
-  pub tells : Tells (goesOn scan at (λ st. unended) o) r
+  pub tells : Tells (goes_on scan at (λ st. unended) o) r
 
 abbrev pub IsDigit : ℕ → Type 0
 IsDigit b = In (ch "0") (ch "9") b
@@ -80,7 +80,7 @@ IsDigit b = In (ch "0") (ch "9") b
 -- a place of a text that is not too long
 pub record Place (s : List ℕ) (i : ℕ) : Type 0 where
   pub within : i ≤ length s
-  pub short : length s ≤ textLimit
+  pub short : length s ≤ text_limit
 
 -- the text ends at i, or its byte there is no digit
 pub data Edge (s : List ℕ) (i : ℕ) : Type 0 where
@@ -93,26 +93,26 @@ pub data Edge (s : List ℕ) (i : ℕ) : Type 0 where
 -- m is c × 10 ^ z; or d × 10 ^ z for a d that does not fit. Neither ends in 0, but for c = 0.
 abbrev pub Held : ℕ → ℕ → Bool → ℕ → Type 0
 Held m c false z = (m ≡ c * 10 ^ z) × ((c ≡ 0) ⊎ (c % 10 ≡ 0 → ⊥))
-Held m c true z = (d : ℕ) × (m ≡ d * 10 ^ z) × (coefficientLimit ≤ d) × (d % 10 ≡ 0 → ⊥)
+Held m c true z = (d : ℕ) × (m ≡ d * 10 ^ z) × (coefficient_limit ≤ d) × (d % 10 ≡ 0 → ⊥)
 
 -- the accumulator holds the value m
 abbrev pub Holds : ℕ → Acc → Type 0
 Holds m a = Held m a.c a.over a.z
 
-abbrev pub accOf : ℕ → Bool → ℕ → Acc
-accOf c o z = record { c = c; over = o; z = z }
+abbrev pub acc_of : ℕ → Bool → ℕ → Acc
+acc_of c o z = record { c = c; over = o; z = z }
 
 -- one more digit, whatever the accumulator
 unfoldable pub pushed : Acc → ℕ → Acc
 pushed a b =
     let v = a.c * 10 ^ (a.z + 1) + (b - ch "0") in
-    cond (eqb b (ch "0")) (accOf a.c a.over (a.z + 1))
-    (cond a.over (accOf 0 true 0) (cond (ltb v coefficientLimit) (accOf v false 0) (accOf 0 true 0)))
+    cond (eqb b (ch "0")) (acc_of a.c a.over (a.z + 1))
+    (cond a.over (acc_of 0 true 0) (cond (ltb v coefficient_limit) (acc_of v false 0) (acc_of 0 true 0)))
 
 -- a coefficient times a power of ten: it fits, or is too large to keep
 pub data Shifted (v : ℕ) : Coef → Type 0 where
-  fits : v < coefficientLimit → Shifted v (Fits v)
-  over : coefficientLimit ≤ v → Shifted v Over
+  fits : v < coefficient_limit → Shifted v (Fits v)
+  over : coefficient_limit ≤ v → Shifted v Over
 
 -- the digits of s from i to j take the value m to w
 pub data Span (s : List ℕ) : ℕ → ℕ → ℕ → ℕ → Type 0 where
@@ -138,8 +138,8 @@ pub record PlainSays (s : List ℕ) (from had : ℕ) (r : Plain) : Type 0 where
 pub record Ended (s : List ℕ) (at : ℕ) : Type 0 where
   pub edge : Edge s at
   pub point : byte_at s at ≡ ch "." → ⊥
-  pub small-e : byte_at s at ≡ ch "e" → ⊥
-  pub large-e : byte_at s at ≡ ch "E" → ⊥
+  pub small_e : byte_at s at ≡ ch "e" → ⊥
+  pub large_e : byte_at s at ≡ ch "E" → ⊥
 
 abbrev pub EndsSays : List ℕ → ℕ → Bool → Type 0
 EndsSays s at true = Ended s at
@@ -155,8 +155,8 @@ abbrev pub Capped : ℕ → ℕ → Type 0
 Capped w e = (e ≡ w) ⊎ ((1000000000 ≤ e) × (1000000000 ≤ w))
 
 -- one more digit of an exponent, exact below a thousand million
-unfoldable pub raisedBy : ℕ → ℕ → ℕ
-raisedBy e b = cond (ltb e 1000000000) (10 * e + (b - ch "0")) e
+unfoldable pub raised_by : ℕ → ℕ → ℕ
+raised_by e b = cond (ltb e 1000000000) (10 * e + (b - ch "0")) e
 
 -- an exponent's digits
 pub record Powered (s : List ℕ) (from : ℕ) (r : Power) : Type 0 where
@@ -169,7 +169,7 @@ pub record Powered (s : List ℕ) (from : ℕ) (r : Power) : Type 0 where
 -- what a reader of the rest of a number is handed: f fraction digits before the place i
 pub record Ready (s : List ℕ) (a : Acc) (f i : ℕ) : Type 0 where
   pub within : i ≤ length s
-  pub short : length s ≤ textLimit
+  pub short : length s ≤ text_limit
   pub zeros : a.z ≤ i
   pub places : f ≤ i
 
@@ -191,12 +191,12 @@ pub data HexSpan (s : List ℕ) (i : ℕ) : ℕ → ℕ → Type 0 where
 -- the value w is kept, or is too large
 abbrev pub Kept : ℕ → ℕ → Bool → Type 0
 Kept w v false = w ≡ v
-Kept w v true = coefficientLimit ≤ w
+Kept w v true = coefficient_limit ≤ w
 
 pub record Hexed (s : List ℕ) (from : ℕ) (r : Hex) : Type 0 where
   pub low : from ≤ r.at
   pub high : r.at ≤ length s
-  pub edge : S.hexOf (byte_at s r.at) ≡ S.noHex
+  pub edge : S.hex_of (byte_at s r.at) ≡ S.no_hex
   pub says : (w : ℕ) × HexSpan s from r.at w × Kept w r.v r.over
 
 -- ---- digits with no sign
@@ -233,13 +233,13 @@ pub record FewSays (s : List ℕ) (q : ℕ) (r : Few) : Type 0 where
 -- a digit of a text that is not too long
 pub record AtDigit (s : List ℕ) (q : ℕ) : Type 0 where
   pub within : q < length s
-  pub short : length s ≤ textLimit
+  pub short : length s ≤ text_limit
   pub digit : IsDigit (get_or s q 0)
 
 -- what the digits begin, and where the scanner stands then
 abbrev pub LeadSays : List ℕ → ℕ → LeadOf.Lead → Type 0
 LeadSays s q (Lead.Number a at) = Ready s a 0 at × ((m : ℕ) × Holds m a × Onto s q S.begin at (S.int q false m))
-LeadSays s q (Lead.Hex at) = (at ≤ length s) × Onto s q S.begin at (S.hexMark q false)
+LeadSays s q (Lead.Hex at) = (at ≤ length s) × Onto s q S.begin at (S.hex_mark q false)
 LeadSays s q (Lead.Hour v at) = (at ≤ length s) × (v < 100) × Onto s q S.begin at (field q (S.minute S.alone v) 2 0)
 LeadSays s q (Lead.Year v at) = (at ≤ length s) × (v < 10000) × Onto s q S.begin at (field q (S.month v) 2 0)
 LeadSays s q (Lead.NotGrammar at) = Reads s q S.begin (Refused (NotGrammar at))
@@ -266,7 +266,7 @@ TwoSays s i (Field.NotGrammar p) = (q : ℕ) (l : Slot) → Reads s i (field q l
 
 -- after the field l the byte `mark` must come, and then the field that `to` says
 abbrev pub Leads : Slot → ℕ → (ℕ → Slot) → Type 0
-Leads l mark to = (p q v b : ℕ) → S.onFull p q l v b ≡ S.only p mark (field q (to v) 2 0) b
+Leads l mark to = (p q v b : ℕ) → S.on_full p q l v b ≡ S.only p mark (field q (to v) 2 0) b
 
 abbrev pub ThenSays : List ℕ → ℕ → ℕ → Field → Type 0
 ThenSays s i mark (Got v j) = (j ≤ length s) × (v < 100) × ((q : ℕ) (l : Slot) (to : ℕ → Slot) → Leads l mark to
@@ -275,28 +275,28 @@ ThenSays s i mark (Field.NotGrammar p) = (q : ℕ) (l : Slot) (to : ℕ → Slot
     → Reads s i (field q l 2 0) (Refused (NotGrammar p))
 
 -- what stands before a time of day, as the scanner has it
-abbrev pub whenOf : When → S.When
-whenOf Alone = S.alone
-whenOf (On d) = S.on d
+abbrev pub when_of : When → S.When
+when_of Alone = S.alone
+when_of (On d) = S.on d
 
 -- a clock's nanoseconds are less than a second
 abbrev pub Parted : Clock → Type 0
 Parted c = c.nanos < Limits.second
 
 -- a clock's own test
-abbrev pub clockTest : Clock → Bool
-clockTest c = S.okClock c.hour c.minute c.second
+abbrev pub clock_test : Clock → Bool
+clock_test c = S.ok_clock c.hour c.minute c.second
 
 -- what the scanner does after a clock, whatever state has read it
 abbrev pub Zoned : List ℕ → ℕ → S.When → Clock → ℕ → Scanned → Type 0
-Zoned s q w c at r = (st : St) → scan at st (byte_at s at) ≡ S.onZone q w c.hour c.minute c.second c.nanos
-    (S.secOf (byte_at s at)) → Reads s at st r
+Zoned s q w c at r = (st : St) → scan at st (byte_at s at) ≡ S.on_zone q w c.hour c.minute c.second c.nanos
+    (S.sec_of (byte_at s at)) → Reads s at st r
 
 -- a fraction's digits so far, of which `left` more would count: less than a second
 pub record NanosSays (s : List ℕ) (from : ℕ) (r : Nanos) : Type 0 where
   pub within : r.at ≤ length s
-  pub few : r.left ≤ fractionDigits
+  pub few : r.left ≤ fraction_digits
   pub small : (r.v + 1) * 10 ^ r.left ≤ Limits.second
   pub edge : Edge s r.at
-  pub goes : (q : ℕ) (w : S.When) (h m c : ℕ) → Onto s from (S.nanos q w h m c fractionDigits 0) r.at
+  pub goes : (q : ℕ) (w : S.When) (h m c : ℕ) → Onto s from (S.nanos q w h m c fraction_digits 0) r.at
       (S.nanos q w h m c r.left r.v)

@@ -2,11 +2,11 @@
 use Rattle.std.specs.Prelude.{◌≡◌, List, ℕ, ◌≤◌, length}
 use Rattle.meaning.specs.declared.Refusal.TheVariants.{NotGrammar}
 use Rattle.machine.specs.Scan.{ended, broke}
-use Rattle.machine.specs.Names.{wordScan}
-use Rattle.items.specs.Between.Places.{ranAt}
+use Rattle.machine.specs.Names.{word_scan}
+use Rattle.items.specs.Between.Places.{ran_at}
 use Rattle.items.specs.declared.word.Word.{Word}
 
 -- each letter of a word comes from p on, or the first that does not would stand at q
 abbrev pub WordSays : List ℕ → ℕ → List ℕ → Word → Type 0
-WordSays s p letters (Word.Whole q) = (ranAt wordScan s letters p ≡ ended tt q) × (q ≤ length s)
-WordSays s p letters (Word.NotGrammar q) = (ranAt wordScan s letters p ≡ broke (NotGrammar q)) × (q ≤ length s)
+WordSays s p letters (Word.Whole q) = (ran_at word_scan s letters p ≡ ended tt q) × (q ≤ length s)
+WordSays s p letters (Word.NotGrammar q) = (ran_at word_scan s letters p ≡ broke (NotGrammar q)) × (q ≤ length s)

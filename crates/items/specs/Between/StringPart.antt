@@ -9,7 +9,7 @@ use Rattle.machine.specs.Scan.{over, Ran, ended, broke, ran}
 use Rattle.machine.specs.Strings as S
 use Rattle.machine.specs.Strings.{Ctx, mk, give, blame, first, fine, spoilt, whole, unit, one, lines0, lines, body}
 use Rattle.machine.specs.Strings.{begin, scan, plain_byte}
-use Rattle.items.specs.Between.Places.{byte_at, ranFrom, Goes}
+use Rattle.items.specs.Between.Places.{byte_at, ran_from, Goes}
 use Rattle.items.specs.declared.string_part.Escape.{Escape}
 use Rattle.items.specs.declared.string_part.Escape.TheVariants.{Half, Code}
 use Rattle.items.specs.declared.string_part.Char.{Char}
@@ -78,7 +78,7 @@ pub record Spoilt (s : List ℕ) (at next : ℕ) : Type 0 where
 
 -- the escape at `at` breaks at p
 pub record Broken (s : List ℕ) (at p : ℕ) : Type 0 where
-  pub ends : (base : ℕ) (k : Ctx) → ranFrom scan base s (body k) at ≡ broke (NotGrammar (base + p))
+  pub ends : (base : ℕ) (k : Ctx) → ran_from scan base s (body k) at ≡ broke (NotGrammar (base + p))
   pub within : p ≤ length s
 
 abbrev pub EscapeSays : List ℕ → ℕ → Escape → Type 0
@@ -96,8 +96,8 @@ abbrev pub Grown : ℕ → ℕ → ℕ → Type 0
 Grown v d r = (w : ℕ) → Like v w → Like r (16 * w + d)
 
 -- one more digit; a number past the last character stays past it
-unfoldable pub grownTo : ℕ → ℕ → ℕ
-grownTo v d = cond (ltb v 0x110000) (16 * v + d) 0x110000
+unfoldable pub grown_to : ℕ → ℕ → ℕ
+grown_to v d = cond (ltb v 0x110000) (16 * v + d) 0x110000
 
 -- an escape, or a pair of them, where no high surrogate waits: the character c
 pub record Read (s : List ℕ) (at next c : ℕ) : Type 0 where
@@ -117,7 +117,7 @@ pub record Blamed (s : List ℕ) (at next : ℕ) : Type 0 where
 
 -- the same: it breaks at p
 pub record Stopped (s : List ℕ) (at p : ℕ) : Type 0 where
-  pub ends : (base q : ℕ) → q < over → (bad : S.Bad) (acc : List ℕ) → ranFrom scan base s (body (mk q bad whole acc)) at
+  pub ends : (base q : ℕ) → q < over → (bad : S.Bad) (acc : List ℕ) → ran_from scan base s (body (mk q bad whole acc)) at
       ≡ broke (NotGrammar (base + p))
   pub within : p ≤ length s
 
@@ -164,15 +164,15 @@ Says R n at entry exit (Part.NotGrammar p) = ((base : ℕ) → R base ≡ broke 
 
 -- after the opening quote of a part with one
 abbrev pub InnerSays : List ℕ → ℕ → ℕ → List ℕ → List ℕ → Part → Type 0
-InnerSays s q = Says (λ base. ranFrom scan base s (body (mk q fine whole [])) 1) (length s)
+InnerSays s q = Says (λ base. ran_from scan base s (body (mk q fine whole [])) 1) (length s)
 
 -- after the opening quote
 abbrev pub OneSays : List ℕ → ℕ → ℕ → List ℕ → List ℕ → Part → Type 0
-OneSays s q = Says (λ base. ranFrom scan base s (one q) 1) (length s)
+OneSays s q = Says (λ base. ran_from scan base s (one q) 1) (length s)
 
 -- after three quotes
 abbrev pub ThreeSays : List ℕ → ℕ → ℕ → List ℕ → List ℕ → Part → Type 0
-ThreeSays s q = Says (λ base. ranFrom scan base s (lines0 q) 3) (length s)
+ThreeSays s q = Says (λ base. ran_from scan base s (lines0 q) 3) (length s)
 
 -- a whole part, from its opening quote
 abbrev pub PartSays : List ℕ → ℕ → List ℕ → List ℕ → Part → Type 0
@@ -186,12 +186,12 @@ pub record Begun (s : List ℕ) (r : ℕ) : Type 0 where
 
 -- the bytes from i on go to the three quotes at e
 pub record Closes (s : List ℕ) (q i e : ℕ) : Type 0 where
-  pub ends : (base : ℕ) → ranFrom scan base s (lines q 0 []) i ≡ ended (take (e - i) (drop i s)) (base + (e + 3))
+  pub ends : (base : ℕ) → ran_from scan base s (lines q 0 []) i ≡ ended (take (e - i) (drop i s)) (base + (e + 3))
   pub behind : i ≤ e
   pub within : e + 3 ≤ length s
 
 pub record Breaks (s : List ℕ) (q i p : ℕ) : Type 0 where
-  pub ends : (base : ℕ) → ranFrom scan base s (lines q 0 []) i ≡ broke (NotGrammar (base + p))
+  pub ends : (base : ℕ) → ran_from scan base s (lines q 0 []) i ≡ broke (NotGrammar (base + p))
   pub within : p ≤ length s
 
 abbrev pub LinesSays : List ℕ → ℕ → ℕ → Lines → Type 0

@@ -7,72 +7,72 @@ use borrow.Author.Rules.{rules}
 use Rattle.jaxn.proofs.fill.Statement.{statement}
 use Rattle.jaxn.proofs.fill.Tie as tie
 
-abbrev invariant-loop : tie.invariant-loop
-invariant-loop room₀ at₀ room at = (length room ≡ length room₀) × (at ≤ length room₀)
+abbrev invariant_loop : tie.invariant-loop
+invariant_loop room₀ at₀ room at = (length room ≡ length room₀) × (at ≤ length room₀)
 
-abbrev decreases-loop : tie.decreases-loop
-decreases-loop room₀ at₀ room at = length room - at
+abbrev decreases_loop : tie.decreases-loop
+decreases_loop room₀ at₀ room at = length room - at
 
-loop-holds : tie.Need-loop-init invariant-loop decreases-loop
+loop-holds : tie.Need-loop-init invariant_loop decreases_loop
 loop-holds c = search rules
 
-sub_read : tie.Need-overflow-sub-read invariant-loop decreases-loop
+sub_read : tie.Need-overflow-sub-read invariant_loop decreases_loop
 sub_read c = search rules
 
-part-read-start : tie.Need-slice-bounds-read-start invariant-loop decreases-loop
+part-read-start : tie.Need-slice-bounds-read-start invariant_loop decreases_loop
 part-read-start c = search rules
 
-part-read-end : tie.Need-slice-bounds-read-end invariant-loop decreases-loop
+part-read-end : tie.Need-slice-bounds-read-end invariant_loop decreases_loop
 part-read-end c = search rules
 
-read-requires : tie.Need-read-requires invariant-loop decreases-loop
+read-requires : tie.Need-read-requires invariant_loop decreases_loop
 read-requires c κs = search rules
 
-same_length : tie.Need-same-length invariant-loop decreases-loop
+same_length : tie.Need-same-length invariant_loop decreases_loop
 same_length c = search rules
 
-returns : tie.Need-returns invariant-loop decreases-loop
+returns : tie.Need-returns invariant_loop decreases_loop
 returns c = failed
 
-sub-count : tie.Need-overflow-sub-count invariant-loop decreases-loop
+sub-count : tie.Need-overflow-sub-count invariant_loop decreases_loop
 sub-count c = search rules
 
-part-count-start : tie.Need-slice-bounds-count-start invariant-loop decreases-loop
+part-count-start : tie.Need-slice-bounds-count-start invariant_loop decreases_loop
 part-count-start c = search rules
 
-part-count-end : tie.Need-slice-bounds-count-end invariant-loop decreases-loop
+part-count-end : tie.Need-slice-bounds-count-end invariant_loop decreases_loop
 part-count-end c = search rules
 
-count-requires : tie.Need-count-requires invariant-loop decreases-loop
+count-requires : tie.Need-count-requires invariant_loop decreases_loop
 count-requires c κs = search rules
 
-same-length-2 : tie.Need-same-length-2 invariant-loop decreases-loop
+same-length-2 : tie.Need-same-length-2 invariant_loop decreases_loop
 same-length-2 c = search rules
 
-returns-2 : tie.Need-returns-2 invariant-loop decreases-loop
+returns-2 : tie.Need-returns-2 invariant_loop decreases_loop
 returns-2 c = bytes c.before.before.before.before.before.before.before.before.before.before.loop.invariant.1
 
-add_at : tie.Need-overflow-add-at invariant-loop decreases-loop
+add_at : tie.Need-overflow-add-at invariant_loop decreases_loop
 add_at c = search rules
 
-loop-less : tie.Need-loop-smaller invariant-loop decreases-loop
+loop-less : tie.Need-loop-smaller invariant_loop decreases_loop
 loop-less c = search rules
 
-loop-again : tie.Need-loop-preserved invariant-loop decreases-loop
+loop-again : tie.Need-loop-preserved invariant_loop decreases_loop
 loop-again c = search rules
 
-same-length-3 : tie.Need-same-length-3 invariant-loop decreases-loop
+same-length-3 : tie.Need-same-length-3 invariant_loop decreases_loop
 same-length-3 c = search rules
 
-returns-3 : tie.Need-returns-3 invariant-loop decreases-loop
+returns-3 : tie.Need-returns-3 invariant_loop decreases_loop
 returns-3 c = bytes c.before.loop.invariant.1
 
 pub fill_spec : {M : Type 1} → statement M
 fill_spec =
     tie.close
     (tie.spec
-    invariant-loop
-    decreases-loop
+    invariant_loop
+    decreases_loop
     loop-holds
     sub_read
     part-read-start

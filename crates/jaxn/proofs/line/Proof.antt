@@ -2,7 +2,7 @@
 use mathlib.Core.Path.{sym, ◌∙◌}
 use native.Mathlib.Omega.{arith}
 use Rattle.io.proofs.Counting.{length-take_of_le}
-use Rattle.jaxn.proofs.LineLaws.{text-within, tells-longer, tells-refusal, tells-text}
+use Rattle.jaxn.proofs.LineLaws.{text_within, tells_longer, tells_refusal, tells_text}
 use borrow.Author.Rules.{rules}
 use Rattle.jaxn.proofs.line.Statement.{statement}
 use Rattle.jaxn.proofs.line.Tie as tie
@@ -14,7 +14,7 @@ same_length : tie.Need-same-length
 same_length c = search rules
 
 returns : tie.Need-returns
-returns c = tells-longer c.before.before.refused-line.ensures (omega arith)
+returns c = tells_longer c.before.before.refused_line_lem.ensures (omega arith)
 
 slice-relend-prefix-rewrite : tie.Need-slice-relend-prefix-rewrite
 slice-relend-prefix-rewrite c = search rules
@@ -50,7 +50,7 @@ enum-known-size c = search rules
 byte-at-requires : tie.Need-byte-at-requires
 byte-at-requires c κs =
     let start = c.before.before.before.before.before.before.before.before.before.before.before in
-    let here = text-within start.args.out.now c.before.before.before.before.before.before.rewrite.ensures c.before.before.size.given.1 in
+    let here = text_within start.args.out.now c.before.before.before.before.before.before.rewrite.ensures c.before.before.size.given.1 in
     omega (arith, here, c.before.before.before.before.before.out2.given.1, start.requires)
 
 same-length-2 : tie.Need-same-length-2
@@ -66,7 +66,7 @@ returns-2 c =
     let number = c.before.before.before.before.before.number in
     let place = c.before.before.before.before.place in
     let refused-line2 = c.before.before.refused-line2 in
-    tells-refusal rewrite.ensures why.given.1 number.ensures place.ensures refused-line2.ensures
+    tells_refusal rewrite.ensures why.given.1 number.ensures place.ensures refused-line2.ensures
 
 same-length-3 : tie.Need-same-length-3
 same-length-3 c =
@@ -79,10 +79,10 @@ returns-3 c =
     let rewrite = c.before.before.before.before.before.before.before.before.before.rewrite in
     let size = c.before.before.before.before.before.size in
     let byte_at = c.before.before.byte_at in
-    tells-text rewrite.ensures size.given.1 byte_at.ensures
+    tells_text rewrite.ensures size.given.1 byte_at.ensures
 
-pub line-spec : {M : Type 1} → statement M
-line-spec =
+pub line_spec : {M : Type 1} → statement M
+line_spec =
     tie.close
     (tie.spec
     refused-line-requires

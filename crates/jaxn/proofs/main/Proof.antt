@@ -1,7 +1,7 @@
 -- `main`: what is answered lies within what was read, and what is printed within the output. Assumes nothing.
 use native.Mathlib.Omega.{arith}
 use Rattle.io.proofs.Counting.{length-take_of_le}
-use Rattle.jaxn.proofs.LineLaws.{read-within, tells-within}
+use Rattle.jaxn.proofs.LineLaws.{read_within, tells_within}
 use borrow.Author.Rules.{rules}
 use Rattle.jaxn.proofs.main.Statement.{statement}
 use Rattle.jaxn.proofs.main.Tie as tie
@@ -28,13 +28,13 @@ array-share-prefix-input : tie.Need-array-share-prefix-input
 array-share-prefix-input c =
     let fill = c.before.before.before.before.fill in
     let n = c.before.n in
-    omega (arith, read-within fill.ensures n.given.1)
+    omega (arith, read_within fill.ensures n.given.1)
 
 slice-aggregate-line : tie.Need-slice-aggregate-line
 slice-aggregate-line c =
     let n = c.before.before.n in
     let fill = c.before.before.before.before.before.fill in
-    length-take_of_le n.given.0.0 fill.new.0 (omega (arith, read-within fill.ensures n.given.1))
+    length-take_of_le n.given.0.0 fill.new.0 (omega (arith, read_within fill.ensures n.given.1))
 
 slice-aggregate-line-2 : tie.Need-slice-aggregate-line-2
 slice-aggregate-line-2 c = search rules
@@ -43,12 +43,12 @@ line-requires : tie.Need-line-requires
 line-requires c κs = search rules
 
 array-share-prefix-out : tie.Need-array-share-prefix-out
-array-share-prefix-out c = tells-within c.before.line.ensures
+array-share-prefix-out c = tells_within c.before.line.ensures
 
 slice-aggregate-write-all : tie.Need-slice-aggregate-write-all
 slice-aggregate-write-all c =
     let line = c.before.before.line in
-    length-take_of_le line.result line.new.1.0 (tells-within line.ensures)
+    length-take_of_le line.result line.new.1.0 (tells_within line.ensures)
 
 write-all-requires : tie.Need-write-all-requires
 write-all-requires c κs = search rules

@@ -1,6 +1,6 @@
 -- `refused_line`: one piece after the other. Assumes nothing.
 use native.Mathlib.Omega.{arith}
-use Rattle.jaxn.proofs.LineLaws.{digits-few, five-pieces}
+use Rattle.jaxn.proofs.LineLaws.{digits_few, five_pieces}
 use borrow.Author.Rules.{rules}
 use Rattle.jaxn.proofs.refused_line.Statement.{statement}
 use Rattle.jaxn.proofs.refused_line.Tie as tie
@@ -17,7 +17,7 @@ decimal-at-requires c κs =
     let bytes-at = c.before.before.before.bytes-at in
     let args = c.before.before.before.before.before.before.before.args in
     let fits = c.before.before.before.before.before.before.before.ranges in
-    let number = digits-few args.number (omega (arith, fits.number)) in
+    let number = digits_few args.number (omega (arith, fits.number)) in
     omega (arith, pre, bytes-at.ensures.next, bytes-at.auto.0, number)
 
 slice-aggregate-bytes-at-2 : tie.Need-slice-aggregate-bytes-at-2
@@ -30,7 +30,7 @@ bytes-at-requires-2 c κs =
     let decimal-at = c.before.before.before.before.decimal-at in
     let args = c.before.before.before.before.before.before.before.before.before.before.before.before.args in
     let fits = c.before.before.before.before.before.before.before.before.before.before.before.before.ranges in
-    let number = digits-few args.number (omega (arith, fits.number)) in
+    let number = digits_few args.number (omega (arith, fits.number)) in
     omega (
       arith,
       pre,
@@ -50,8 +50,8 @@ decimal-at-requires-2 c κs =
     let bytes-at2 = c.before.before.before.bytes-at2 in
     let args = far.before.before.before.before.args in
     let fits = far.before.before.before.before.ranges in
-    let number = digits-few args.number (omega (arith, fits.number)) in
-    let place = digits-few args.place (omega (arith, fits.place)) in
+    let number = digits_few args.number (omega (arith, fits.number)) in
+    let place = digits_few args.place (omega (arith, fits.place)) in
     omega (
       arith,
       pre,
@@ -75,8 +75,8 @@ byte-at-requires c κs =
     let decimal-at2 = c.before.before.before.decimal-at2 in
     let args = far.before.before.before.before.before.before.before.before.args in
     let fits = far.before.before.before.before.before.before.before.before.ranges in
-    let number = digits-few args.number (omega (arith, fits.number)) in
-    let place = digits-few args.place (omega (arith, fits.place)) in
+    let number = digits_few args.number (omega (arith, fits.number)) in
+    let place = digits_few args.place (omega (arith, fits.place)) in
     omega (
       arith,
       pre,
@@ -103,10 +103,10 @@ returns c =
     let bytes-at2 = c.before.before.before.before.before.before.before.before.before.before.bytes-at2 in
     let decimal-at2 = c.before.before.before.before.before.before.decimal-at2 in
     let byte_at = c.before.before.byte_at in
-    five-pieces bytes-at.ensures decimal-at.ensures bytes-at2.ensures decimal-at2.ensures byte_at.ensures
+    five_pieces bytes-at.ensures decimal-at.ensures bytes-at2.ensures decimal-at2.ensures byte_at.ensures
 
-pub refused-line-spec : {M : Type 1} → statement M
-refused-line-spec =
+pub refused_line_spec : {M : Type 1} → statement M
+refused_line_spec =
     tie.close
     (tie.spec
     slice-aggregate-bytes-at

@@ -1,6 +1,6 @@
 -- `rewrite`: by what `read` answers. Assumes nothing.
 use native.Mathlib.Omega.{arith}
-use Rattle.jaxn.proofs.StepsLaws.{tape-within, store-within, tape-part, store-part, not-read, rewritten}
+use Rattle.jaxn.proofs.StepsLaws.{tape_within, store_within, tape_part, store_part, not_read, rewritten}
 use borrow.Author.Rules.{rules}
 use Rattle.jaxn.proofs.rewrite.Statement.{statement}
 use Rattle.jaxn.proofs.rewrite.Tie as tie
@@ -24,31 +24,31 @@ mul-used : tie.Need-overflow-mul-used
 mul-used c =
     let read = c.before.before.before.before.before.read in
     let records = c.before.records in
-    omega (arith, tape-within read.ensures records.given.1)
+    omega (arith, tape_within read.ensures records.given.1)
 
 array-share-prefix-tape : tie.Need-array-share-prefix-tape
 array-share-prefix-tape c =
     let read = c.before.before.before.before.before.read in
     let records = c.before.records in
-    omega (arith, tape-within read.ensures records.given.1)
+    omega (arith, tape_within read.ensures records.given.1)
 
 slice-aggregate-write-jaxn : tie.Need-slice-aggregate-write-jaxn
 slice-aggregate-write-jaxn c =
     let read = c.before.before.before.before.before.before.read in
     let records = c.before.before.records in
-    tape-part read.ensures records.given.1
+    tape_part read.ensures records.given.1
 
 array-share-prefix-store : tie.Need-array-share-prefix-store
 array-share-prefix-store c =
     let read = c.before.before.before.before.before.before.read in
     let records = c.before.before.records in
-    omega (arith, store-within read.ensures records.given.1)
+    omega (arith, store_within read.ensures records.given.1)
 
 slice-aggregate-write-jaxn-2 : tie.Need-slice-aggregate-write-jaxn-2
 slice-aggregate-write-jaxn-2 c =
     let read = c.before.before.before.before.before.before.before.read in
     let records = c.before.before.before.records in
-    store-part read.ensures records.given.1
+    store_part read.ensures records.given.1
 
 write-jaxn-requires : tie.Need-write-jaxn-requires
 write-jaxn-requires c κs = search rules
@@ -57,7 +57,7 @@ returns : tie.Need-returns
 returns c =
     let read = c.before.before.before.before.before.read in
     let why = c.before.why in
-    not-read read.ensures why.given.1 (omega arith) (omega arith) (omega arith)
+    not_read read.ensures why.given.1 (omega arith) (omega arith) (omega arith)
 
 same_length : tie.Need-same-length
 same_length c = search rules
@@ -66,11 +66,11 @@ returns-2 : tie.Need-returns-2
 returns-2 c =
     let read = c.before.before.before.before.before.before.before.before.before.before.before.read in
     let records = c.before.before.before.before.before.before.before.records in
-    let write-jaxn = c.before.before.write-jaxn in
-    rewritten read.ensures records.given.1 write-jaxn.ensures (omega arith) (omega arith) (omega arith)
+    let write_jaxn = c.before.before.write_jaxn in
+    rewritten read.ensures records.given.1 write_jaxn.ensures (omega arith) (omega arith) (omega arith)
 
-pub rewrite-spec : {M : Type 1} → statement M
-rewrite-spec =
+pub rewrite_spec : {M : Type 1} → statement M
+rewrite_spec =
     tie.close
     (tie.spec
     slice-aggregate-read

@@ -7,7 +7,7 @@ use Rattle.meaning.specs.Paper.{number_of, place_of}
 use Rattle.writer.specs.declared.Written.{Written}
 use Rattle.writer.specs.declared.Written.TheVariants.{Wrote, Refused}
 use Rattle.jaxn.specs.declared.Input.{Input}
-use Rattle.jaxn.specs.Line.{refusedLine, Line}
+use Rattle.jaxn.specs.Line.{refused_line, Line}
 
 -- what was read lies within the room
 pub data Within : Input → ℕ → Type 0 where
@@ -16,7 +16,7 @@ pub data Within : Input → ℕ → Type 0 where
 
 -- the refusal that is printed, and the output is as it was; or the text that is printed stands at its start
 pub data Rewrites (text out : List ℕ) : Written → List ℕ → Type 0 where
-  refusing : {why : Refusal} → Line text (refusedLine (number_of why) (place_of why))
+  refusing : {why : Refusal} → Line text (refused_line (number_of why) (place_of why))
       → Rewrites text out (Refused why) out
   printing : (t : List ℕ) → Line text (t ++ letters "\n") → length t ≤ length out
       → Rewrites text out (Wrote (length t)) (laid t out)

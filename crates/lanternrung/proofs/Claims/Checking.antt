@@ -16,26 +16,26 @@ use Rattle.reader.proofs.Claims as reader
 use Rattle.arriving.specs.declared.Check.{Check}
 use Rattle.arriving.specs.Between.Arriving.{started, fed, feds, ended, joined}
 use Rattle.arriving.specs.Between.Packing.{packed, unpacked, padded}
-use Rattle.arriving.proofs.Checked.{checked-loosely}
-use Rattle.arriving.proofs.PackingStateLaws.{padded-long, state-back, state-past}
-use Rattle.lanternrung.specs.Told.{Keeps, keptIn}
+use Rattle.arriving.proofs.Checked.{checked_loosely}
+use Rattle.arriving.proofs.PackingStateLaws.{padded_long, state_back, state_past}
+use Rattle.lanternrung.specs.Told.{Keeps, kept_in}
 use Rattle.lanternrung.specs.Claims.{Came, CameC, LeftOut, Checked}
-use Rattle.lanternrung.proofs.Claims.Reading.{repeated-key}
+use Rattle.lanternrung.proofs.Claims.Reading.{repeated_key}
 
-each-byte : (s : List ℕ) → Bytes s → Each (λ (b : ℕ). b < 256) s
-each-byte [] h = all_none
-each-byte (b ∷ s) h = all_more h.0 (each-byte s h.1)
+each_byte : (s : List ℕ) → Bytes s → Each (λ (b : ℕ). b < 256) s
+each_byte [] h = all_none
+each_byte (b ∷ s) h = all_more h.0 (each_byte s h.1)
 
 -- ---- one part more
 
-joined-more : (ps : List (List ℕ)) (p : List ℕ) → joined (ps ++ (p ∷ [])) ≡ joined ps ++ p
-joined-more [] p = append-nil p
-joined-more (q ∷ ps) p = ap (λ (s : List ℕ). q ++ s) (joined-more ps p) ∙ sym (append_assoc q (joined ps) p)
+joined_more : (ps : List (List ℕ)) (p : List ℕ) → joined (ps ++ (p ∷ [])) ≡ joined ps ++ p
+joined_more [] p = append-nil p
+joined_more (q ∷ ps) p = ap (λ (s : List ℕ). q ++ s) (joined_more ps p) ∙ sym (append_assoc q (joined ps) p)
 
-feds-more : (c : Check) (ps : List (List ℕ)) (p : List ℕ) → feds c (ps ++ (p ∷ [])) ≡ fed (feds c ps) p
+feds_more : (c : Check) (ps : List (List ℕ)) (p : List ℕ) → feds c (ps ++ (p ∷ [])) ≡ fed (feds c ps) p
 unfolding feds
-feds-more c [] p = refl
-feds-more c (q ∷ ps) p = feds-more (fed c q) ps p
+feds_more c [] p = refl
+feds_more c (q ∷ ps) p = feds_more (fed c q) ps p
 
 -- the parts that a check has come from
 record Parts (text : List ℕ) (c : Check) : Type 0 where
@@ -51,8 +51,8 @@ one_more : {text : List ℕ} {c : Check} (p : List ℕ) → Parts text c → Par
 one_more p x =
     record {
       parts = x.parts ++ (p ∷ []);
-      joins = joined-more x.parts p ∙ ap (λ (s : List ℕ). s ++ p) x.joins;
-      comes = feds-more started x.parts p ∙ ap (λ (c : Check). fed c p) x.comes;
+      joins = joined_more x.parts p ∙ ap (λ (s : List ℕ). s ++ p) x.joins;
+      comes = feds_more started x.parts p ∙ ap (λ (c : Check). fed c p) x.comes;
     }
 
 came : {text : List ℕ} {c : Check} → Came text c → Parts text c
@@ -63,55 +63,55 @@ came (Came.feed p x) = one_more p (came x)
 
 record PartsC (text state : List ℕ) : Type 0 where
   enough : 640 ≤ length state
-  of : Parts text (keptIn state)
+  of : Parts text (kept_in state)
 
-kept-enough : {c : Check} {s t : List ℕ} → Keeps c s t → 640 ≤ length s → 640 ≤ length t
-kept-enough {c} {s} k h = omega (arith, ap length k.put, length-sets s 0 (packed c))
+kept_enough : {c : Check} {s t : List ℕ} → Keeps c s t → 640 ≤ length s → 640 ≤ length t
+kept_enough {c} {s} k h = omega (arith, ap length k.put, length-sets s 0 (packed c))
 
-kept-is : {c : Check} {s t : List ℕ} → Keeps c s t → 640 ≤ length s → keptIn t ≡ c
-kept-is {c} {s} k h = ap (λ (x : List ℕ). keptIn x) k.put ∙ state-back s c k.back h
+kept_is : {c : Check} {s t : List ℕ} → Keeps c s t → 640 ≤ length s → kept_in t ≡ c
+kept_is {c} {s} k h = ap (λ (x : List ℕ). kept_in x) k.put ∙ state_back s c k.back h
 
-came-c : {text state : List ℕ} → CameC text state → PartsC text state
-came-c (CameC.start h k) = record { enough = kept-enough k h; of = subst (Parts []) (sym (kept-is k h)) none_yet }
-came-c (CameC.feed {text} {state} part x k) =
-    let y = came-c x in
+came_c : {text state : List ℕ} → CameC text state → PartsC text state
+came_c (CameC.start h k) = record { enough = kept_enough k h; of = subst (Parts []) (sym (kept_is k h)) none_yet }
+came_c (CameC.feed {text} {state} part x k) =
+    let y = came_c x in
     record {
-      enough = kept-enough k y.enough;
-      of = subst (Parts (text ++ part)) (sym (kept-is k y.enough)) (one_more part y.of);
+      enough = kept_enough k y.enough;
+      of = subst (Parts (text ++ part)) (sym (kept_is k y.enough)) (one_more part y.of);
     }
-came-c (CameC.copied {text} {state} {other} x h e) =
-    let y = came-c x in
-    let f : padded state ≡ padded other = padded-long state y.enough ∙ sym e ∙ sym (padded-long other h) in
+came_c (CameC.copied {text} {state} {other} x h e) =
+    let y = came_c x in
+    let f : padded state ≡ padded other = padded_long state y.enough ∙ sym e ∙ sym (padded_long other h) in
     record { enough = h; of = subst (Parts text) (ap unpacked f) y.of }
 
 -- ---- the claim
 
 past : {c : Check} {s t : List ℕ} → Keeps c s t → (length t ≡ length s) × (drop 640 t ≡ drop 640 s)
-past {c} {s} k = (ap length k.put ∙ length-sets s 0 (packed c), ap (drop 640) k.put ∙ state-past s c k.back)
+past {c} {s} k = (ap length k.put ∙ length-sets s 0 (packed c), ap (drop 640) k.put ∙ state_past s c k.back)
 
 answered : {text : List ℕ} {c : Check} → Parts text c → Bytes text → Loosely text (ended c)
 answered {text} {c} x b =
     subst (λ (d : Check). Loosely text (ended d)) x.comes
     (subst (λ (s : List ℕ). Loosely s (ended (feds started x.parts))) x.joins
-    (checked-loosely x.parts (each-byte (joined x.parts) (subst Bytes (sym x.joins) b))))
+    (checked_loosely x.parts (each_byte (joined x.parts) (subst Bytes (sym x.joins) b))))
 
 left_out : {text : List ℕ} {a b : Answer} → Measures text a → Loosely text b → LeftOut a b
 left_out {text} {a} {b} p q =
     record {
       repeated = λ n e.
-          let w = (repeated-key.measure p).0 e in
+          let w = (repeated_key.measure p).0 e in
           let m = w.meaning in
-          (records m, bytes m, reader.one-outcome-loosely text b (Answer.Counts (records m) (bytes m)) q (Loosely.sizes w.means refl));
+          (records m, bytes m, reader.one_outcome_loosely text b (Answer.Counts (records m) (bytes m)) q (Loosely.sizes w.means refl));
       same = λ n. ⊎_elim (λ e. e) (λ w. absurd (n w.0 w.1)) (reader.left_out text a b p q);
     }
 
 pub checked : Checked
 checked =
     record {
-      parts = λ ps b. checked-loosely ps (each-byte (joined ps) b);
+      parts = λ ps b. checked_loosely ps (each_byte (joined ps) b);
       finish = λ x b. answered (came x) b;
-      finish_c = λ {text} {state} x b e. record { answer = ended (keptIn state); allowed = answered (came-c x).of b; told = e };
+      finish_c = λ {text} {state} x b e. record { answer = ended (kept_in state); allowed = answered (came_c x).of b; told = e };
       left_out = left_out;
-      start-past = λ k. past k;
-      feed-past = λ part k. past k;
+      start_past = λ k. past k;
+      feed_past = λ part k. past k;
     }

@@ -6,7 +6,7 @@ use native.Mathlib.Omega.{arith}
 use Rattle.meaning.specs.declared.Refusal.{Refusal}
 use Rattle.meaning.specs.declared.Refusal.TheVariants.{TextTooLong, NotUtf8, NotGrammar, BadEscape, BadTime, BadNumber, TooDeep, TapeTooShort, StoreTooShort}
 use Rattle.meaning.specs.declared.Refusal.TheVariants.{NotWellFormed, NoJsonForm, OutputTooShort, WrittenTooLong, NoSuchRecord, RepeatedKey}
-use Rattle.rules.specs.Paper.{utf8Said, dateSaid}
+use Rattle.rules.specs.Paper.{utf8_said, date_said}
 use Rattle.meaning.specs.Paper.{number_of}
 use Rattle.reader.specs.declared.Answer.{Answer}
 use Rattle.reader.specs.Answers.{Measures, Reads}
@@ -16,60 +16,60 @@ use Rattle.lanternrung.specs.declared.exports.Status.{Status}
 use Rattle.lanternrung.specs.declared.exports.Sizes.{Sizes}
 use Rattle.lanternrung.specs.declared.exports.Text.{Text}
 use Rattle.lanternrung.specs.declared.exports.Fields.{Fields}
-use Rattle.lanternrung.specs.Told.{sizesOf, text_of, lookedFields, statusOf, Utf8Told, DateTold, MeasureTold, ReadTold, LookTold, JaxnTold, JsonTold}
+use Rattle.lanternrung.specs.Told.{sizes_of, text_of, looked_fields, status_of, Utf8Told, DateTold, MeasureTold, ReadTold, LookTold, JaxnTold, JsonTold}
 use Rattle.lanternrung.specs.Told.{CheckStartTold, CheckFeedTold, CheckFinishTold}
 use Rattle.lanternrung.specs.Claims.{OneOutcomeC, CallsForC}
-use Rattle.lanternrung.proofs.Claims.Outcomes.{untouched, one-outcome-utf8, one-outcome-date, one-outcome-measure, one-outcome-read, one-outcome-look}
-use Rattle.lanternrung.proofs.Claims.Outcomes.{one-outcome-write-jaxn, one-outcome-write-json}
+use Rattle.lanternrung.proofs.Claims.Outcomes.{untouched, one_outcome_utf8, one_outcome_date, one_outcome_measure, one_outcome_read, one_outcome_look}
+use Rattle.lanternrung.proofs.Claims.Outcomes.{one_outcome_write_jaxn, one_outcome_write_json}
 
 -- ---- two outcomes that the promise of a call for C allows for the same input are equal
 
-pub one-outcome-c-utf8 : {s : List ℕ} {a b : Status} → Utf8Told s a → Utf8Told s b → a ≡ b
-one-outcome-c-utf8 p q = p.told ∙ ap (λ a. statusOf (utf8Said a)) (one-outcome-utf8 p.allowed q.allowed) ∙ sym q.told
+pub one_outcome_c_utf8 : {s : List ℕ} {a b : Status} → Utf8Told s a → Utf8Told s b → a ≡ b
+one_outcome_c_utf8 p q = p.told ∙ ap (λ a. status_of (utf8_said a)) (one_outcome_utf8 p.allowed q.allowed) ∙ sym q.told
 
-pub one-outcome-c-date : {year month day : ℕ} {a b : Status} → DateTold year month day a → DateTold year month day b → a ≡ b
-one-outcome-c-date p q = p.told ∙ ap (λ a. statusOf (dateSaid a)) (one-outcome-date p.allowed q.allowed) ∙ sym q.told
+pub one_outcome_c_date : {year month day : ℕ} {a b : Status} → DateTold year month day a → DateTold year month day b → a ≡ b
+one_outcome_c_date p q = p.told ∙ ap (λ a. status_of (date_said a)) (one_outcome_date p.allowed q.allowed) ∙ sym q.told
 
-pub one-outcome-c-measure : {text : List ℕ} {a b : Sizes} → MeasureTold text a → MeasureTold text b → a ≡ b
-one-outcome-c-measure {text} p q = p.told ∙ ap sizesOf (one-outcome-measure text p.allowed q.allowed) ∙ sym q.told
+pub one_outcome_c_measure : {text : List ℕ} {a b : Sizes} → MeasureTold text a → MeasureTold text b → a ≡ b
+one_outcome_c_measure {text} p q = p.told ∙ ap sizes_of (one_outcome_measure text p.allowed q.allowed) ∙ sym q.told
 
-pub one-outcome-c-read : {text tape store : List ℕ} {a b : Sizes} {t u s v : List ℕ} → ReadTold text tape store a t s → ReadTold text tape store b u v → (a ≡ b)
+pub one_outcome_c_read : {text tape store : List ℕ} {a b : Sizes} {t u s v : List ℕ} → ReadTold text tape store a t s → ReadTold text tape store b u v → (a ≡ b)
     × (t ≡ u) × (s ≡ v)
-one-outcome-c-read p q = let e = one-outcome-read p.allowed q.allowed in (p.told ∙ ap sizesOf e.0 ∙ sym q.told, e.1, e.2)
+one_outcome_c_read p q = let e = one_outcome_read p.allowed q.allowed in (p.told ∙ ap sizes_of e.0 ∙ sym q.told, e.1, e.2)
 
-pub one-outcome-c-look : {tape store : List ℕ} {index : ℕ} {a b : Fields} → LookTold tape store index a → LookTold tape store index b → a ≡ b
-one-outcome-c-look p q = p.told ∙ ap lookedFields (one-outcome-look p.allowed q.allowed) ∙ sym q.told
+pub one_outcome_c_look : {tape store : List ℕ} {index : ℕ} {a b : Fields} → LookTold tape store index a → LookTold tape store index b → a ≡ b
+one_outcome_c_look p q = p.told ∙ ap looked_fields (one_outcome_look p.allowed q.allowed) ∙ sym q.told
 
-pub one-outcome-c-write-jaxn : {tape store out : List ℕ} {a b : Text} {x y : List ℕ} → JaxnTold tape store out a x → JaxnTold tape store out b y → (a ≡ b)
+pub one_outcome_c_write_jaxn : {tape store out : List ℕ} {a b : Text} {x y : List ℕ} → JaxnTold tape store out a x → JaxnTold tape store out b y → (a ≡ b)
     × (x ≡ y)
-one-outcome-c-write-jaxn p q = let e = one-outcome-write-jaxn p.allowed q.allowed in (p.told ∙ ap text_of e.0 ∙ sym q.told, e.1)
+one_outcome_c_write_jaxn p q = let e = one_outcome_write_jaxn p.allowed q.allowed in (p.told ∙ ap text_of e.0 ∙ sym q.told, e.1)
 
-pub one-outcome-c-write-json : {tape store out : List ℕ} {a b : Text} {x y : List ℕ} → JsonTold tape store out a x → JsonTold tape store out b y → (a ≡ b)
+pub one_outcome_c_write_json : {tape store out : List ℕ} {a b : Text} {x y : List ℕ} → JsonTold tape store out a x → JsonTold tape store out b y → (a ≡ b)
     × (x ≡ y)
-one-outcome-c-write-json p q = let e = one-outcome-write-json p.allowed q.allowed in (p.told ∙ ap text_of e.0 ∙ sym q.told, e.1)
+one_outcome_c_write_json p q = let e = one_outcome_write_json p.allowed q.allowed in (p.told ∙ ap text_of e.0 ∙ sym q.told, e.1)
 
-pub one-outcome-c-check-start : {state x y : List ℕ} → CheckStartTold state x → CheckStartTold state y → x ≡ y
-one-outcome-c-check-start p q = p.put ∙ sym q.put
+pub one_outcome_c_check_start : {state x y : List ℕ} → CheckStartTold state x → CheckStartTold state y → x ≡ y
+one_outcome_c_check_start p q = p.put ∙ sym q.put
 
-pub one-outcome-c-check-feed : (state part : List ℕ) {x y : List ℕ} → CheckFeedTold state part x → CheckFeedTold state part y → x ≡ y
-one-outcome-c-check-feed state part p q = p.put ∙ sym q.put
+pub one_outcome_c_check_feed : (state part : List ℕ) {x y : List ℕ} → CheckFeedTold state part x → CheckFeedTold state part y → x ≡ y
+one_outcome_c_check_feed state part p q = p.put ∙ sym q.put
 
-pub one-outcome-c-check-finish : (state : List ℕ) {a b : Sizes} → CheckFinishTold state a → CheckFinishTold state b → a ≡ b
-one-outcome-c-check-finish state p q = p ∙ sym q
+pub one_outcome_c_check_finish : (state : List ℕ) {a b : Sizes} → CheckFinishTold state a → CheckFinishTold state b → a ≡ b
+one_outcome_c_check_finish state p q = p ∙ sym q
 
-pub one-outcome-c : OneOutcomeC
-one-outcome-c =
+pub one_outcome_c : OneOutcomeC
+one_outcome_c =
     record {
-      utf8 = λ s a b p q. one-outcome-c-utf8 p q;
-      date = λ year month day a b p q. one-outcome-c-date p q;
-      measure = λ text a b p q. one-outcome-c-measure p q;
-      read = λ text tape store a b t u s v p q. one-outcome-c-read p q;
-      look = λ tape store index a b p q. one-outcome-c-look p q;
-      write-jaxn = λ tape store out a b x y p q. one-outcome-c-write-jaxn p q;
-      write-json = λ tape store out a b x y p q. one-outcome-c-write-json p q;
-      check-start = λ state x y p q. one-outcome-c-check-start p q;
-      check-feed = λ state part x y p q. one-outcome-c-check-feed state part p q;
-      check-finish = λ state a b p q. one-outcome-c-check-finish state p q;
+      utf8 = λ s a b p q. one_outcome_c_utf8 p q;
+      date = λ year month day a b p q. one_outcome_c_date p q;
+      measure = λ text a b p q. one_outcome_c_measure p q;
+      read = λ text tape store a b t u s v p q. one_outcome_c_read p q;
+      look = λ tape store index a b p q. one_outcome_c_look p q;
+      write_jaxn = λ tape store out a b x y p q. one_outcome_c_write_jaxn p q;
+      write_json = λ tape store out a b x y p q. one_outcome_c_write_json p q;
+      check_start = λ state x y p q. one_outcome_c_check_start p q;
+      check_feed = λ state part x y p q. one_outcome_c_check_feed state part p q;
+      check_finish = λ state a b p q. one_outcome_c_check_finish state p q;
     }
 
 -- ---- where `refused` is 0 the library's answer is done, with these counts; where it is not, each lent buffer is as it was
@@ -92,20 +92,20 @@ numbered (WrittenTooLong p) e = omega arith
 numbered (NoSuchRecord p) e = omega arith
 numbered (RepeatedKey p) e = omega arith
 
-counts : (a : Answer) → (sizesOf a).refused ≡ 0 → a ≡ Answer.Counts (sizesOf a).records (sizesOf a).bytes
-unfolding sizesOf
+counts : (a : Answer) → (sizes_of a).refused ≡ 0 → a ≡ Answer.Counts (sizes_of a).records (sizes_of a).bytes
+unfolding sizes_of
 counts (Answer.Counts r s) e = refl
 counts (Answer.Refused why) e = absurd (numbered why e)
 
-no-counts : (a : Answer) → ((sizesOf a).refused ≡ 0 → ⊥) → (why : Refusal) × (a ≡ Answer.Refused why)
-unfolding sizesOf
-no-counts (Answer.Counts r s) n = absurd (n refl)
-no-counts (Answer.Refused why) n = (why, refl)
+no_counts : (a : Answer) → ((sizes_of a).refused ≡ 0 → ⊥) → (why : Refusal) × (a ≡ Answer.Refused why)
+unfolding sizes_of
+no_counts (Answer.Counts r s) n = absurd (n refl)
+no_counts (Answer.Refused why) n = (why, refl)
 
-length-told : (a : Written) → (text_of a).refused ≡ 0 → a ≡ Written.Wrote (text_of a).length
+length_told : (a : Written) → (text_of a).refused ≡ 0 → a ≡ Written.Wrote (text_of a).length
 unfolding text_of
-length-told (Written.Wrote n) e = refl
-length-told (Written.Refused why) e = absurd (numbered why e)
+length_told (Written.Wrote n) e = refl
+length_told (Written.Refused why) e = absurd (numbered why e)
 
 no_length : (a : Written) → ((text_of a).refused ≡ 0 → ⊥) → (why : Refusal) × (a ≡ Written.Refused why)
 unfolding text_of
@@ -113,30 +113,30 @@ no_length (Written.Wrote n) e = absurd (e refl)
 no_length (Written.Refused why) e = (why, refl)
 
 -- the library's answer, by what C is told of it
-sizes-done : {a : Answer} {r : Sizes} → r ≡ sizesOf a → r.refused ≡ 0 → a ≡ Answer.Counts r.records r.bytes
-sizes-done {a} e z = rw e (counts a (rw e at z))
+sizes_done : {a : Answer} {r : Sizes} → r ≡ sizes_of a → r.refused ≡ 0 → a ≡ Answer.Counts r.records r.bytes
+sizes_done {a} e z = rw e (counts a (rw e at z))
 
-sizes-refused : {a : Answer} {r : Sizes} → r ≡ sizesOf a → (r.refused ≡ 0 → ⊥) → (why : Refusal) × (a ≡ Answer.Refused why)
-sizes-refused {a} e n = no-counts a (rw e at n)
+sizes_refused : {a : Answer} {r : Sizes} → r ≡ sizes_of a → (r.refused ≡ 0 → ⊥) → (why : Refusal) × (a ≡ Answer.Refused why)
+sizes_refused {a} e n = no_counts a (rw e at n)
 
-text-done : {a : Written} {r : Text} → r ≡ text_of a → r.refused ≡ 0 → a ≡ Written.Wrote r.length
-text-done {a} e z = rw e (length-told a (rw e at z))
+text_done : {a : Written} {r : Text} → r ≡ text_of a → r.refused ≡ 0 → a ≡ Written.Wrote r.length
+text_done {a} e z = rw e (length_told a (rw e at z))
 
-text-refused : {a : Written} {r : Text} → r ≡ text_of a → (r.refused ≡ 0 → ⊥) → (why : Refusal) × (a ≡ Written.Refused why)
-text-refused {a} e n = no_length a (rw e at n)
+text_refused : {a : Written} {r : Text} → r ≡ text_of a → (r.refused ≡ 0 → ⊥) → (why : Refusal) × (a ≡ Written.Refused why)
+text_refused {a} e n = no_length a (rw e at n)
 
-pub calls-for-c : CallsForC
-calls-for-c =
+pub calls_for_c : CallsForC
+calls_for_c =
     record {
-      measure-done = λ {text} t z. subst (Measures text) (sizes-done t.told z) t.allowed;
+      measure_done = λ {text} t z. subst (Measures text) (sizes_done t.told z) t.allowed;
       read_done = λ {text} {tape} {store} {r} {tape'} {store'} t z.
-          subst (λ (a : Answer). Reads text tape store a tape' store') (sizes-done t.told z) t.allowed;
-      jaxn-done = λ {tape} {store} {out} {r} {out'} t z. subst (λ (a : Written). WritesJaxn tape store out a out') (text-done t.told z) t.allowed;
-      json-done = λ {tape} {store} {out} {r} {out'} t z. subst (λ (a : Written). WritesJson tape store out a out') (text-done t.told z) t.allowed;
-      read-refused = λ {text} {tape} {store} {r} {tape'} {store'} t n.
-          untouched.read (subst (λ (a : Answer). Reads text tape store a tape' store') (sizes-refused t.told n).1 t.allowed);
-      jaxn-refused = λ {tape} {store} {out} {r} {out'} t n.
-          untouched.write-jaxn (subst (λ (a : Written). WritesJaxn tape store out a out') (text-refused t.told n).1 t.allowed);
-      json-refused = λ {tape} {store} {out} {r} {out'} t n.
-          untouched.write-json (subst (λ (a : Written). WritesJson tape store out a out') (text-refused t.told n).1 t.allowed);
+          subst (λ (a : Answer). Reads text tape store a tape' store') (sizes_done t.told z) t.allowed;
+      jaxn_done = λ {tape} {store} {out} {r} {out'} t z. subst (λ (a : Written). WritesJaxn tape store out a out') (text_done t.told z) t.allowed;
+      json_done = λ {tape} {store} {out} {r} {out'} t z. subst (λ (a : Written). WritesJson tape store out a out') (text_done t.told z) t.allowed;
+      read_refused = λ {text} {tape} {store} {r} {tape'} {store'} t n.
+          untouched.read (subst (λ (a : Answer). Reads text tape store a tape' store') (sizes_refused t.told n).1 t.allowed);
+      jaxn_refused = λ {tape} {store} {out} {r} {out'} t n.
+          untouched.write_jaxn (subst (λ (a : Written). WritesJaxn tape store out a out') (text_refused t.told n).1 t.allowed);
+      json_refused = λ {tape} {store} {out} {r} {out'} t n.
+          untouched.write_json (subst (λ (a : Written). WritesJson tape store out a out') (text_refused t.told n).1 t.allowed);
     }

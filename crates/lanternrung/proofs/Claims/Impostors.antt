@@ -14,277 +14,277 @@ use Rattle.rules.specs.declared.Utf8Answer.{Utf8Answer}
 use Rattle.rules.specs.declared.DateAnswer.{DateAnswer}
 use Rattle.rules.specs.Rfc3629.{Octets, Judged}
 use Rattle.rules.specs.Rfc3339.{Date, Dated}
-use Rattle.rules.specs.Between.Decided.{is_wide, length_at, faultFrom, judged}
-use Rattle.rules.proofs.Decided.{judged-is}
-use Rattle.rules.specs.Between.Decided.{isLeap, isDate}
-use Rattle.rules.proofs.Months.{date-is, is-date}
-use Rattle.rules.proofs.Outcomes.{one-outcome-utf8, one-outcome-date}
+use Rattle.rules.specs.Between.Decided.{is_wide, length_at, fault_from, judged}
+use Rattle.rules.proofs.Decided.{judged_is}
+use Rattle.rules.specs.Between.Decided.{is_leap, is_date}
+use Rattle.rules.proofs.Months.{date_is, is_date_lem}
+use Rattle.rules.proofs.Outcomes.{one_outcome_utf8, one_outcome_date}
 use Rattle.meaning.specs.declared.Number.TheVariants.{Finite}
 use Rattle.meaning.specs.declared.Record.{Record}
 use Rattle.meaning.specs.declared.Refusal.{Refusal}
 use Rattle.meaning.specs.declared.Refusal.TheVariants.{RepeatedKey}
 use Rattle.meaning.specs.Letters.{letters}
-use Rattle.meaning.specs.Limits.{textLimit, depthLimit}
+use Rattle.meaning.specs.Limits.{text_limit, depth_limit}
 use Rattle.meaning.specs.Meaning.{Meaning, Members, null, bool, number, string, array, object, none, more, bare, member}
 use Rattle.meaning.specs.Good.{Bytes, GoodParts, most, depth, Good}
-use Rattle.meaning.specs.Once.{same, held, once, onceElements, onceMembers}
+use Rattle.meaning.specs.Once.{same, held, once, once_elements, once_members}
 use Rattle.meaning.specs.Bytes.{le, unnamed}
-use Rattle.meaning.specs.Tape.{records, membersRecords, elementsCount, membersCount, store_of, membersStore, bytes, recordsOf, recordBytes, recordsBytes, tapeOf}
+use Rattle.meaning.specs.Tape.{records, members_records, elements_count, members_count, store_of, members_store, bytes, records_of, record_bytes, records_bytes, tape_of}
 use Rattle.meaning.specs.Tape.{WellFormed}
-use Rattle.meaning.specs.Canonical.{decimalIn, decimal, escaped, escapes, quoted, powerText, textWith, canonical}
-use Rattle.meaning.specs.Filed.{filedNumber, filed}
-use Rattle.meaning.specs.Json.{firstWithout, noJson}
-use Rattle.meaning.specs.Look.{wholeRecords}
-use Rattle.meaning.proofs.Bytes.{le-length, le_bytes}
-use Rattle.meaning.proofs.Fitting.{octets-bytes, store_bytes}
-use Rattle.meaning.proofs.Quotes.{ascii-octets}
-use Rattle.meaning.proofs.Whole.{tape-length, tape-bytes, injective}
+use Rattle.meaning.specs.Canonical.{decimal_in, decimal, escaped, escapes, quoted, power_text, text_with, canonical}
+use Rattle.meaning.specs.Filed.{filed_number, filed}
+use Rattle.meaning.specs.Json.{first_without, no_json}
+use Rattle.meaning.specs.Look.{whole_records}
+use Rattle.meaning.proofs.Bytes.{le_length, le_bytes}
+use Rattle.meaning.proofs.Fitting.{octets_bytes, store_bytes}
+use Rattle.meaning.proofs.Quotes.{ascii_octets}
+use Rattle.meaning.proofs.Whole.{tape_length, tape_bytes_lem, injective}
 use Rattle.grammar.specs.Values.{Loose, Text}
-use Rattle.grammar.specs.Refused.{Text-refused}
-use Rattle.grammar.proofs.Utf8.{text-octets}
-use Rattle.grammar.proofs.Good.{text-good}
-use Rattle.grammar.proofs.Sizes.{Fits, text-fits}
-use Rattle.grammar.proofs.Canonical.{text-derived}
+use Rattle.grammar.specs.Refused.{TextRefused}
+use Rattle.grammar.proofs.Utf8.{text_octets}
+use Rattle.grammar.proofs.Good.{text_good}
+use Rattle.grammar.proofs.Sizes.{Fits, text_fits}
+use Rattle.grammar.proofs.Canonical.{text_derived}
 use Rattle.arriving.specs.Between.Arriving.{joined}
 use Rattle.tape.specs.declared.Looked.{Looked}
 use Rattle.tape.specs.Looking.{Looks}
 use Rattle.meaning.specs.Between.Words.{get}
-use Rattle.tape.specs.Between.Shapes.{recordOf, notFinite}
-use Rattle.tape.proofs.JudgingMachineLaws.{nay, slot, put, enter, give, settle, size_of, start_of, does, actOf, push, finish, run}
-use Rattle.tape.specs.Between.Standing.{readAt, recordsFrom}
+use Rattle.tape.specs.Between.Shapes.{record_of, not_finite}
+use Rattle.tape.proofs.JudgingMachineLaws.{nay, slot, put, enter, give, settle, size_of, start_of, does, act_of, push, finish, run}
+use Rattle.tape.specs.Between.Standing.{read_at, records_from}
 use Rattle.tape.proofs.JudgingWholeLaws.{verdict}
-use Rattle.tape.proofs.JudgingOnceLaws.{nay-ill}
-use Rattle.tape.proofs.Outcomes.{look-well-formed}
+use Rattle.tape.proofs.JudgingOnceLaws.{nay_ill}
+use Rattle.tape.proofs.Outcomes.{look_well_formed}
 use Rattle.reader.specs.declared.Answer.{Answer}
-use Rattle.reader.specs.Answers.{tapeBytes, Measures, Loosely, Reads}
-use Rattle.reader.proofs.Claims.{one-outcome-loosely, measure-refuses, read-refuses}
+use Rattle.reader.specs.Answers.{tape_bytes, Measures, Loosely, Reads}
+use Rattle.reader.proofs.Claims.{one_outcome_loosely, measure_refuses, read_refuses}
 use Rattle.writer.specs.declared.Written.{Written}
 use Rattle.writer.specs.Written.{WritesJaxn, WritesJson}
 use Rattle.lanternrung.specs.Trials.Samples.{Outcome, Says, IsTaken, Case, All, ◌&◌}
-use Rattle.lanternrung.proofs.Claims.PList.{P-list, slips-hold, keys-twice}
+use Rattle.lanternrung.proofs.Claims.PList.{PList, slips_hold, keys_twice}
 use Rattle.lanternrung.specs.Claims.{Counted, Takes, Holds, RepeatsFirst, Room, Wrote, Prints}
 use Rattle.lanternrung.specs.Trials.Impostors.{Lent, Measurer, KeepsMeasure, Reader, KeepsRead, Writer, KeepsJaxn, KeepsJson}
-use Rattle.lanternrung.specs.Trials.Impostors.{Looker, KeepsLook, KeepsUtf8, Calendar, KeepsDate, WritesOnly, olderTape}
+use Rattle.lanternrung.specs.Trials.Impostors.{Looker, KeepsLook, KeepsUtf8, Calendar, KeepsDate, WritesOnly, older_tape}
 use Rattle.lanternrung.specs.Trials.Impostors.{twice, PrintsTwice, Files, Impostors}
 use Rattle.lanternrung.specs.Trials.Impostors.{Checker, answers, KeepsCheck}
-use Rattle.lanternrung.proofs.Claims.Reading.{accepted, measured, repeats-first}
-use Rattle.lanternrung.proofs.Claims.Writing.{text-length, written, filed_before}
+use Rattle.lanternrung.proofs.Claims.Reading.{accepted, measured, repeats_first}
+use Rattle.lanternrung.proofs.Claims.Writing.{text_length, written, filed_before}
 
 -- ---- what they are tried on
 
 zeros : (n : ℕ) → n < 2 ^ 64 → Lent (unnamed n)
-zeros n h = record { each = le_bytes n 0; few = omega (arith, le-length n 0) }
+zeros n h = record { each = le_bytes n 0; few = omega (arith, le_length n 0) }
 
-text-lent : {t : List ℕ} {m : Meaning} → Loose true t m → Lent t
-text-lent x = record { each = octets-bytes (text-octets x); few = omega (arith, text-length x) }
+text_lent : {t : List ℕ} {m : Meaning} → Loose true t m → Lent t
+text_lent x = record { each = octets_bytes (text_octets x); few = omega (arith, text_length x) }
 
 -- a small meaning
 record Small (m : Meaning) : Type 0 where
   good : Good m
-  short : length (canonical m) ≤ textLimit
+  short : length (canonical m) ≤ text_limit
 
 module _ {m : Meaning} (s : Small m) where
   derived : Text (canonical m) m
-  derived = text-derived m s.good s.short
+  derived = text_derived m s.good s.short
 
   loosely : Loose true (canonical m) m
   loosely = derived.loose
 
   abbrev tape₀ : List ℕ
-  tape₀ = unnamed (tapeBytes m)
+  tape₀ = unnamed (tape_bytes m)
 
   abbrev store₀ : List ℕ
   store₀ = unnamed (bytes m)
 
-  tape-lent : Lent (tapeOf m)
-  tape-lent = record { each = tape-bytes m; few = omega (arith, tape-length m, (text-fits loosely).few, text-length loosely) }
+  tape_lent : Lent (tape_of m)
+  tape_lent = record { each = tape_bytes_lem m; few = omega (arith, tape_length m, (text_fits loosely).few, text_length loosely) }
 
-  store-lent : Lent (store_of m)
-  store-lent = record { each = store_bytes m s.good.parts; few = omega (arith, (text-fits loosely).small, text-length loosely) }
+  store_lent : Lent (store_of m)
+  store_lent = record { each = store_bytes m s.good.parts; few = omega (arith, (text_fits loosely).small, text_length loosely) }
 
-  abbrev well-formed : WellFormed (tapeOf m) (store_of m)
-  well-formed =
-      let f = text-fits loosely in
-      let l = text-length loosely in
+  abbrev well_formed : WellFormed (tape_of m) (store_of m)
+  well_formed =
+      let f = text_fits loosely in
+      let l = text_length loosely in
       record { meaning = m; good = s.good; few = omega (arith, f.few); short = omega (arith, f.small); taped = refl; stored = refl }
 
   takes : Takes (canonical m) tape₀ store₀ m
-  takes = record { means = derived; tape-room = omega (arith, le-length (tapeBytes m) 0); store-room = omega (arith, le-length (bytes m) 0) }
+  takes = record { means = derived; tape_room = omega (arith, le_length (tape_bytes m) 0); store_room = omega (arith, le_length (bytes m) 0) }
 
   reads : (f : Reader) → KeepsRead f → Holds m tape₀ store₀ (f (canonical m) tape₀ store₀).0 (f (canonical m) tape₀ store₀).1
       (f (canonical m) tape₀ store₀).2
   reads f k =
-      let x = text-fits loosely in
-      let l = text-length loosely in
-      (accepted (k (canonical m) tape₀ store₀ (text-lent loosely) (zeros (tapeBytes m) (omega (arith, x.few))) (zeros (bytes m) (omega (arith, x.small))))
+      let x = text_fits loosely in
+      let l = text_length loosely in
+      (accepted (k (canonical m) tape₀ store₀ (text_lent loosely) (zeros (tape_bytes m) (omega (arith, x.few))) (zeros (bytes m) (omega (arith, x.small))))
       ).then m takes
 
   room : (n : ℕ) → length (canonical m) ≤ n → Room (canonical m) (unnamed n)
-  room n h = record { short = s.short; fits = omega (arith, le-length n 0) }
+  room n h = record { short = s.short; fits = omega (arith, le_length n 0) }
 
-  prints-jaxn : (f : Writer) → KeepsJaxn f → (n : ℕ) → length (canonical m) ≤ n → n < 2 ^ 64
-      → Prints (canonical m) (unnamed n) (f (tapeOf m) (store_of m) (unnamed n)).0 (f (tapeOf m) (store_of m) (unnamed n)).1
-  prints-jaxn f k n h l = (written.jaxn (k (tapeOf m) (store_of m) (unnamed n) tape-lent store-lent (zeros n l))).then well-formed (room n h)
+  prints_jaxn : (f : Writer) → KeepsJaxn f → (n : ℕ) → length (canonical m) ≤ n → n < 2 ^ 64
+      → Prints (canonical m) (unnamed n) (f (tape_of m) (store_of m) (unnamed n)).0 (f (tape_of m) (store_of m) (unnamed n)).1
+  prints_jaxn f k n h l = (written.jaxn (k (tape_of m) (store_of m) (unnamed n) tape_lent store_lent (zeros n l))).then well_formed (room n h)
 
-  prints-json : (f : Writer) → KeepsJson f → noJson m ≡ nowhere → (n : ℕ) → length (canonical m) ≤ n → n < 2 ^ 64
-      → Prints (canonical m) (unnamed n) (f (tapeOf m) (store_of m) (unnamed n)).0 (f (tapeOf m) (store_of m) (unnamed n)).1
-  prints-json f k e n h l = (written.json (k (tapeOf m) (store_of m) (unnamed n) tape-lent store-lent (zeros n l))).then well-formed e (room n h)
+  prints_json : (f : Writer) → KeepsJson f → no_json m ≡ nowhere → (n : ℕ) → length (canonical m) ≤ n → n < 2 ^ 64
+      → Prints (canonical m) (unnamed n) (f (tape_of m) (store_of m) (unnamed n)).0 (f (tape_of m) (store_of m) (unnamed n)).1
+  prints_json f k e n h l = (written.json (k (tape_of m) (store_of m) (unnamed n) tape_lent store_lent (zeros n l))).then well_formed e (room n h)
 
-small-null : Small null
-unfolding textWith depth depthLimit once
-small-null = record { good = record { parts = tt; shallow = lit≤ tt; single = refl }; short = lit≤ tt }
+small_null : Small null
+unfolding text_with depth depth_limit once
+small_null = record { good = record { parts = tt; shallow = lit≤ tt; single = refl }; short = lit≤ tt }
 
-small-true : Small (bool true)
-unfolding textWith depth depthLimit once
-small-true = record { good = record { parts = tt; shallow = lit≤ tt; single = refl }; short = lit≤ tt }
+small_true : Small (bool true)
+unfolding text_with depth depth_limit once
+small_true = record { good = record { parts = tt; shallow = lit≤ tt; single = refl }; short = lit≤ tt }
 
 -- ---- how each fails
 
-refuses-all : (f : Reader) → ((text tape store : List ℕ) → (why : Refusal) × ((f text tape store).0 ≡ Answer.Refused why)) → KeepsRead f → ⊥
-refuses-all f r k =
-    let h = (reads small-null f k).answer in
-    let e = (r (canonical null) (tape₀ small-null) (store₀ small-null)).1 in
+refuses_all : (f : Reader) → ((text tape store : List ℕ) → (why : Refusal) × ((f text tape store).0 ≡ Answer.Refused why)) → KeepsRead f → ⊥
+refuses_all f r k =
+    let h = (reads small_null f k).answer in
+    let e = (r (canonical null) (tape₀ small_null) (store₀ small_null)).1 in
     let z : ◌≡◌ {A = ℕ} 0 1 = cc in
     omega arith
 
-null-for-all : (f : Reader)
+null_for_all : (f : Reader)
     → ((text tape store : List ℕ) (m : Meaning) → Takes text tape store m → Holds null tape store (f text tape store).0 (f text tape store).1
     (f text tape store).2) → KeepsRead f → ⊥
-unfolding tapeOf recordsOf recordsBytes recordBytes
-null-for-all f r k =
-    let h = (reads small-true f k).taped in
-    let g = (r (canonical (bool true)) (tape₀ small-true) (store₀ small-true) (bool true) (takes small-true)).taped in
+unfolding tape_of records_of records_bytes record_bytes
+null_for_all f r k =
+    let h = (reads small_true f k).taped in
+    let g = (r (canonical (bool true)) (tape₀ small_true) (store₀ small_true) (bool true) (takes small_true)).taped in
     let z : ◌≡◌ {A = ℕ} 98 110 = ap (λ (t : List ℕ). get_or t 0 0) (sym h ∙ g) in
     omega arith
 
-leaves-tape : (f : Reader) → ((text tape store : List ℕ) → (f text tape store).1 ≡ tape) → KeepsRead f → ⊥
-unfolding tapeOf recordsOf recordsBytes recordBytes records le
-leaves-tape f r k =
-    let h = (reads small-null f k).taped in
+leaves_tape : (f : Reader) → ((text tape store : List ℕ) → (f text tape store).1 ≡ tape) → KeepsRead f → ⊥
+unfolding tape_of records_of records_bytes record_bytes records le
+leaves_tape f r k =
+    let h = (reads small_null f k).taped in
     let z : ◌≡◌ {A = ℕ} 0 110 = ap (λ (t : List ℕ). get_or t 0 0) (sym (r _ _ _) ∙ h) in
     omega arith
 
-touches-nothing : (f : Reader) → ((text tape store : List ℕ) → ((f text tape store).1 ≡ tape) × ((f text tape store).2 ≡ store)) → KeepsRead f → ⊥
-touches-nothing f r = leaves-tape f (λ text tape store. (r text tape store).0)
+touches_nothing : (f : Reader) → ((text tape store : List ℕ) → ((f text tape store).1 ≡ tape) × ((f text tape store).2 ≡ store)) → KeepsRead f → ⊥
+touches_nothing f r = leaves_tape f (λ text tape store. (r text tape store).0)
 
-small-a : Small (string (letters "a"))
-unfolding textWith quoted escapes escaped depth depthLimit once
-small-a = record { good = record { parts = ascii-octets (letters "a") (omega arith); shallow = lit≤ tt; single = refl }; short = lit≤ tt }
+small_a : Small (string (letters "a"))
+unfolding text_with quoted escapes escaped depth depth_limit once
+small_a = record { good = record { parts = ascii_octets (letters "a") (omega arith); shallow = lit≤ tt; single = refl }; short = lit≤ tt }
 
-leaves-store : (f : Reader) → ((text tape store : List ℕ) → (f text tape store).2 ≡ store) → KeepsRead f → ⊥
+leaves_store : (f : Reader) → ((text tape store : List ℕ) → (f text tape store).2 ≡ store) → KeepsRead f → ⊥
 unfolding store_of le
-leaves-store f r k =
-    let h = (reads small-a f k).stored in
+leaves_store f r k =
+    let h = (reads small_a f k).stored in
     let z : ◌≡◌ {A = ℕ} 0 97 = ap (λ (t : List ℕ). get_or t 0 0) (sym (r _ _ _) ∙ h) in
     omega arith
 
-small-array : Small (array (more none null))
-unfolding textWith depth most depthLimit once onceElements
-small-array = record { good = record { parts = (tt, tt); shallow = lit≤ tt; single = refl }; short = lit≤ tt }
+small_array : Small (array (more none null))
+unfolding text_with depth most depth_limit once once_elements
+small_array = record { good = record { parts = (tt, tt); shallow = lit≤ tt; single = refl }; short = lit≤ tt }
 
-leaves-counts : (f : Reader) → ((text tape store : List ℕ) → get_or (f text tape store).1 4 0 ≡ 0) → KeepsRead f → ⊥
-unfolding tapeOf recordsOf recordsBytes recordBytes elementsCount le
-leaves-counts f r k =
-    let h = (reads small-array f k).taped in
+leaves_counts : (f : Reader) → ((text tape store : List ℕ) → get_or (f text tape store).1 4 0 ≡ 0) → KeepsRead f → ⊥
+unfolding tape_of records_of records_bytes record_bytes elements_count le
+leaves_counts f r k =
+    let h = (reads small_array f k).taped in
     let z : ◌≡◌ {A = ℕ} 0 1 = sym (r _ _ _) ∙ ap (λ (t : List ℕ). get_or t 4 0) h in
     omega arith
 
-small-object : Small (object (member bare [] null))
-unfolding textWith quoted escapes depth most depthLimit once onceMembers held
-small-object = record { good = record { parts = (tt, ascii-octets [] tt, tt); shallow = lit≤ tt; single = refl }; short = lit≤ tt }
+small_object : Small (object (member bare [] null))
+unfolding text_with quoted escapes depth most depth_limit once once_members held
+small_object = record { good = record { parts = (tt, ascii_octets [] tt, tt); shallow = lit≤ tt; single = refl }; short = lit≤ tt }
 
-counts-records : (f : Reader)
-    → ((text tape store : List ℕ) (ms : Members) → Takes text tape store (object ms) → get_or (f text tape store).1 4 0 ≡ membersRecords ms)
+counts_records : (f : Reader)
+    → ((text tape store : List ℕ) (ms : Members) → Takes text tape store (object ms) → get_or (f text tape store).1 4 0 ≡ members_records ms)
     → KeepsRead f → ⊥
-unfolding tapeOf recordsOf recordsBytes recordBytes membersCount membersRecords records le
-counts-records f r k =
-    let h = (reads small-object f k).taped in
-    let z : ◌≡◌ {A = ℕ} 2 1 = sym (r _ _ _ (member bare [] null) (takes small-object)) ∙ ap (λ (t : List ℕ). get_or t 4 0) h in
+unfolding tape_of records_of records_bytes record_bytes members_count members_records records le
+counts_records f r k =
+    let h = (reads small_object f k).taped in
+    let z : ◌≡◌ {A = ℕ} 2 1 = sym (r _ _ _ (member bare [] null) (takes small_object)) ∙ ap (λ (t : List ℕ). get_or t 4 0) h in
     omega arith
 
-older-long : length olderTape ≡ 2 * 16
-unfolding recordsBytes recordBytes le
-older-long = refl
+older_long : length older_tape ≡ 2 * 16
+unfolding records_bytes record_bytes le
+older_long = refl
 
-older-nay : verdict 2 olderTape [] ≡ nay
-unfolding recordsFrom readAt recordOf notFinite get recordsBytes recordBytes le run push settle give slot put enter does start_of size_of actOf finish
-    elementsCount depthLimit
-older-nay = refl
+older_nay : verdict 2 older_tape [] ≡ nay
+unfolding records_from read_at record_of not_finite get records_bytes record_bytes le run push settle give slot put enter does start_of size_of act_of finish
+    elements_count depth_limit
+older_nay = refl
 
-older-lent : Lent olderTape
-unfolding recordsBytes recordBytes le
-older-lent = record { each = omega arith; few = lit< tt }
+older_lent : Lent older_tape
+unfolding records_bytes record_bytes le
+older_lent = record { each = omega arith; few = lit< tt }
 
 -- no tape without counts is well formed, where one has an element: the machine that reads the records says no
-older-ill : WellFormed olderTape [] → ⊥
-older-ill = nay-ill olderTape [] 2 older-long older-nay
+older_ill : WellFormed older_tape [] → ⊥
+older_ill = nay_ill older_tape [] 2 older_long older_nay
 
-older-jaxn : (f : Writer) → ((out : List ℕ) → Wrote (f olderTape [] out).0) → KeepsJaxn f → ⊥
+older_jaxn : (f : Writer) → ((out : List ℕ) → Wrote (f older_tape [] out).0) → KeepsJaxn f → ⊥
 unfolding le
-older-jaxn f r k = older-ill ((written.jaxn (k olderTape [] [] older-lent (zeros 0 (lit< tt)) (zeros 0 (lit< tt)))).exactly.0 (r [])).0
+older_jaxn f r k = older_ill ((written.jaxn (k older_tape [] [] older_lent (zeros 0 (lit< tt)) (zeros 0 (lit< tt)))).exactly.0 (r [])).0
 
-older-json : (f : Writer) → ((out : List ℕ) → Wrote (f olderTape [] out).0) → KeepsJson f → ⊥
+older_json : (f : Writer) → ((out : List ℕ) → Wrote (f older_tape [] out).0) → KeepsJson f → ⊥
 unfolding le
-older-json f r k = older-ill ((written.json (k olderTape [] [] older-lent (zeros 0 (lit< tt)) (zeros 0 (lit< tt)))).exactly.0 (r [])).0
+older_json f r k = older_ill ((written.json (k older_tape [] [] older_lent (zeros 0 (lit< tt)) (zeros 0 (lit< tt)))).exactly.0 (r [])).0
 
 -- ---- two equal keys on a tape
 
-twice-parts : GoodParts twice
-twice-parts = let a = ascii-octets (letters "a") (omega arith) in ((tt, a, tt), a, tt)
+twice_parts : GoodParts twice
+twice_parts = let a = ascii_octets (letters "a") (omega arith) in ((tt, a, tt), a, tt)
 
 -- the tape and the store have this meaning alone, and it is not good
-twice-ill : WellFormed (tapeOf twice) (store_of twice) → ⊥
-unfolding once onceMembers held same records membersRecords store_of membersStore
-twice-ill w =
-    let e : w.meaning ≡ twice = injective w.meaning twice w.good.parts twice-parts w.few (lit≤ tt) w.short (sym w.taped) (sym w.stored) in
+twice_ill : WellFormed (tape_of twice) (store_of twice) → ⊥
+unfolding once once_members held same records members_records store_of members_store
+twice_ill w =
+    let e : w.meaning ≡ twice = injective w.meaning twice w.good.parts twice_parts w.few (lit≤ tt) w.short (sym w.taped) (sym w.stored) in
     let f : false ≡ true = subst (λ (m : Meaning). once m ≡ true) e w.good.single in
     let z : ◌≡◌ {A = ℕ} 0 1 = cc in
     omega arith
 
-twice-tape : Lent (tapeOf twice)
-unfolding records membersRecords
-twice-tape = let l : length (tapeOf twice) ≡ 5 * 16 = tape-length twice in record { each = tape-bytes twice; few = omega arith }
+twice_tape : Lent (tape_of twice)
+unfolding records members_records
+twice_tape = let l : length (tape_of twice) ≡ 5 * 16 = tape_length twice in record { each = tape_bytes_lem twice; few = omega arith }
 
-twice-store : Lent (store_of twice)
-unfolding store_of membersStore
-twice-store = record { each = omega arith; few = lit< tt }
+twice_store : Lent (store_of twice)
+unfolding store_of members_store
+twice_store = record { each = omega arith; few = lit< tt }
 
-twice-room : length (canonical twice) ≤ length (unnamed 19)
-unfolding textWith quoted escapes escaped
-twice-room = omega (arith, le-length 19 0)
+twice_room : length (canonical twice) ≤ length (unnamed 19)
+unfolding text_with quoted escapes escaped
+twice_room = omega (arith, le_length 19 0)
 
-repeated-jaxn : (f : Writer) → PrintsTwice f → KeepsJaxn f → ⊥
-repeated-jaxn f r k =
-    let p = written.jaxn (k (tapeOf twice) (store_of twice) (unnamed 19) twice-tape twice-store (zeros 19 (lit< tt))) in
-    twice-ill (p.exactly.0 (_, (r (unnamed 19) twice-room).answer)).0
+repeated_jaxn : (f : Writer) → PrintsTwice f → KeepsJaxn f → ⊥
+repeated_jaxn f r k =
+    let p = written.jaxn (k (tape_of twice) (store_of twice) (unnamed 19) twice_tape twice_store (zeros 19 (lit< tt))) in
+    twice_ill (p.exactly.0 (_, (r (unnamed 19) twice_room).answer)).0
 
-repeated-json : (f : Writer) → PrintsTwice f → KeepsJson f → ⊥
-repeated-json f r k =
-    let p = written.json (k (tapeOf twice) (store_of twice) (unnamed 19) twice-tape twice-store (zeros 19 (lit< tt))) in
-    twice-ill (p.exactly.0 (_, (r (unnamed 19) twice-room).answer)).0
+repeated_json : (f : Writer) → PrintsTwice f → KeepsJson f → ⊥
+repeated_json f r k =
+    let p = written.json (k (tape_of twice) (store_of twice) (unnamed 19) twice_tape twice_store (zeros 19 (lit< tt))) in
+    twice_ill (p.exactly.0 (_, (r (unnamed 19) twice_room).answer)).0
 
 -- two outputs of four bytes, one `null` and one `true`
-two-texts : (t x y : List ℕ) → x ≡ t ++ drop (length t) (unnamed 4) → y ≡ t ++ drop (length t) (unnamed 4) → x ≡ canonical null
+two_texts : (t x y : List ℕ) → x ≡ t ++ drop (length t) (unnamed 4) → y ≡ t ++ drop (length t) (unnamed 4) → x ≡ canonical null
     ++ drop (length (canonical null)) (unnamed 4)
     → y ≡ canonical (bool true) ++ drop (length (canonical (bool true))) (unnamed 4) → ⊥
-unfolding textWith
-two-texts t x y a b c d =
+unfolding text_with
+two_texts t x y a b c d =
     let z : ◌≡◌ {A = ℕ} 110 116 = ap (λ (u : List ℕ). get_or u 0 0) (sym c ∙ a ∙ sym b ∙ d) in
     omega arith
 
-one-text-jaxn : (f : Writer) (t : List ℕ) → WritesOnly t f → KeepsJaxn f → ⊥
-unfolding textWith
-one-text-jaxn f t r k =
-    let p = prints-jaxn small-null f k 4 (lit≤ tt) (lit< tt) in
-    let q = prints-jaxn small-true f k 4 (lit≤ tt) (lit< tt) in
-    two-texts t _ _ (r _ _ _ _ p.answer) (r _ _ _ _ q.answer) p.holds q.holds
+one_text_jaxn : (f : Writer) (t : List ℕ) → WritesOnly t f → KeepsJaxn f → ⊥
+unfolding text_with
+one_text_jaxn f t r k =
+    let p = prints_jaxn small_null f k 4 (lit≤ tt) (lit< tt) in
+    let q = prints_jaxn small_true f k 4 (lit≤ tt) (lit< tt) in
+    two_texts t _ _ (r _ _ _ _ p.answer) (r _ _ _ _ q.answer) p.holds q.holds
 
-one-text-json : (f : Writer) (t : List ℕ) → WritesOnly t f → KeepsJson f → ⊥
-unfolding textWith noJson firstWithout recordsOf
-one-text-json f t r k =
-    let p = prints-json small-null f k refl 4 (lit≤ tt) (lit< tt) in
-    let q = prints-json small-true f k refl 4 (lit≤ tt) (lit< tt) in
-    two-texts t _ _ (r _ _ _ _ p.answer) (r _ _ _ _ q.answer) p.holds q.holds
+one_text_json : (f : Writer) (t : List ℕ) → WritesOnly t f → KeepsJson f → ⊥
+unfolding text_with no_json first_without records_of
+one_text_json f t r k =
+    let p = prints_json small_null f k refl 4 (lit≤ tt) (lit< tt) in
+    let q = prints_json small_true f k refl 4 (lit≤ tt) (lit< tt) in
+    two_texts t _ _ (r _ _ _ _ p.answer) (r _ _ _ _ q.answer) p.holds q.holds
 
 -- ---- copies
 
@@ -295,86 +295,86 @@ later : {text : List ℕ} {outcome : Outcome} {rest : List (List ℕ × Outcome)
 later (h & r) = r
 
 -- `1e5` is written `100000`
-hundred-thousand : IsTaken (letters "1e5") (number (Finite false 1 (pos 5))) (letters "100000")
-hundred-thousand = first (later (later (later slips-hold)))
+hundred_thousand : IsTaken (letters "1e5") (number (Finite false 1 (pos 5))) (letters "100000")
+hundred_thousand = first (later (later (later slips_hold)))
 
 abbrev hundred : Meaning
 hundred = number (Finite false 1 (pos 5))
 
-small-hundred : Small hundred
-small-hundred = record { good = text-good hundred-thousand.means; short = omega (arith, ap length hundred-thousand.prints) }
+small_hundred : Small hundred
+small_hundred = record { good = text_good hundred_thousand.means; short = omega (arith, ap length hundred_thousand.prints) }
 
-hundred-length : length (canonical hundred) ≡ 6
-hundred-length = ap length hundred-thousand.prints
+hundred_length : length (canonical hundred) ≡ 6
+hundred_length = ap length hundred_thousand.prints
 
-filed-length : length (filed hundred) ≡ 3
-unfolding textWith filedNumber decimal decimalIn powerText
-filed-length = refl
+filed_length : length (filed hundred) ≡ 3
+unfolding text_with filed_number decimal decimal_in power_text
+filed_length = refl
 
-hundred-json : noJson hundred ≡ nowhere
-unfolding noJson firstWithout recordsOf
-hundred-json = refl
+hundred_json : no_json hundred ≡ nowhere
+unfolding no_json first_without records_of
+hundred_json = refl
 
 -- `1e5` is no longer written
 files : (f : Writer) → Files f
-    → Prints (canonical hundred) (unnamed 6) (f (tapeOf hundred) (store_of hundred) (unnamed 6)).0 (f (tapeOf hundred) (store_of hundred) (unnamed 6)).1 → ⊥
+    → Prints (canonical hundred) (unnamed 6) (f (tape_of hundred) (store_of hundred) (unnamed 6)).0 (f (tape_of hundred) (store_of hundred) (unnamed 6)).1 → ⊥
 files f r p =
     let a = p.answer in
-    let b = (r hundred (unnamed 6) (omega (arith, filed-length, le-length 6 0))).answer in
+    let b = (r hundred (unnamed 6) (omega (arith, filed_length, le_length 6 0))).answer in
     let z : length (canonical hundred) ≡ length (filed hundred) = cc in
-    omega (arith, hundred-length, filed-length)
+    omega (arith, hundred_length, filed_length)
 
-files-jaxn : (f : Writer) → Files f → KeepsJaxn f → ⊥
-files-jaxn f r k = files f r (prints-jaxn small-hundred f k 6 (omega (arith, hundred-length)) (lit< tt))
+files_jaxn : (f : Writer) → Files f → KeepsJaxn f → ⊥
+files_jaxn f r k = files f r (prints_jaxn small_hundred f k 6 (omega (arith, hundred_length)) (lit< tt))
 
-files-json : (f : Writer) → Files f → KeepsJson f → ⊥
-files-json f r k = files f r (prints-json small-hundred f k hundred-json 6 (omega (arith, hundred-length)) (lit< tt))
+files_json : (f : Writer) → Files f → KeepsJson f → ⊥
+files_json f r k = files f r (prints_json small_hundred f k hundred_json 6 (omega (arith, hundred_length)) (lit< tt))
 
 -- and is still read
-refuses-filed : (f : Reader)
+refuses_filed : (f : Reader)
     → ((m : Meaning) (tape store : List ℕ) → (filed m ≡ canonical m → ⊥) → (why : Refusal) × ((f (filed m) tape store).0 ≡ Answer.Refused why))
     → KeepsRead f → ⊥
-refuses-filed f r k =
+refuses_filed f r k =
     let m = hundred in
-    let x = filed_before.means {m = m} small-hundred.good (omega (arith, filed-length)) in
-    let y = text-fits x.loose in
-    let l = text-length x.loose in
-    let tape = unnamed (tapeBytes m) in
+    let x = filed_before.means {m = m} small_hundred.good (omega (arith, filed_length)) in
+    let y = text_fits x.loose in
+    let l = text_length x.loose in
+    let tape = unnamed (tape_bytes m) in
     let store = unnamed (bytes m) in
-    let lent = k (filed m) tape store (text-lent x.loose) (zeros (tapeBytes m) (omega (arith, y.few))) (zeros (bytes m) (omega (arith, y.small))) in
+    let lent = k (filed m) tape store (text_lent x.loose) (zeros (tape_bytes m) (omega (arith, y.few))) (zeros (bytes m) (omega (arith, y.small))) in
     let p =
-    (filed_before.held {m = m} small-hundred.good (omega (arith, filed-length)) (omega (arith, le-length (tapeBytes m) 0))
-    (omega (arith, le-length (bytes m) 0)) lent).answer in
-    let q = (r m tape store (λ e. omega (arith, filed-length, hundred-length, ap length e))).1 in
+    (filed_before.held {m = m} small_hundred.good (omega (arith, filed_length)) (omega (arith, le_length (tape_bytes m) 0))
+    (omega (arith, le_length (bytes m) 0)) lent).answer in
+    let q = (r m tape store (λ e. omega (arith, filed_length, hundred_length, ap length e))).1 in
     let z : ◌≡◌ {A = ℕ} 0 1 = cc in
     omega arith
 
 copies : (f : List ℕ → Writer)
     → ((text : List ℕ) (m : Meaning) (out : List ℕ) → Text text m → length text ≤ length out
-    → Prints text out (f text (tapeOf m) (store_of m) out).0 (f text (tapeOf m) (store_of m) out).1)
+    → Prints text out (f text (tape_of m) (store_of m) out).0 (f text (tape_of m) (store_of m) out).1)
     → ((text : List ℕ) → KeepsJaxn (f text)) → ⊥
 copies f r k =
     let t = letters "1e5" in
-    let x = hundred-thousand in
+    let x = hundred_thousand in
     let l = ap length x.prints in
-    let p = (prints-jaxn small-hundred (f t) (k t) 6 (omega arith) (lit< tt)).answer in
-    let q = (r t _ (unnamed 6) x.means (omega (arith, le-length 6 0))).answer in
+    let p = (prints_jaxn small_hundred (f t) (k t) 6 (omega arith) (lit< tt)).answer in
+    let q = (r t _ (unnamed 6) x.means (omega (arith, le_length 6 0))).answer in
     let z : length (canonical hundred) ≡ 3 = cc in
     omega arith
 
 -- ---- measure
 
 invents : (f : Measurer) {text : List ℕ} {m : Meaning} → Text text m → (f text ≡ Answer.Counts (records m) (bytes m) → ⊥) → KeepsMeasure f → ⊥
-invents f {text} {m} x n k = n ((measured (k text (text-lent x.loose))).then m x).answer
+invents f {text} {m} x n k = n ((measured (k text (text_lent x.loose))).then m x).answer
 
 counted : {m : Meaning} → Small m → (f : Measurer) → KeepsMeasure f → f (canonical m) ≡ Answer.Counts (records m) (bytes m)
-counted {m} s f k = let x = derived s in ((measured (k (canonical m) (text-lent x.loose))).then m x).answer
+counted {m} s f k = let x = derived s in ((measured (k (canonical m) (text_lent x.loose))).then m x).answer
 
-one-count : (f : Measurer) (r s : ℕ) → ((text : List ℕ) → Counted (f text) → f text ≡ Answer.Counts r s) → KeepsMeasure f → ⊥
+one_count : (f : Measurer) (r s : ℕ) → ((text : List ℕ) → Counted (f text) → f text ≡ Answer.Counts r s) → KeepsMeasure f → ⊥
 unfolding records
-one-count f r s g k =
-    let p = counted small-null f k in
-    let q = counted small-array f k in
+one_count f r s g k =
+    let p = counted small_null f k in
+    let q = counted small_array f k in
     let a = g (canonical null) (_, _, p) in
     let b = g (canonical (array (more none null))) (_, _, q) in
     let z : records null ≡ records (array (more none null)) = cc in
@@ -382,7 +382,7 @@ one-count f r s g k =
 
 counts_all : (f : Measurer) → ((text : List ℕ) → Counted (f text)) → KeepsMeasure f → ⊥
 counts_all f g k =
-    let x = first P-list in
+    let x = first PList in
     let d = g [] in
     subst (Says 3 0) d.2 (x.measured (f []) (k [] (record { each = tt; few = lit< tt })))
 
@@ -392,67 +392,67 @@ abbrev text₀ : List ℕ
 text₀ = letters "{a:{b:1,b:2},a:3}"
 
 first₀ : RepeatsFirst text₀ 8
-first₀ = repeats-first keys-twice.1
+first₀ = repeats_first keys_twice.1
 
 fits₀ : Fits text₀ first₀.meaning
-fits₀ = text-fits first₀.means
+fits₀ = text_fits first₀.means
 
 lent₀ : Lent text₀
-lent₀ = text-lent first₀.means
+lent₀ = text_lent first₀.means
 
 -- counts are no refusal
-not-counted : {a : Answer} {why : Refusal} → a ≡ Answer.Refused why → Counted a → ⊥
-not-counted e d = let c = d.2 in let z : ◌≡◌ {A = ℕ} 0 1 = cc in omega arith
+not_counted : {a : Answer} {why : Refusal} → a ≡ Answer.Refused why → Counted a → ⊥
+not_counted e d = let c = d.2 in let z : ◌≡◌ {A = ℕ} 0 1 = cc in omega arith
 
-refuses-at : (f : Measurer) → KeepsMeasure f → f text₀ ≡ Answer.Refused (RepeatedKey 8)
-refuses-at f k = measure-refuses keys-twice.1 (k text₀ lent₀)
+refuses_at : (f : Measurer) → KeepsMeasure f → f text₀ ≡ Answer.Refused (RepeatedKey 8)
+refuses_at f k = measure_refuses keys_twice.1 (k text₀ lent₀)
 
-earlier-key : (f : Measurer)
-    → ((text : List ℕ) (p : ℕ) → Text-refused text (RepeatedKey p) → (q : ℕ) × (q < p) × (f text ≡ Answer.Refused (RepeatedKey q)))
+earlier_key : (f : Measurer)
+    → ((text : List ℕ) (p : ℕ) → TextRefused text (RepeatedKey p) → (q : ℕ) × (q < p) × (f text ≡ Answer.Refused (RepeatedKey q)))
     → KeepsMeasure f → ⊥
-earlier-key f r k =
-    let w = r text₀ 8 keys-twice.1 in
+earlier_key f r k =
+    let w = r text₀ 8 keys_twice.1 in
     let e = w.2 in
-    let g = refuses-at f k in
+    let g = refuses_at f k in
     let z : w.0 ≡ 8 = cc in
     omega (arith, w.1)
 
-measures-repeated : (f : Measurer) → ((text : List ℕ) (m : Meaning) → Loose true text m → Counted (f text)) → KeepsMeasure f → ⊥
-measures-repeated f r k = not-counted (refuses-at f k) (r text₀ first₀.meaning first₀.means)
+measures_repeated : (f : Measurer) → ((text : List ℕ) (m : Meaning) → Loose true text m → Counted (f text)) → KeepsMeasure f → ⊥
+measures_repeated f r k = not_counted (refuses_at f k) (r text₀ first₀.meaning first₀.means)
 
-reads-repeated : (f : Reader)
-    → ((text tape store : List ℕ) (m : Meaning) → Loose true text m → tapeBytes m ≤ length tape → bytes m ≤ length store → Counted (f text tape store).0)
+reads_repeated : (f : Reader)
+    → ((text tape store : List ℕ) (m : Meaning) → Loose true text m → tape_bytes m ≤ length tape → bytes m ≤ length store → Counted (f text tape store).0)
     → KeepsRead f → ⊥
-reads-repeated f r k =
+reads_repeated f r k =
     let m = first₀.meaning in
-    let t = unnamed (tapeBytes m) in
+    let t = unnamed (tape_bytes m) in
     let s = unnamed (bytes m) in
-    let d = r text₀ t s m first₀.means (omega (arith, le-length (tapeBytes m) 0)) (omega (arith, le-length (bytes m) 0)) in
-    not-counted (read-refuses keys-twice.1 (k text₀ t s lent₀ (zeros (tapeBytes m) (omega (arith, fits₀.few)))
+    let d = r text₀ t s m first₀.means (omega (arith, le_length (tape_bytes m) 0)) (omega (arith, le_length (bytes m) 0)) in
+    not_counted (read_refuses keys_twice.1 (k text₀ t s lent₀ (zeros (tape_bytes m) (omega (arith, fits₀.few)))
     (zeros (bytes m) (omega (arith, fits₀.small))))) d
 
-checks-keys : (f : Checker)
-    → ((ps : List (List ℕ)) (p : ℕ) → Text-refused (joined ps) (RepeatedKey p) → answers f ps ≡ Answer.Refused (RepeatedKey p)) → KeepsCheck f → ⊥
-checks-keys f r k =
+checks_keys : (f : Checker)
+    → ((ps : List (List ℕ)) (p : ℕ) → TextRefused (joined ps) (RepeatedKey p) → answers f ps ≡ Answer.Refused (RepeatedKey p)) → KeepsCheck f → ⊥
+checks_keys f r k =
     let m = first₀.meaning in
     let ps = text₀ ∷ [] in
-    let e = one-outcome-loosely text₀ (answers f ps) (Answer.Counts (records m) (bytes m)) (k ps lent₀) (Loosely.sizes first₀.means refl) in
-    not-counted (r ps 8 keys-twice.1) (records m, bytes m, e)
+    let e = one_outcome_loosely text₀ (answers f ps) (Answer.Counts (records m) (bytes m)) (k ps lent₀) (Loosely.sizes first₀.means refl) in
+    not_counted (r ps 8 keys_twice.1) (records m, bytes m, e)
 
 -- ---- a text in parts
 
 module _ (f : Checker) (k : KeepsCheck f) where
-  counted-parts : {m : Meaning} → Small m → (ps : List (List ℕ)) → canonical m ≡ joined ps → answers f ps ≡ Answer.Counts (records m) (bytes m)
-  counted-parts {m} s ps e =
+  counted_parts : {m : Meaning} → Small m → (ps : List (List ℕ)) → canonical m ≡ joined ps → answers f ps ≡ Answer.Counts (records m) (bytes m)
+  counted_parts {m} s ps e =
       let x : Loose true (joined ps) m = subst (λ (t : List ℕ). Loose true t m) e (loosely s) in
-      one-outcome-loosely (joined ps) (answers f ps) (Answer.Counts (records m) (bytes m)) (k ps (text-lent x)) (Loosely.sizes x refl)
+      one_outcome_loosely (joined ps) (answers f ps) (Answer.Counts (records m) (bytes m)) (k ps (text_lent x)) (Loosely.sizes x refl)
 
   -- two texts of one and of two records are not told apart
-  not-apart : (ps qs : List (List ℕ)) → canonical null ≡ joined ps → canonical (array (more none null)) ≡ joined qs → answers f ps ≡ answers f qs → ⊥
+  not_apart : (ps qs : List (List ℕ)) → canonical null ≡ joined ps → canonical (array (more none null)) ≡ joined qs → answers f ps ≡ answers f qs → ⊥
   unfolding records
-  not-apart ps qs d e same =
-      let p = counted-parts small-null ps d in
-      let q = counted-parts small-array qs e in
+  not_apart ps qs d e same =
+      let p = counted_parts small_null ps d in
+      let q = counted_parts small_array qs e in
       let z : records null ≡ records (array (more none null)) = cc in
       omega arith
 
@@ -463,83 +463,83 @@ one_answer : (f : Checker) (a : Answer) → ((ps : List (List ℕ)) → answers 
 one_answer f a g k =
     let x = canonical null in
     let y = canonical (array (more none null)) in
-    not-apart f k (x ∷ []) (y ∷ []) (alone x) (alone y) (g (x ∷ []) ∙ sym (g (y ∷ [])))
+    not_apart f k (x ∷ []) (y ∷ []) (alone x) (alone y) (g (x ∷ []) ∙ sym (g (y ∷ [])))
 
 forgets : (f : Checker) → ((s p : List ℕ) → f.feed s p ≡ f.feed f.start p) → KeepsCheck f → ⊥
 forgets f g k =
     let x = canonical null in
     let y = canonical (array (more none null)) in
-    not-apart f k (x ∷ [] ∷ []) (y ∷ [] ∷ []) (alone x) (alone y) (ap f.finish (g (f.feed f.start x) [] ∙ sym (g (f.feed f.start y) [])))
+    not_apart f k (x ∷ [] ∷ []) (y ∷ [] ∷ []) (alone x) (alone y) (ap f.finish (g (f.feed f.start x) [] ∙ sym (g (f.feed f.start y) [])))
 
-first-only : (f : Checker) → ((s p q : List ℕ) → f.feed (f.feed s p) q ≡ f.feed s p) → KeepsCheck f → ⊥
-first-only f g k =
+first_only : (f : Checker) → ((s p q : List ℕ) → f.feed (f.feed s p) q ≡ f.feed s p) → KeepsCheck f → ⊥
+first_only f g k =
     let x = canonical null in
     let y = canonical (array (more none null)) in
-    not-apart f k ([] ∷ x ∷ []) ([] ∷ y ∷ []) (alone x) (alone y) (ap f.finish (g f.start [] x ∙ sym (g f.start [] y)))
+    not_apart f k ([] ∷ x ∷ []) ([] ∷ y ∷ []) (alone x) (alone y) (ap f.finish (g f.start [] x ∙ sym (g f.start [] y)))
 
 -- ---- look, utf8, date
 
-looked : {m : Meaning} (s : Small m) (f : Looker) → KeepsLook f → 0 < records m → f (tapeOf m) (store_of m) 0
-    ≡ Looked.Record (get_or (recordsOf m 0 0) 0 Record.Null)
-looked {m} s f k h = look-well-formed (well-formed s) h (k (tapeOf m) (store_of m) 0 (tape-lent s) (store-lent s) (lit< tt))
+looked : {m : Meaning} (s : Small m) (f : Looker) → KeepsLook f → 0 < records m → f (tape_of m) (store_of m) 0
+    ≡ Looked.Record (get_or (records_of m 0 0) 0 Record.Null)
+looked {m} s f k h = look_well_formed (well_formed s) h (k (tape_of m) (store_of m) 0 (tape_lent s) (store_lent s) (lit< tt))
 
-misplaces : (f : Measurer) {text : List ℕ} {why : Refusal} → Lent text → Text-refused text why → (f text ≡ Answer.Refused why → ⊥) → KeepsMeasure f → ⊥
-misplaces f {text} l x n k = n (measure-refuses x (k text l))
+misplaces : (f : Measurer) {text : List ℕ} {why : Refusal} → Lent text → TextRefused text why → (f text ≡ Answer.Refused why → ⊥) → KeepsMeasure f → ⊥
+misplaces f {text} l x n k = n (measure_refuses x (k text l))
 
-misplaces-reading : (f : Reader) {text : List ℕ} {why : Refusal} → Lent text → Text-refused text why → ((f text [] []).0 ≡ Answer.Refused why → ⊥) → KeepsRead f
+misplaces_reading : (f : Reader) {text : List ℕ} {why : Refusal} → Lent text → TextRefused text why → ((f text [] []).0 ≡ Answer.Refused why → ⊥) → KeepsRead f
     → ⊥
-misplaces-reading f {text} l x n k = let nothing : Lent [] = record { each = tt; few = lit< tt } in n (read-refuses x (k text [] [] l nothing nothing))
+misplaces_reading f {text} l x n k = let nothing : Lent [] = record { each = tt; few = lit< tt } in n (read_refuses x (k text [] [] l nothing nothing))
 
-looks-null : (f : Looker) → ((tape store : List ℕ) (index : ℕ) → index < wholeRecords tape → f tape store index ≡ Looked.Record Record.Null) → KeepsLook f → ⊥
-unfolding records recordsOf
-looks-null f r k =
-    let p : f (tapeOf (bool true)) (store_of (bool true)) 0 ≡ Looked.Record (Record.Bool true) = looked small-true f k (lit< tt) in
-    let q = r (tapeOf (bool true)) (store_of (bool true)) 0 (omega (arith, tape-length (bool true))) in
+looks_null : (f : Looker) → ((tape store : List ℕ) (index : ℕ) → index < whole_records tape → f tape store index ≡ Looked.Record Record.Null) → KeepsLook f → ⊥
+unfolding records records_of
+looks_null f r k =
+    let p : f (tape_of (bool true)) (store_of (bool true)) 0 ≡ Looked.Record (Record.Bool true) = looked small_true f k (lit< tt) in
+    let q = r (tape_of (bool true)) (store_of (bool true)) 0 (omega (arith, tape_length (bool true))) in
     let z : ◌≡◌ {A = ℕ} 0 1 = cc in
     omega arith
 
-looks-nowhere : (f : Looker) → ((tape store : List ℕ) (index : ℕ) → (why : Refusal) × (f tape store index ≡ Looked.Refused why)) → KeepsLook f → ⊥
+looks_nowhere : (f : Looker) → ((tape store : List ℕ) (index : ℕ) → (why : Refusal) × (f tape store index ≡ Looked.Refused why)) → KeepsLook f → ⊥
 unfolding records
-looks-nowhere f r k =
-    let p = looked small-null f k (lit< tt) in
-    let q = (r (tapeOf null) (store_of null) 0).1 in
+looks_nowhere f r k =
+    let p = looked small_null f k (lit< tt) in
+    let q = (r (tape_of null) (store_of null) 0).1 in
     let z : ◌≡◌ {A = ℕ} 0 1 = cc in
     omega arith
 
-all-utf8 : (f : List ℕ → Utf8Answer) → ((s : List ℕ) → f s ≡ Utf8Answer.Done) → KeepsUtf8 f → ⊥
-unfolding judged faultFrom length_at is_wide count_leading_zeros
-all-utf8 f r k =
+all_utf8 : (f : List ℕ → Utf8Answer) → ((s : List ℕ) → f s ≡ Utf8Answer.Done) → KeepsUtf8 f → ⊥
+unfolding judged fault_from length_at is_wide count_leading_zeros
+all_utf8 f r k =
     let s : List ℕ = 0xFF ∷ [] in
-    let e : Utf8Answer.IllFormed 0 ≡ f s = one-outcome-utf8 (judged-is s) (k s (record { each = (lit< tt, tt); few = lit< tt })) in
+    let e : Utf8Answer.IllFormed 0 ≡ f s = one_outcome_utf8 (judged_is s) (k s (record { each = (lit< tt, tt); few = lit< tt })) in
     let q = r s in
     let z : ◌≡◌ {A = ℕ} 0 1 = cc in
     omega arith
 
-no-utf8 : (f : List ℕ → Utf8Answer) → ((s : List ℕ) → (k : ℕ) × (f s ≡ Utf8Answer.IllFormed k)) → KeepsUtf8 f → ⊥
-no-utf8 f r k =
-    let e : Utf8Answer.Done ≡ f [] = one-outcome-utf8 (Judged.done Octets.none refl) (k [] (record { each = tt; few = lit< tt })) in
+no_utf8 : (f : List ℕ → Utf8Answer) → ((s : List ℕ) → (k : ℕ) × (f s ≡ Utf8Answer.IllFormed k)) → KeepsUtf8 f → ⊥
+no_utf8 f r k =
+    let e : Utf8Answer.Done ≡ f [] = one_outcome_utf8 (Judged.done Octets.none refl) (k [] (record { each = tt; few = lit< tt })) in
     let q = (r []).1 in
     let z : ◌≡◌ {A = ℕ} 0 1 = cc in
     omega arith
 
-february-30 : Date 2000 2 30 → ⊥
-unfolding isDate isLeap
-february-30 d =
-    let e : false ≡ true = date-is d in
+february_30 : Date 2000 2 30 → ⊥
+unfolding is_date is_leap
+february_30 d =
+    let e : false ≡ true = date_is d in
     let z : ◌≡◌ {A = ℕ} 0 1 = cc in
     omega arith
 
-long-months : (f : Calendar) → ((y m d : ℕ) → y ≤ 9999 → 1 ≤ m → m ≤ 12 → 1 ≤ d → d ≤ 31 → f y m d ≡ DateAnswer.Done) → KeepsDate f → ⊥
-long-months f r k =
-    let e : DateAnswer.NoDate ≡ f 2000 2 30 = one-outcome-date (Dated.none february-30 refl) (k 2000 2 30 (lit< tt) (lit< tt) (lit< tt)) in
+long_months : (f : Calendar) → ((y m d : ℕ) → y ≤ 9999 → 1 ≤ m → m ≤ 12 → 1 ≤ d → d ≤ 31 → f y m d ≡ DateAnswer.Done) → KeepsDate f → ⊥
+long_months f r k =
+    let e : DateAnswer.NoDate ≡ f 2000 2 30 = one_outcome_date (Dated.none february_30 refl) (k 2000 2 30 (lit< tt) (lit< tt) (lit< tt)) in
     let q = r 2000 2 30 (lit≤ tt) (lit≤ tt) (lit≤ tt) (lit≤ tt) (lit≤ tt) in
     let z : ◌≡◌ {A = ℕ} 0 1 = cc in
     omega arith
 
-no-date : (f : Calendar) → ((y m d : ℕ) → f y m d ≡ DateAnswer.NoDate) → KeepsDate f → ⊥
-unfolding isDate isLeap
-no-date f r k =
-    let e : DateAnswer.Done ≡ f 2000 2 29 = one-outcome-date (Dated.done (is-date {y = 2000} {m = 2} {d = 29} refl) refl)
+no_date_lem : (f : Calendar) → ((y m d : ℕ) → f y m d ≡ DateAnswer.NoDate) → KeepsDate f → ⊥
+unfolding is_date is_leap
+no_date_lem f r k =
+    let e : DateAnswer.Done ≡ f 2000 2 29 = one_outcome_date (Dated.done (is_date_lem {y = 2000} {m = 2} {d = 29} refl) refl)
     (k 2000 2 29 (lit< tt) (lit< tt) (lit< tt)) in
     let q = r 2000 2 29 in
     let z : ◌≡◌ {A = ℕ} 0 1 = cc in
@@ -548,39 +548,39 @@ no-date f r k =
 pub impostors : Impostors
 impostors =
     record {
-      refuses-all = refuses-all;
-      null-for-all = null-for-all;
-      touches-nothing = touches-nothing;
-      leaves-tape = leaves-tape;
-      leaves-store = leaves-store;
-      leaves-counts = leaves-counts;
-      counts-records = counts-records;
-      older-jaxn = older-jaxn;
-      older-json = older-json;
-      repeated-jaxn = repeated-jaxn;
-      repeated-json = repeated-json;
-      files-jaxn = files-jaxn;
-      files-json = files-json;
-      refuses-filed = refuses-filed;
-      one-text-jaxn = one-text-jaxn;
-      one-text-json = one-text-json;
+      refuses_all = refuses_all;
+      null_for_all = null_for_all;
+      touches_nothing = touches_nothing;
+      leaves_tape = leaves_tape;
+      leaves_store = leaves_store;
+      leaves_counts = leaves_counts;
+      counts_records = counts_records;
+      older_jaxn = older_jaxn;
+      older_json = older_json;
+      repeated_jaxn = repeated_jaxn;
+      repeated_json = repeated_json;
+      files_jaxn = files_jaxn;
+      files_json = files_json;
+      refuses_filed = refuses_filed;
+      one_text_jaxn = one_text_jaxn;
+      one_text_json = one_text_json;
       copies = copies;
       invents = invents;
-      one-count = one-count;
+      one_count = one_count;
       counts_all = counts_all;
       misplaces = misplaces;
-      misplaces-reading = misplaces-reading;
-      earlier-key = earlier-key;
-      measures-repeated = measures-repeated;
-      reads-repeated = reads-repeated;
-      checks-keys = checks-keys;
+      misplaces_reading = misplaces_reading;
+      earlier_key = earlier_key;
+      measures_repeated = measures_repeated;
+      reads_repeated = reads_repeated;
+      checks_keys = checks_keys;
       one_answer = one_answer;
       forgets = forgets;
-      first-only = first-only;
-      looks-null = looks-null;
-      looks-nowhere = looks-nowhere;
-      all-utf8 = all-utf8;
-      no-utf8 = no-utf8;
-      long-months = long-months;
-      no-date = no-date;
+      first_only = first_only;
+      looks_null = looks_null;
+      looks_nowhere = looks_nowhere;
+      all_utf8 = all_utf8;
+      no_utf8 = no_utf8;
+      long_months = long_months;
+      no_date_lem = no_date_lem;
     }

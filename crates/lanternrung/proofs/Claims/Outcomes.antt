@@ -26,61 +26,61 @@ use Rattle.lanternrung.specs.Claims.{Untouched, OneOutcome}
 pub untouched : Untouched
 untouched =
     record {
-      read = λ {text} {tape} {store} {why} {tape'} {store'} p. reader.read-untouched text tape store tape' store' why p;
-      write-jaxn = λ p. writer.untouched-jaxn p refl;
-      write-json = λ p. writer.untouched-json p refl;
+      read = λ {text} {tape} {store} {why} {tape'} {store'} p. reader.read_untouched text tape store tape' store' why p;
+      write_jaxn = λ p. writer.untouched_jaxn p refl;
+      write_json = λ p. writer.untouched_json p refl;
     }
 
 -- ---- one-outcome-X: two outcomes that the promise of X allows for the same input are equal, answers and all final bytes
 
-pub one-outcome-utf8 : {s : List ℕ} {a b : Utf8Answer} → Judged s a → Judged s b → a ≡ b
-one-outcome-utf8 = rules.one-outcome-utf8
+pub one_outcome_utf8 : {s : List ℕ} {a b : Utf8Answer} → Judged s a → Judged s b → a ≡ b
+one_outcome_utf8 = rules.one_outcome_utf8
 
-pub one-outcome-date : {year month day : ℕ} {a b : DateAnswer} → Dated year month day a → Dated year month day b → a ≡ b
-one-outcome-date = rules.one-outcome-date
+pub one_outcome_date : {year month day : ℕ} {a b : DateAnswer} → Dated year month day a → Dated year month day b → a ≡ b
+one_outcome_date = rules.one_outcome_date
 
-pub one-outcome-measure : (text : List ℕ) {a b : Answer} → Measures text a → Measures text b → a ≡ b
-one-outcome-measure text {a} {b} = reader.one-outcome-measure text a b
+pub one_outcome_measure : (text : List ℕ) {a b : Answer} → Measures text a → Measures text b → a ≡ b
+one_outcome_measure text {a} {b} = reader.one_outcome_measure text a b
 
-pub one-outcome-read : {text tape store : List ℕ} {a b : Answer} {t u s v : List ℕ} → Reads text tape store a t s → Reads text tape store b u v → (a ≡ b)
+pub one_outcome_read : {text tape store : List ℕ} {a b : Answer} {t u s v : List ℕ} → Reads text tape store a t s → Reads text tape store b u v → (a ≡ b)
     × (t ≡ u) × (s ≡ v)
-one-outcome-read = reader.one-outcome-read
+one_outcome_read = reader.one_outcome_read
 
-pub one-outcome-look : {tape store : List ℕ} {index : ℕ} {a b : Looked} → Looks tape store index a → Looks tape store index b → a ≡ b
-one-outcome-look = tapes.one-outcome-look
+pub one_outcome_look : {tape store : List ℕ} {index : ℕ} {a b : Looked} → Looks tape store index a → Looks tape store index b → a ≡ b
+one_outcome_look = tapes.one_outcome_look
 
-pub one-outcome-write-jaxn : {tape store out : List ℕ} {a b : Written} {x y : List ℕ} → WritesJaxn tape store out a x → WritesJaxn tape store out b y → (a ≡ b)
+pub one_outcome_write_jaxn : {tape store out : List ℕ} {a b : Written} {x y : List ℕ} → WritesJaxn tape store out a x → WritesJaxn tape store out b y → (a ≡ b)
     × (x ≡ y)
-one-outcome-write-jaxn = writer.one-outcome-jaxn
+one_outcome_write_jaxn = writer.one_outcome_jaxn
 
-pub one-outcome-write-json : {tape store out : List ℕ} {a b : Written} {x y : List ℕ} → WritesJson tape store out a x → WritesJson tape store out b y → (a ≡ b)
+pub one_outcome_write_json : {tape store out : List ℕ} {a b : Written} {x y : List ℕ} → WritesJson tape store out a x → WritesJson tape store out b y → (a ≡ b)
     × (x ≡ y)
-one-outcome-write-json = writer.one-outcome-json
+one_outcome_write_json = writer.one_outcome_json
 
 -- a promise that is an equation
 same : {A : Type 0} {a b c : A} → a ≡ c → b ≡ c → a ≡ b
 same p q = p ∙ sym q
 
-pub one-outcome-check-start : {a b : Check} → a ≡ started → b ≡ started → a ≡ b
-one-outcome-check-start = same
+pub one_outcome_check_start : {a b : Check} → a ≡ started → b ≡ started → a ≡ b
+one_outcome_check_start = same
 
-pub one-outcome-check-feed : (c : Check) (part : List ℕ) {a b : Check} → a ≡ fed c part → b ≡ fed c part → a ≡ b
-one-outcome-check-feed c part = same
+pub one_outcome_check_feed : (c : Check) (part : List ℕ) {a b : Check} → a ≡ fed c part → b ≡ fed c part → a ≡ b
+one_outcome_check_feed c part = same
 
-pub one-outcome-check-finish : (c : Check) {a b : Answer} → a ≡ ended c → b ≡ ended c → a ≡ b
-one-outcome-check-finish c = same
+pub one_outcome_check_finish : (c : Check) {a b : Answer} → a ≡ ended c → b ≡ ended c → a ≡ b
+one_outcome_check_finish c = same
 
-pub one-outcome : OneOutcome
-one-outcome =
+pub one_outcome : OneOutcome
+one_outcome =
     record {
-      utf8 = λ s a b p q. one-outcome-utf8 p q;
-      date = λ year month day a b p q. one-outcome-date p q;
-      measure = λ text a b p q. one-outcome-measure text p q;
-      read = λ text tape store a b t u s v p q. one-outcome-read p q;
-      look = λ tape store index a b p q. one-outcome-look p q;
-      write-jaxn = λ tape store out a b x y p q. one-outcome-write-jaxn p q;
-      write-json = λ tape store out a b x y p q. one-outcome-write-json p q;
-      check-start = λ a b p q. one-outcome-check-start p q;
-      check-feed = λ c part a b p q. one-outcome-check-feed c part p q;
-      check-finish = λ c a b p q. one-outcome-check-finish c p q;
+      utf8 = λ s a b p q. one_outcome_utf8 p q;
+      date = λ year month day a b p q. one_outcome_date p q;
+      measure = λ text a b p q. one_outcome_measure text p q;
+      read = λ text tape store a b t u s v p q. one_outcome_read p q;
+      look = λ tape store index a b p q. one_outcome_look p q;
+      write_jaxn = λ tape store out a b x y p q. one_outcome_write_jaxn p q;
+      write_json = λ tape store out a b x y p q. one_outcome_write_json p q;
+      check_start = λ a b p q. one_outcome_check_start p q;
+      check_feed = λ c part a b p q. one_outcome_check_feed c part p q;
+      check_finish = λ c a b p q. one_outcome_check_finish c p q;
     }

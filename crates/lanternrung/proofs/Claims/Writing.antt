@@ -8,22 +8,22 @@ use Prim.Native.Nat.{ℕ, ◌*◌, ◌/◌, ◌≤◌}
 use native.Mathlib.Omega.{arith}
 use lib.ListN.{length, take, drop, drop_of_length-le}
 use lib.Seq.{take_at}
-use Rattle.meaning.specs.Limits.{textLimit}
+use Rattle.meaning.specs.Limits.{text_limit}
 use Rattle.meaning.specs.Meaning.{Meaning}
 use Rattle.meaning.specs.Good.{Good}
-use Rattle.meaning.specs.Tape.{bytes, tapeOf, store_of, WellFormed}
+use Rattle.meaning.specs.Tape.{bytes, tape_of, store_of, WellFormed}
 use Rattle.meaning.specs.Canonical.{canonical}
 use Rattle.meaning.specs.Filed.{filed}
-use Rattle.meaning.specs.Json.{noJson, json}
-use Rattle.meaning.proofs.Whole.{one-meaning, tape-length, well-formed-length}
+use Rattle.meaning.specs.Json.{no_json, json}
+use Rattle.meaning.proofs.Whole.{one_meaning, tape_length, well_formed_length}
 use Rattle.grammar.specs.Values.{Loose, Text}
-use Rattle.grammar.proofs.Good.{text-good}
-use Rattle.grammar.proofs.Sizes.{text-fits}
-use Rattle.grammar.proofs.Canonical.{text-derived, filed-derived}
-use Rattle.machine.proofs.Whole.{same-canonical}
+use Rattle.grammar.proofs.Good.{text_good}
+use Rattle.grammar.proofs.Sizes.{text_fits}
+use Rattle.grammar.proofs.Canonical.{text_derived, filed_derived}
+use Rattle.machine.proofs.Whole.{same_canonical}
 use Rattle.reader.specs.declared.Answer.{Answer}
-use Rattle.reader.specs.Answers.{tapeBytes, Reads}
-use Rattle.reader.proofs.Claims.{one-outcome-read, reads_as, read-accepts}
+use Rattle.reader.specs.Answers.{tape_bytes, Reads}
+use Rattle.reader.proofs.Claims.{one_outcome_read, reads_as, read_accepts}
 use Rattle.writer.specs.declared.Written.{Written}
 use Rattle.writer.specs.Written.{Writes, too_long, too_short, WritesJaxn, WritesJson}
 use Rattle.writer.proofs.Outcomes as writer
@@ -34,88 +34,88 @@ use Rattle.lanternrung.proofs.Claims.Reading.{accepted}
 printed : {t out out' : List ℕ} {a : Written} → Room t out → Writes t out a out' → Prints t out a out'
 printed r (too_long h s) = absurd (omega (arith, r.short))
 printed r (too_short h g s) = absurd (omega (arith, r.fits))
-printed {t} {a = a} r (Writes.written h g s) = record { answer = writer.same-written a (Written.Wrote (length t)) s; holds = refl }
+printed {t} {a = a} r (Writes.written h g s) = record { answer = writer.same_written a (Written.Wrote (length t)) s; holds = refl }
 
 -- done: then within the limit, and with room
 roomy : {t out out' : List ℕ} {a : Written} {n : ℕ} → Writes t out a out' → a ≡ Written.Wrote n → Room t out
-roomy (too_long h s) e = absurd (writer.wrote-apart s e)
-roomy (too_short h g s) e = absurd (writer.wrote-apart s e)
+roomy (too_long h s) e = absurd (writer.wrote_apart s e)
+roomy (too_short h g s) e = absurd (writer.wrote_apart s e)
 roomy (Writes.written h g s) e = record { short = h; fits = g }
 
 module _ {tape store out : List ℕ} where
-  jaxn-done : {a : Written} {out' : List ℕ} {n : ℕ} → WritesJaxn tape store out a out' → a ≡ Written.Wrote n → (w : WellFormed tape store)
+  jaxn_done : {a : Written} {out' : List ℕ} {n : ℕ} → WritesJaxn tape store out a out' → a ≡ Written.Wrote n → (w : WellFormed tape store)
       × Room (canonical w.meaning) out
-  jaxn-done (WritesJaxn.ill n s) e = absurd (writer.wrote-apart s e)
-  jaxn-done (WritesJaxn.text w p) e = (w, roomy p e)
+  jaxn_done (WritesJaxn.ill n s) e = absurd (writer.wrote_apart s e)
+  jaxn_done (WritesJaxn.text w p) e = (w, roomy p e)
 
-  json-done : {a : Written} {out' : List ℕ} {n : ℕ} → WritesJson tape store out a out' → a ≡ Written.Wrote n → (w : WellFormed tape store)
-      × (noJson w.meaning ≡ none) × Room (canonical w.meaning) out
-  json-done (WritesJson.ill n s) e = absurd (writer.wrote-apart s e)
-  json-done (WritesJson.formless w f s) e = absurd (writer.wrote-apart s e)
-  json-done (WritesJson.text w f p) e = (w, f, roomy p e)
+  json_done : {a : Written} {out' : List ℕ} {n : ℕ} → WritesJson tape store out a out' → a ≡ Written.Wrote n → (w : WellFormed tape store)
+      × (no_json w.meaning ≡ none) × Room (canonical w.meaning) out
+  json_done (WritesJson.ill n s) e = absurd (writer.wrote_apart s e)
+  json_done (WritesJson.formless w f s) e = absurd (writer.wrote_apart s e)
+  json_done (WritesJson.text w f p) e = (w, f, roomy p e)
 
-  jaxn-written : {a : Written} {out' : List ℕ} → WritesJaxn tape store out a out' → WrittenJaxn tape store out a out'
-  jaxn-written {a} {out'} p = record {
-    exactly = (λ d. jaxn-done p d.1, λ w. (length (canonical w.0.meaning), (prints w.0 w.1).answer));
+  jaxn_written : {a : Written} {out' : List ℕ} → WritesJaxn tape store out a out' → WrittenJaxn tape store out a out'
+  jaxn_written {a} {out'} p = record {
+    exactly = (λ d. jaxn_done p d.1, λ w. (length (canonical w.0.meaning), (prints w.0 w.1).answer));
     then =
         prints;
   }
     where
       prints : (w : WellFormed tape store) → Room (canonical w.meaning) out → Prints (canonical w.meaning) out a out'
-      prints w r = printed r (writer.written-jaxn w p)
+      prints w r = printed r (writer.written_jaxn w p)
 
-  json-written : {a : Written} {out' : List ℕ} → WritesJson tape store out a out' → WrittenJson tape store out a out'
-  json-written {a} {out'} p = record {
-    exactly = (λ d. json-done p d.1, λ w. (length (canonical w.0.meaning), (prints w.0 w.1 w.2).answer));
+  json_written : {a : Written} {out' : List ℕ} → WritesJson tape store out a out' → WrittenJson tape store out a out'
+  json_written {a} {out'} p = record {
+    exactly = (λ d. json_done p d.1, λ w. (length (canonical w.0.meaning), (prints w.0 w.1 w.2).answer));
     then = prints;
   }
     where
-      prints : (w : WellFormed tape store) → noJson w.meaning ≡ none → Room (canonical w.meaning) out → Prints (canonical w.meaning) out a out'
-      prints w f r = printed r (writer.written-json w f p)
+      prints : (w : WellFormed tape store) → no_json w.meaning ≡ none → Room (canonical w.meaning) out → Prints (canonical w.meaning) out a out'
+      prints w f r = printed r (writer.written_json w f p)
 
-pub text-length : {t : List ℕ} {m : Meaning} → Loose true t m → length t ≤ textLimit
-text-length (Loose.text w v l h) = h
+pub text_length : {t : List ℕ} {m : Meaning} → Loose true t m → length t ≤ text_limit
+text_length (Loose.text w v l h) = h
 
 filled : {text tape store : List ℕ} {r s : ℕ} {tape' store' : List ℕ} → Reads text tape store (Answer.Counts r s) tape' store'
     → (w : WellFormed (take (r * 16) tape') (take s store')) × Text text w.meaning
 filled {text} {tape} {store} {r} {s} {tape'} {store'} p =
-    let h = read-accepts text tape store r s tape' store' p in
+    let h = read_accepts text tape store r s tape' store' p in
     let m = h.meaning in
-    let x = h.text-means in
-    let f = text-fits x.loose in
-    let l = text-length x.loose in (
+    let x = h.text_means in
+    let f = text_fits x.loose in
+    let l = text_length x.loose in (
       record {
         meaning = m;
-        good = text-good x;
+        good = text_good x;
         few = omega (arith, f.few);
         short = omega (arith, f.small);
-        taped = ap (take (r * 16)) h.taped ∙ take_at (tapeOf m) (drop (length (tapeOf m)) tape) (r * 16) (omega (arith, tape-length m, h.counted));
+        taped = ap (take (r * 16)) h.taped ∙ take_at (tape_of m) (drop (length (tape_of m)) tape) (r * 16) (omega (arith, tape_length m, h.counted));
         stored = ap (take s) h.stored ∙ take_at (store_of m) (drop (length (store_of m)) store) s (sym h.held);
       },
       x,
     )
 
 pub written : IsWritten
-written = record { one-meaning = λ {tape} {store}. one-meaning tape store; jaxn = jaxn-written; json = json-written; filled = filled }
+written = record { one_meaning = λ {tape} {store}. one_meaning tape store; jaxn = jaxn_written; json = json_written; filled = filled }
 
 -- ---- same_text: the canonical texts are the same bytes exactly when the meanings are the same
 
 pub same_text : SameText
-same_text = record { texts = λ x y. same (text-good x) (text-good y); meanings = same }
+same_text = record { texts = λ x y. same (text_good x) (text_good y); meanings = same }
   where
     same : {m n : Meaning} → Good m → Good n → (canonical m ≡ canonical n) ↔ (m ≡ n)
-    same {m} {n} g h = (same-canonical m n g h, ap canonical)
+    same {m} {n} g h = (same_canonical m n g h, ap canonical)
 
 -- ---- read-back: the canonical text of a meaning within the limits is accepted, and gives the same tape and store
 
-back-meaning : {m : Meaning} {tape store : List ℕ} {a : Answer} {tape' store' : List ℕ} → Good m → length (canonical m) ≤ textLimit → tapeBytes m ≤ length tape
+back_meaning : {m : Meaning} {tape store : List ℕ} {a : Answer} {tape' store' : List ℕ} → Good m → length (canonical m) ≤ text_limit → tape_bytes m ≤ length tape
     → bytes m ≤ length store
     → Reads (canonical m) tape store a tape' store' → Holds m tape store a tape' store'
-back-meaning {m} g l h k p = (accepted p).then m (record { means = text-derived m g l; tape-room = h; store-room = k })
+back_meaning {m} g l h k p = (accepted p).then m (record { means = text_derived m g l; tape_room = h; store_room = k })
 
-back-text : {text : List ℕ} {m : Meaning} {tape store : List ℕ} {a b : Answer} {t u s v : List ℕ} → Text text m → length (canonical m) ≤ textLimit
+back_text : {text : List ℕ} {m : Meaning} {tape store : List ℕ} {a b : Answer} {t u s v : List ℕ} → Text text m → length (canonical m) ≤ text_limit
     → Reads text tape store a t s → Reads (canonical m) tape store b u v → (a ≡ b) × (t ≡ u) × (s ≡ v)
-back-text x l p q = one-outcome-read p (reads_as (text-derived _ (text-good x) l) x q)
+back_text x l p q = one_outcome_read p (reads_as (text_derived _ (text_good x) l) x q)
 
 -- over a buffer that is no longer
 all_of : (x t : List ℕ) → length t ≤ length x → x ++ drop (length x) t ≡ x
@@ -129,31 +129,31 @@ module _ {tape store out : List ℕ} {n : ℕ} {out' t s : List ℕ} {a : Answer
       let size = p.answer in
       let e : length (canonical m) ≡ n = cc in
       let f : take n out' ≡ canonical m = rw p.holds (take_at (canonical m) (drop (length (canonical m)) out) n e) in
-      let lt = well-formed-length tape store w in
+      let lt = well_formed_length tape store w in
       let ls = ap length w.stored in
-      let x = back-meaning w.good r.short (omega arith) (omega arith) (subst (λ (i : List ℕ). Reads i t s a t' s') f q) in
+      let x = back_meaning w.good r.short (omega arith) (omega arith) (subst (λ (i : List ℕ). Reads i t s a t' s') f q) in
       record {
         answer = x.answer ∙ ap₂ Answer.Counts (omega arith) (sym ls);
-        taped = x.taped ∙ all_of (tapeOf m) t (omega (arith, tape-length m)) ∙ sym w.taped;
+        taped = x.taped ∙ all_of (tape_of m) t (omega (arith, tape_length m)) ∙ sym w.taped;
         stored = x.stored ∙ all_of (store_of m) s (omega arith) ∙ sym w.stored;
       }
 
-  back-jaxn : WritesJaxn tape store out (Written.Wrote n) out' → length t ≡ length tape → length s ≡ length store → Reads (take n out') t s a t' s' → Again
+  back_jaxn : WritesJaxn tape store out (Written.Wrote n) out' → length t ≡ length tape → length s ≡ length store → Reads (take n out') t s a t' s' → Again
       tape store a t' s'
-  back-jaxn p h k q = let d = jaxn-done p refl in back d.0 d.1 ((jaxn-written p).then d.0 d.1) h k q
+  back_jaxn p h k q = let d = jaxn_done p refl in back d.0 d.1 ((jaxn_written p).then d.0 d.1) h k q
 
-  back-json : WritesJson tape store out (Written.Wrote n) out' → length t ≡ length tape → length s ≡ length store → Reads (take n out') t s a t' s' → Again
+  back_json : WritesJson tape store out (Written.Wrote n) out' → length t ≡ length tape → length s ≡ length store → Reads (take n out') t s a t' s' → Again
       tape store a t' s'
-  back-json p h k q = let d = json-done p refl in back d.0 d.2 ((json-written p).then d.0 d.1 d.2) h k q
+  back_json p h k q = let d = json_done p refl in back d.0 d.2 ((json_written p).then d.0 d.1 d.2) h k q
 
 pub read_back : ReadBack
-read_back = record { meaning = back-meaning; text = back-text; jaxn = back-jaxn; json = back-json }
+read_back = record { meaning = back_meaning; text = back_text; jaxn = back_jaxn; json = back_json }
 
 -- ---- filed_before: the text in the old form of a meaning within the limits is accepted, with that meaning
 
 pub filed_before : FiledBefore
 filed_before = record {
-  means = λ {m} g l. filed-derived m g l;
-  held = λ {m} g l h k p. (accepted p).then m (record { means = filed-derived m g l; tape-room = h; store-room = k });
-  same = λ {m} g l h p q. back-text (filed-derived m g l) h p q;
+  means = λ {m} g l. filed_derived m g l;
+  held = λ {m} g l h k p. (accepted p).then m (record { means = filed_derived m g l; tape_room = h; store_room = k });
+  same = λ {m} g l h p q. back_text (filed_derived m g l) h p q;
 }

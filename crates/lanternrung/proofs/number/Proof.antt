@@ -97,8 +97,8 @@ returns-14 c = sym (ap number_of c.enum-told14.given.1)
 returns-15 : tie.Need-returns-15
 returns-15 c = sym (ap number_of c.enum-told15.given.1)
 
-pub number-spec : {M : Type 1} → statement M
-number-spec =
+pub number_spec : {M : Type 1} → statement M
+number_spec =
     tie.close
     (tie.spec
     enum_told

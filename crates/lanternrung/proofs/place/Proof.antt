@@ -97,8 +97,8 @@ returns-14 c = sym (ap place_of c.before.why13.given.1)
 returns-15 : tie.Need-returns-15
 returns-15 c = sym (ap place_of c.before.why14.given.1)
 
-pub place-spec : {M : Type 1} → statement M
-place-spec =
+pub place_spec : {M : Type 1} → statement M
+place_spec =
     tie.close
     (tie.spec
     enum_told

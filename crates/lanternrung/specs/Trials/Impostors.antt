@@ -11,15 +11,15 @@ use Rattle.meaning.specs.Canonical.{canonical}
 use Rattle.meaning.specs.Filed.{filed}
 use Rattle.meaning.specs.Good.{Bytes}
 use Rattle.meaning.specs.Letters.{letters}
-use Rattle.meaning.specs.Look.{wholeRecords}
+use Rattle.meaning.specs.Look.{whole_records}
 use Rattle.meaning.specs.Meaning.{Meaning, Members, null, object, bare, member}
-use Rattle.meaning.specs.Tape.{records, membersRecords, bytes, recordsBytes, tapeOf, store_of}
+use Rattle.meaning.specs.Tape.{records, members_records, bytes, records_bytes, tape_of, store_of}
 use Rattle.grammar.specs.Values.{Loose, Text}
-use Rattle.grammar.specs.Refused.{Text-refused}
+use Rattle.grammar.specs.Refused.{TextRefused}
 use Rattle.tape.specs.declared.Looked.{Looked}
 use Rattle.tape.specs.Looking.{Looks}
 use Rattle.reader.specs.declared.Answer.{Answer}
-use Rattle.reader.specs.Answers.{tapeBytes, Measures, Loosely, Reads}
+use Rattle.reader.specs.Answers.{tape_bytes, Measures, Loosely, Reads}
 use Rattle.arriving.specs.Between.Arriving.{joined}
 use Rattle.writer.specs.declared.Written.{Written}
 use Rattle.writer.specs.Written.{WritesJaxn, WritesJson}
@@ -97,8 +97,8 @@ WritesOnly t f = (tape store out : List ℕ) (n : ℕ) → (f tape store out).0 
     ++ drop (length t) out
 
 -- `[null]` as it was taped before there were counts
-abbrev pub olderTape : List ℕ
-olderTape = recordsBytes (Record.Array 0 2 ∷ Record.Null ∷ [])
+abbrev pub older_tape : List ℕ
+older_tape = records_bytes (Record.Array 0 2 ∷ Record.Null ∷ [])
 
 -- `{"a":null,"a":null}`, which no text means
 abbrev pub twice : Meaning
@@ -107,93 +107,93 @@ twice = object (member (member bare (letters "a") null) (letters "a") null)
 -- prints the canonical text of its tape, where there is room
 abbrev pub PrintsTwice : Writer → Type 0
 PrintsTwice f = (out : List ℕ) → length (canonical twice) ≤ length out
-    → Prints (canonical twice) out (f (tapeOf twice) (store_of twice) out).0 (f (tapeOf twice) (store_of twice) out).1
+    → Prints (canonical twice) out (f (tape_of twice) (store_of twice) out).0 (f (tape_of twice) (store_of twice) out).1
 
 -- prints a meaning's text in the old form, where there is room
 abbrev pub Files : Writer → Type 0
 Files f = (m : Meaning) (out : List ℕ) → length (filed m) ≤ length out
-    → Prints (filed m) out (f (tapeOf m) (store_of m) out).0 (f (tapeOf m) (store_of m) out).1
+    → Prints (filed m) out (f (tape_of m) (store_of m) out).0 (f (tape_of m) (store_of m) out).1
 
 pub record Impostors : Type 0 where
   -- a reader that refuses everything, for whatever reason
-  pub refuses-all : (f : Reader) → ((text tape store : List ℕ) → (why : Refusal)
+  pub refuses_all : (f : Reader) → ((text tape store : List ℕ) → (why : Refusal)
       × ((f text tape store).0 ≡ Answer.Refused why)) → KeepsRead f → ⊥
   -- one that answers `null` for all that it accepts
-  pub null-for-all : (f : Reader)
+  pub null_for_all : (f : Reader)
       → ((text tape store : List ℕ) (m : Meaning) → Takes text tape store m
       → Holds null tape store (f text tape store).0 (f text tape store).1 (f text tape store).2) → KeepsRead f
       → ⊥
   -- one that touches no buffer; one that leaves the tape, or the store, as it was
-  pub touches-nothing : (f : Reader) → ((text tape store : List ℕ) → ((f text tape store).1 ≡ tape)
+  pub touches_nothing : (f : Reader) → ((text tape store : List ℕ) → ((f text tape store).1 ≡ tape)
       × ((f text tape store).2 ≡ store)) → KeepsRead f → ⊥
-  pub leaves-tape : (f : Reader) → ((text tape store : List ℕ) → (f text tape store).1 ≡ tape) → KeepsRead f → ⊥
-  pub leaves-store : (f : Reader) → ((text tape store : List ℕ) → (f text tape store).2 ≡ store) → KeepsRead f → ⊥
+  pub leaves_tape : (f : Reader) → ((text tape store : List ℕ) → (f text tape store).1 ≡ tape) → KeepsRead f → ⊥
+  pub leaves_store : (f : Reader) → ((text tape store : List ℕ) → (f text tape store).2 ≡ store) → KeepsRead f → ⊥
   -- one that leaves 0 in the place of every count; one that counts an object by its records
-  pub leaves-counts : (f : Reader) → ((text tape store : List ℕ) → get_or (f text tape store).1 4 0 ≡ 0) → KeepsRead f
+  pub leaves_counts : (f : Reader) → ((text tape store : List ℕ) → get_or (f text tape store).1 4 0 ≡ 0) → KeepsRead f
       → ⊥
-  pub counts-records : (f : Reader)
+  pub counts_records : (f : Reader)
       → ((text tape store : List ℕ) (ms : Members) → Takes text tape store (object ms)
-      → get_or (f text tape store).1 4 0 ≡ membersRecords ms) → KeepsRead f → ⊥
+      → get_or (f text tape store).1 4 0 ≡ members_records ms) → KeepsRead f → ⊥
   -- a writer that takes a tape from before there were counts
-  pub older-jaxn : (f : Writer) → ((out : List ℕ) → Wrote (f olderTape [] out).0) → KeepsJaxn f → ⊥
-  pub older-json : (f : Writer) → ((out : List ℕ) → Wrote (f olderTape [] out).0) → KeepsJson f → ⊥
+  pub older_jaxn : (f : Writer) → ((out : List ℕ) → Wrote (f older_tape [] out).0) → KeepsJaxn f → ⊥
+  pub older_json : (f : Writer) → ((out : List ℕ) → Wrote (f older_tape [] out).0) → KeepsJson f → ⊥
   -- a writer that prints an object with two equal keys
-  pub repeated-jaxn : (f : Writer) → PrintsTwice f → KeepsJaxn f → ⊥
-  pub repeated-json : (f : Writer) → PrintsTwice f → KeepsJson f → ⊥
+  pub repeated_jaxn : (f : Writer) → PrintsTwice f → KeepsJaxn f → ⊥
+  pub repeated_json : (f : Writer) → PrintsTwice f → KeepsJson f → ⊥
   -- a writer that goes on in the old form; a reader that takes no text in the old form but where the new one is the
   -- same
-  pub files-jaxn : (f : Writer) → Files f → KeepsJaxn f → ⊥
-  pub files-json : (f : Writer) → Files f → KeepsJson f → ⊥
-  pub refuses-filed : (f : Reader)
+  pub files_jaxn : (f : Writer) → Files f → KeepsJaxn f → ⊥
+  pub files_json : (f : Writer) → Files f → KeepsJson f → ⊥
+  pub refuses_filed : (f : Reader)
       → ((m : Meaning) (tape store : List ℕ) → (filed m ≡ canonical m → ⊥) → (why : Refusal)
       × ((f (filed m) tape store).0 ≡ Answer.Refused why)) → KeepsRead f → ⊥
   -- a writer that always prints one text, or refuses
-  pub one-text-jaxn : (f : Writer) (t : List ℕ) → WritesOnly t f → KeepsJaxn f → ⊥
-  pub one-text-json : (f : Writer) (t : List ℕ) → WritesOnly t f → KeepsJson f → ⊥
+  pub one_text_jaxn : (f : Writer) (t : List ℕ) → WritesOnly t f → KeepsJaxn f → ⊥
+  pub one_text_json : (f : Writer) (t : List ℕ) → WritesOnly t f → KeepsJson f → ⊥
   -- one that remembers the text that its tape was read from, and prints that
   pub copies : (f : List ℕ → Writer)
       → ((text : List ℕ) (m : Meaning) (out : List ℕ) → Text text m → length text ≤ length out
-      → Prints text out (f text (tapeOf m) (store_of m) out).0 (f text (tapeOf m) (store_of m) out).1)
+      → Prints text out (f text (tape_of m) (store_of m) out).0 (f text (tape_of m) (store_of m) out).1)
       → ((text : List ℕ) → KeepsJaxn (f text)) → ⊥
   -- a measure that invents its counts: for one text; the same for all; some for all
   pub invents : (f : Measurer) {text : List ℕ} {m : Meaning} → Text text m
       → (f text ≡ Answer.Counts (records m) (bytes m) → ⊥) → KeepsMeasure f → ⊥
-  pub one-count : (f : Measurer) (r s : ℕ) → ((text : List ℕ) → Counted (f text) → f text ≡ Answer.Counts r s)
+  pub one_count : (f : Measurer) (r s : ℕ) → ((text : List ℕ) → Counted (f text) → f text ≡ Answer.Counts r s)
       → KeepsMeasure f → ⊥
   pub counts_all : (f : Measurer) → ((text : List ℕ) → Counted (f text)) → KeepsMeasure f → ⊥
   -- a measure, and a reader, that refuses some text with another number or at another place than the grammar
-  pub misplaces : (f : Measurer) {text : List ℕ} {why : Refusal} → Lent text → Text-refused text why
+  pub misplaces : (f : Measurer) {text : List ℕ} {why : Refusal} → Lent text → TextRefused text why
       → (f text ≡ Answer.Refused why → ⊥) → KeepsMeasure f → ⊥
-  pub misplaces-reading : (f : Reader) {text : List ℕ} {why : Refusal} → Lent text → Text-refused text why
+  pub misplaces_reading : (f : Reader) {text : List ℕ} {why : Refusal} → Lent text → TextRefused text why
       → ((f text [] []).0 ≡ Answer.Refused why → ⊥) → KeepsRead f → ⊥
   -- a measure that answers 15 at an earlier place, as that of the key which is repeated; a measure, and a reader, that
   -- takes a text with repeated keys
-  pub earlier-key : (f : Measurer)
-      → ((text : List ℕ) (p : ℕ) → Text-refused text (Refusal.RepeatedKey p)
+  pub earlier_key : (f : Measurer)
+      → ((text : List ℕ) (p : ℕ) → TextRefused text (Refusal.RepeatedKey p)
       → (q : ℕ) × (q < p) × (f text ≡ Answer.Refused (Refusal.RepeatedKey q))) → KeepsMeasure f → ⊥
-  pub measures-repeated : (f : Measurer) → ((text : List ℕ) (m : Meaning) → Loose true text m → Counted (f text))
+  pub measures_repeated : (f : Measurer) → ((text : List ℕ) (m : Meaning) → Loose true text m → Counted (f text))
       → KeepsMeasure f → ⊥
-  pub reads-repeated : (f : Reader)
-      → ((text tape store : List ℕ) (m : Meaning) → Loose true text m → tapeBytes m ≤ length tape
+  pub reads_repeated : (f : Reader)
+      → ((text tape store : List ℕ) (m : Meaning) → Loose true text m → tape_bytes m ≤ length tape
       → bytes m ≤ length store → Counted (f text tape store).0) → KeepsRead f → ⊥
   -- a check that answers 15
-  pub checks-keys : (f : Checker)
-      → ((ps : List (List ℕ)) (p : ℕ) → Text-refused (joined ps) (Refusal.RepeatedKey p)
+  pub checks_keys : (f : Checker)
+      → ((ps : List (List ℕ)) (p : ℕ) → TextRefused (joined ps) (Refusal.RepeatedKey p)
       → answers f ps ≡ Answer.Refused (Refusal.RepeatedKey p)) → KeepsCheck f → ⊥
   -- a check that answers the same whatever parts come; one that forgets all but the last part; one that takes the first
   -- part only
   pub one_answer : (f : Checker) (a : Answer) → ((ps : List (List ℕ)) → answers f ps ≡ a) → KeepsCheck f → ⊥
   pub forgets : (f : Checker) → ((s p : List ℕ) → f.feed s p ≡ f.feed f.start p) → KeepsCheck f → ⊥
-  pub first-only : (f : Checker) → ((s p q : List ℕ) → f.feed (f.feed s p) q ≡ f.feed s p) → KeepsCheck f → ⊥
+  pub first_only : (f : Checker) → ((s p q : List ℕ) → f.feed (f.feed s p) q ≡ f.feed s p) → KeepsCheck f → ⊥
   -- a look that answers `null` for all, or refuses all
-  pub looks-null : (f : Looker) → ((tape store : List ℕ) (index : ℕ) → index < wholeRecords tape → f tape store index
+  pub looks_null : (f : Looker) → ((tape store : List ℕ) (index : ℕ) → index < whole_records tape → f tape store index
       ≡ Looked.Record Record.Null) → KeepsLook f → ⊥
-  pub looks-nowhere : (f : Looker) → ((tape store : List ℕ) (index : ℕ) → (why : Refusal)
+  pub looks_nowhere : (f : Looker) → ((tape store : List ℕ) (index : ℕ) → (why : Refusal)
       × (f tape store index ≡ Looked.Refused why)) → KeepsLook f → ⊥
   -- a test of UTF-8 that passes all, or refuses all
-  pub all-utf8 : (f : List ℕ → Utf8Answer) → ((s : List ℕ) → f s ≡ Utf8Answer.Done) → KeepsUtf8 f → ⊥
-  pub no-utf8 : (f : List ℕ → Utf8Answer) → ((s : List ℕ) → (k : ℕ) × (f s ≡ Utf8Answer.IllFormed k)) → KeepsUtf8 f → ⊥
+  pub all_utf8 : (f : List ℕ → Utf8Answer) → ((s : List ℕ) → f s ≡ Utf8Answer.Done) → KeepsUtf8 f → ⊥
+  pub no_utf8 : (f : List ℕ → Utf8Answer) → ((s : List ℕ) → (k : ℕ) × (f s ≡ Utf8Answer.IllFormed k)) → KeepsUtf8 f → ⊥
   -- a calendar in which every month has 31 days, or that refuses all
-  pub long-months : (f : Calendar) → ((y m d : ℕ) → y ≤ 9999 → 1 ≤ m → m ≤ 12 → 1 ≤ d → d ≤ 31 → f y m d
+  pub long_months : (f : Calendar) → ((y m d : ℕ) → y ≤ 9999 → 1 ≤ m → m ≤ 12 → 1 ≤ d → d ≤ 31 → f y m d
       ≡ DateAnswer.Done) → KeepsDate f → ⊥
-  pub no-date : (f : Calendar) → ((y m d : ℕ) → f y m d ≡ DateAnswer.NoDate) → KeepsDate f → ⊥
+  pub no_date_lem : (f : Calendar) → ((y m d : ℕ) → f y m d ≡ DateAnswer.NoDate) → KeepsDate f → ⊥

@@ -4,7 +4,7 @@ use Rattle.std.specs.Prelude.{◌≡◌, true, false, List, [], ◌∷◌, ◌++
 use Rattle.rules.specs.Rfc3629.{encode}
 use Rattle.meaning.specs.declared.Number.TheVariants.{Finite}
 use Rattle.meaning.specs.declared.Time.TheVariants.{LocalDate, LocalTime}
-use Rattle.meaning.specs.Clock.{timeOfDay}
+use Rattle.meaning.specs.Clock.{time_of_day}
 use Rattle.meaning.specs.Letters.{letters}
 use Rattle.meaning.specs.Meaning.{Meaning, number, string, binary, time, array, none, more}
 use Rattle.meaning.specs.Paper.{number_of, place_of}
@@ -12,7 +12,7 @@ use Rattle.meaning.specs.Tape.{records, bytes}
 use Rattle.meaning.specs.Canonical.{canonical}
 use Rattle.grammar.specs.Values.{Text}
 use Rattle.reader.specs.declared.Answer.{Answer}
-use Rattle.reader.specs.Answers.{tapeBytes, Measures, Reads}
+use Rattle.reader.specs.Answers.{tape_bytes, Measures, Reads}
 
 pub data Outcome : Type 0 where
   -- taken, with this meaning and this canonical text
@@ -64,8 +64,8 @@ samples =
 -- ---- the slips to rule out that are a text read amiss
 
 -- a time of day of twelve hours and this many nanoseconds
-abbrev pub noonAnd : ℕ → Meaning
-noonAnd nanoseconds = time (LocalTime (timeOfDay 12 0 0 nanoseconds))
+abbrev pub noon_and : ℕ → Meaning
+noon_and nanoseconds = time (LocalTime (time_of_day 12 0 0 nanoseconds))
 
 abbrev pub slips : List (List ℕ × Outcome)
 slips =
@@ -74,7 +74,7 @@ slips =
     -- surrogates are not joined across a plus
     ∷ (letters "\"\\ud834\"+\"\\udd1e\"", refused 4 1)
     -- a tenth fraction digit is cut off
-    ∷ (letters "12:00:00.9999999999", taken (noonAnd 999999999) (letters "12:00:00.999999999"))
+    ∷ (letters "12:00:00.9999999999", taken (noon_and 999999999) (letters "12:00:00.999999999"))
     -- one meaning, one text
     ∷ (letters "1e5", taken (number (Finite false 1 (pos 5))) (letters "100000"))
     ∷ (letters "100000", taken (number (Finite false 1 (pos 5))) (letters "100000"))
@@ -97,7 +97,7 @@ pub record IsTaken (text : List ℕ) (m : Meaning) (printed : List ℕ) : Type 0
   pub only : (n : Meaning) → Text text n → n ≡ m
   pub prints : canonical m ≡ printed
   pub measured : (a : Answer) → Measures text a → a ≡ Answer.Counts (records m) (bytes m)
-  pub read : (tape store : List ℕ) (a : Answer) (tape' store' : List ℕ) → tapeBytes m ≤ length tape
+  pub read : (tape store : List ℕ) (a : Answer) (tape' store' : List ℕ) → tape_bytes m ≤ length tape
       → bytes m ≤ length store → Reads text tape store a tape' store' → a ≡ Answer.Counts (records m) (bytes m)
 
 -- a refusal with the number n, at the place p

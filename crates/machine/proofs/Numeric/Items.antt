@@ -9,13 +9,13 @@ use Rattle.meaning.specs.declared.Time.TheVariants.{LocalDate}
 use Rattle.meaning.specs.Letters.{letters}
 use Rattle.meaning.specs.Meaning.{Meaning}
 use Rattle.grammar.specs.Numbers.{Number}
-use Rattle.grammar.specs.Times.{Local-date, Time-value}
+use Rattle.grammar.specs.Times.{LocalDate, TimeValue}
 
 pub data NumericItem (k : Bool) : List ℕ → Meaning → Type 0 where
   number : {a : List ℕ} {n : N.Number} → Number k a n → NumericItem k a (Meaning.number n)
-  time-value : {a : List ℕ} {t : T.Time} → Time-value k a t → NumericItem k a (Meaning.time t)
+  time_value : {a : List ℕ} {t : T.Time} → TimeValue k a t → NumericItem k a (Meaning.time t)
 
 pub data Taken (k : Bool) : List ℕ → Meaning → Type 0 where
   item : {a : List ℕ} {m : Meaning} → NumericItem k a m → Taken k a m
   -- a date, and a space after it that no digit follows
-  trailed : {a : List ℕ} {d : D.Date} → Local-date k a d → Taken k (a ++ letters " ") (Meaning.time (LocalDate d))
+  trailed : {a : List ℕ} {d : D.Date} → LocalDate k a d → Taken k (a ++ letters " ") (Meaning.time (LocalDate d))

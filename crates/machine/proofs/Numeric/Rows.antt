@@ -49,32 +49,32 @@ module _ {A : Type 0} where
 
 -- ---- what a byte is, by its class
 
-abbrev pub Decimal-digit : ℕ → Type 0
-Decimal-digit b = In (ch "0") (ch "9") b
+abbrev pub DecimalDigit : ℕ → Type 0
+DecimalDigit b = In (ch "0") (ch "9") b
 
 pub data NumIs : ℕ → S.Num → Type 0 where
-  digit : {b : ℕ} → Decimal-digit b → NumIs b S.digitN
-  point : NumIs (ch ".") S.pointN
-  eIs : {b : ℕ} → E b → NumIs b S.eN
-  xIs : {b : ℕ} → X b → NumIs b S.xN
-  colon : NumIs (ch ":") S.colonN
-  minus : NumIs (ch "-") S.minusN
-  other : {b : ℕ} → NumIs b S.otherN
+  digit : {b : ℕ} → DecimalDigit b → NumIs b S.digit_n
+  point : NumIs (ch ".") S.point_n
+  e_is : {b : ℕ} → E b → NumIs b S.e_n
+  x_is : {b : ℕ} → X b → NumIs b S.x_n
+  colon : NumIs (ch ":") S.colon_n
+  minus : NumIs (ch "-") S.minus_n
+  other : {b : ℕ} → NumIs b S.other_n
 
-pub num-class : (b : ℕ) → NumIs b (S.num_of b)
-num-class b =
-    pick_is NumIs S.numTable S.otherN b (
+pub num_class : (b : ℕ) → NumIs b (S.num_of b)
+num_class b =
+    pick_is NumIs S.num_table S.other_n b (
       (λ i. NumIs.digit i),
       (
         (λ i. let e : b ≡ ch "." = omega arith in rw e NumIs.point),
         (
-          (λ i. let e : b ≡ ch "e" = omega arith in rw e (NumIs.eIs E.small)),
+          (λ i. let e : b ≡ ch "e" = omega arith in rw e (NumIs.e_is E.small)),
           (
-            (λ i. let e : b ≡ ch "E" = omega arith in rw e (NumIs.eIs E.capital)),
+            (λ i. let e : b ≡ ch "E" = omega arith in rw e (NumIs.e_is E.capital)),
             (
-              (λ i. let e : b ≡ ch "x" = omega arith in rw e (NumIs.xIs X.small)),
+              (λ i. let e : b ≡ ch "x" = omega arith in rw e (NumIs.x_is X.small)),
               (
-                (λ i. let e : b ≡ ch "X" = omega arith in rw e (NumIs.xIs X.capital)),
+                (λ i. let e : b ≡ ch "X" = omega arith in rw e (NumIs.x_is X.capital)),
                 (
                   (λ i. let e : b ≡ ch ":" = omega arith in rw e NumIs.colon),
                   (
@@ -90,21 +90,21 @@ num-class b =
     )
 
 pub data DgIs : ℕ → S.Dg → Type 0 where
-  digit : {b : ℕ} → Decimal-digit b → DgIs b S.digit
+  digit : {b : ℕ} → DecimalDigit b → DgIs b S.digit
   other : {b : ℕ} → DgIs b S.other
 
-pub dg-class : (b : ℕ) → DgIs b (S.dgOf b)
-dg-class b = pick_is DgIs S.dgTable S.other b ((λ i. DgIs.digit i), DgIs.other)
+pub dg_class : (b : ℕ) → DgIs b (S.dg_of b)
+dg_class b = pick_is DgIs S.dg_table S.other b ((λ i. DgIs.digit i), DgIs.other)
 
 pub data ExpIs : ℕ → S.ExpB → Type 0 where
-  digit : {b : ℕ} → Decimal-digit b → ExpIs b S.digitE
-  plus : ExpIs (ch "+") S.plusE
-  minus : ExpIs (ch "-") S.minusE
-  other : {b : ℕ} → ExpIs b S.otherE
+  digit : {b : ℕ} → DecimalDigit b → ExpIs b S.digit_e
+  plus : ExpIs (ch "+") S.plus_e
+  minus : ExpIs (ch "-") S.minus_e
+  other : {b : ℕ} → ExpIs b S.other_e
 
-pub exp-class : (b : ℕ) → ExpIs b (S.expOf b)
-exp-class b =
-    pick_is ExpIs S.expTable S.otherE b (
+pub exp_class : (b : ℕ) → ExpIs b (S.exp_of b)
+exp_class b =
+    pick_is ExpIs S.exp_table S.other_e b (
       (λ i. ExpIs.digit i),
       (
         (λ i. let e : b ≡ ch "+" = omega arith in rw e ExpIs.plus),
@@ -116,18 +116,18 @@ exp-class b =
     )
 
 pub data FstIs : ℕ → S.Fst → Type 0 where
-  digit : {b : ℕ} → In (ch "1") (ch "9") b → FstIs b S.digitF
-  nought : FstIs (ch "0") S.noughtF
-  plus : FstIs (ch "+") S.plusF
-  minus : FstIs (ch "-") S.minusF
-  point : FstIs (ch ".") S.pointF
-  nIs : FstIs (ch "N") S.nF
-  iIs : FstIs (ch "I") S.iF
-  other : {b : ℕ} → FstIs b S.otherF
+  digit : {b : ℕ} → In (ch "1") (ch "9") b → FstIs b S.digit_f
+  nought : FstIs (ch "0") S.nought_f
+  plus : FstIs (ch "+") S.plus_f
+  minus : FstIs (ch "-") S.minus_f
+  point : FstIs (ch ".") S.point_f
+  n_is : FstIs (ch "N") S.n_f
+  i_is : FstIs (ch "I") S.i_f
+  other : {b : ℕ} → FstIs b S.other_f
 
-pub fst-class : (b : ℕ) → FstIs b (S.fst_of b)
-fst-class b =
-    pick_is FstIs S.fstTable S.otherF b (
+pub fst_class : (b : ℕ) → FstIs b (S.fst_of b)
+fst_class b =
+    pick_is FstIs S.fst_table S.other_f b (
       (λ i. FstIs.digit i),
       (
         (λ i. let e : b ≡ ch "0" = omega arith in rw e FstIs.nought),
@@ -138,9 +138,9 @@ fst-class b =
             (
               (λ i. let e : b ≡ ch "." = omega arith in rw e FstIs.point),
               (
-                (λ i. let e : b ≡ ch "N" = omega arith in rw e FstIs.nIs),
+                (λ i. let e : b ≡ ch "N" = omega arith in rw e FstIs.n_is),
                 (
-                  (λ i. let e : b ≡ ch "I" = omega arith in rw e FstIs.iIs),
+                  (λ i. let e : b ≡ ch "I" = omega arith in rw e FstIs.i_is),
                   FstIs.other,
                 ),
               ),
@@ -152,25 +152,25 @@ fst-class b =
 
 pub data HexIs : ℕ → S.HexB → Type 0 where
   value : {b d : ℕ} → Hexdig b d → HexIs b (S.value d)
-  other : {b : ℕ} → HexIs b S.noHex
+  other : {b : ℕ} → HexIs b S.no_hex
 
-pub hex-class : (b : ℕ) → HexIs b (S.hexOf b)
-hex-class b = pick_is HexIs (S.hexTable b) S.noHex b (
+pub hex_class : (b : ℕ) → HexIs b (S.hex_of b)
+hex_class b = pick_is HexIs (S.hex_table b) S.no_hex b (
   (λ i. HexIs.value (Hexdig.decimal i)),
   ((λ i. HexIs.value (Hexdig.upper i)), ((λ i. HexIs.value (Hexdig.lower i)), HexIs.other)),
 )
 
 pub data DayIs : ℕ → S.Day → Type 0 where
-  letter : {b : ℕ} → Separator b → DayIs b S.letterD
-  space : DayIs (ch " ") S.spaceD
-  other : {b : ℕ} → DayIs b S.otherD
+  letter : {b : ℕ} → Separator b → DayIs b S.letter_d
+  space : DayIs (ch " ") S.space_d
+  other : {b : ℕ} → DayIs b S.other_d
 
-pub day-class : (b : ℕ) → DayIs b (S.dayOf b)
-day-class b =
-    pick_is DayIs S.dayTable S.otherD b (
+pub day_class : (b : ℕ) → DayIs b (S.day_of b)
+day_class b =
+    pick_is DayIs S.day_table S.other_d b (
       (λ i. let e : b ≡ ch "T" = omega arith in rw e (DayIs.letter Separator.letter)),
       (
-        (λ i. let e : b ≡ ch "t" = omega arith in rw e (DayIs.letter Separator.small-letter)),
+        (λ i. let e : b ≡ ch "t" = omega arith in rw e (DayIs.letter Separator.small_letter)),
         (
           (λ i. let e : b ≡ ch " " = omega arith in rw e DayIs.space),
           DayIs.other,
@@ -179,23 +179,23 @@ day-class b =
     )
 
 pub data SecIs : ℕ → S.Sec → Type 0 where
-  digit : {b : ℕ} → Decimal-digit b → SecIs b S.digitS
-  point : SecIs (ch ".") S.pointS
-  zIs : {b : ℕ} → Zulu b → SecIs b S.zuluS
-  plus : SecIs (ch "+") S.plusS
-  minus : SecIs (ch "-") S.minusS
-  other : {b : ℕ} → SecIs b S.otherS
+  digit : {b : ℕ} → DecimalDigit b → SecIs b S.digit_s
+  point : SecIs (ch ".") S.point_s
+  z_is : {b : ℕ} → Zulu b → SecIs b S.zulu_s
+  plus : SecIs (ch "+") S.plus_s
+  minus : SecIs (ch "-") S.minus_s
+  other : {b : ℕ} → SecIs b S.other_s
 
-pub sec-class : (b : ℕ) → SecIs b (S.secOf b)
-sec-class b =
-    pick_is SecIs S.secTable S.otherS b (
+pub sec_class : (b : ℕ) → SecIs b (S.sec_of b)
+sec_class b =
+    pick_is SecIs S.sec_table S.other_s b (
       (λ i. SecIs.digit i),
       (
         (λ i. let e : b ≡ ch "." = omega arith in rw e SecIs.point),
         (
-          (λ i. let e : b ≡ ch "Z" = omega arith in rw e (SecIs.zIs Zulu.letter)),
+          (λ i. let e : b ≡ ch "Z" = omega arith in rw e (SecIs.z_is Zulu.letter)),
           (
-            (λ i. let e : b ≡ ch "z" = omega arith in rw e (SecIs.zIs Zulu.small-letter)),
+            (λ i. let e : b ≡ ch "z" = omega arith in rw e (SecIs.z_is Zulu.small_letter)),
             (
               (λ i. let e : b ≡ ch "+" = omega arith in rw e SecIs.plus),
               (
@@ -210,49 +210,49 @@ sec-class b =
 
 -- ---- the class that a byte has
 
-pub num-digit : (b : ℕ) → Decimal-digit b → S.num_of b ≡ S.digitN
-num-digit b i = found S.numTable S.otherN b S.digitN (inl (i, refl))
+pub num_digit : (b : ℕ) → DecimalDigit b → S.num_of b ≡ S.digit_n
+num_digit b i = found S.num_table S.other_n b S.digit_n (inl (i, refl))
 
-pub dg-digit : (b : ℕ) → Decimal-digit b → S.dgOf b ≡ S.digit
-dg-digit b i = found S.dgTable S.other b S.digit (inl (i, refl))
+pub dg_digit : (b : ℕ) → DecimalDigit b → S.dg_of b ≡ S.digit
+dg_digit b i = found S.dg_table S.other b S.digit (inl (i, refl))
 
-pub exp-digit : (b : ℕ) → Decimal-digit b → S.expOf b ≡ S.digitE
-exp-digit b i = found S.expTable S.otherE b S.digitE (inl (i, refl))
+pub exp_digit : (b : ℕ) → DecimalDigit b → S.exp_of b ≡ S.digit_e
+exp_digit b i = found S.exp_table S.other_e b S.digit_e (inl (i, refl))
 
-pub fst-digit : (b : ℕ) → In (ch "1") (ch "9") b → S.fst_of b ≡ S.digitF
-fst-digit b i = found S.fstTable S.otherF b S.digitF (inl (i, refl))
+pub fst_digit : (b : ℕ) → In (ch "1") (ch "9") b → S.fst_of b ≡ S.digit_f
+fst_digit b i = found S.fst_table S.other_f b S.digit_f (inl (i, refl))
 
-pub sec-digit : (b : ℕ) → Decimal-digit b → S.secOf b ≡ S.digitS
-sec-digit b i = found S.secTable S.otherS b S.digitS (inl (i, refl))
+pub sec_digit : (b : ℕ) → DecimalDigit b → S.sec_of b ≡ S.digit_s
+sec_digit b i = found S.sec_table S.other_s b S.digit_s (inl (i, refl))
 
-pub hex-is : {b d : ℕ} → Hexdig b d → S.hexOf b ≡ S.value d
-hex-is {b} (Hexdig.decimal i) = found (S.hexTable b) S.noHex b _ (inl (i, refl))
-hex-is {b} (Hexdig.upper i) = found (S.hexTable b) S.noHex b _ (inr ((λ j. omega arith), inl (i, refl)))
-hex-is {b} (Hexdig.lower i) = found (S.hexTable b) S.noHex b _ (inr ((λ j. omega arith), inr ((λ j. omega arith), inl (i, refl))))
+pub hex_is : {b d : ℕ} → Hexdig b d → S.hex_of b ≡ S.value d
+hex_is {b} (Hexdig.decimal i) = found (S.hex_table b) S.no_hex b _ (inl (i, refl))
+hex_is {b} (Hexdig.upper i) = found (S.hex_table b) S.no_hex b _ (inr ((λ j. omega arith), inl (i, refl)))
+hex_is {b} (Hexdig.lower i) = found (S.hex_table b) S.no_hex b _ (inr ((λ j. omega arith), inr ((λ j. omega arith), inl (i, refl))))
 
-pub zulu-is : {b : ℕ} → Zulu b → S.secOf b ≡ S.zuluS
-zulu-is Zulu.letter = refl
-zulu-is Zulu.small-letter = refl
+pub zulu_is : {b : ℕ} → Zulu b → S.sec_of b ≡ S.zulu_s
+zulu_is Zulu.letter = refl
+zulu_is Zulu.small_letter = refl
 
-pub dg-none : {b : ℕ} → NoDigit b → S.dgOf b ≡ S.other
-dg-none {b} (NoDigit.under l) = found S.dgTable S.other b S.other (inr ((λ i. omega arith), refl))
-dg-none {b} (NoDigit.past l) = found S.dgTable S.other b S.other (inr ((λ i. omega arith), refl))
+pub dg_none : {b : ℕ} → NoDigit b → S.dg_of b ≡ S.other
+dg_none {b} (NoDigit.under l) = found S.dg_table S.other b S.other (inr ((λ i. omega arith), refl))
+dg_none {b} (NoDigit.past l) = found S.dg_table S.other b S.other (inr ((λ i. omega arith), refl))
 
 -- the classes of a byte that ends an item
 pub record Ending (b : ℕ) : Type 0 where
-  pub no-num : S.num_of b ≡ S.otherN
-  pub no-dg : S.dgOf b ≡ S.other
-  pub no-hex : S.hexOf b ≡ S.noHex
-  pub no-sec : S.secOf b ≡ S.otherS
+  pub no_num : S.num_of b ≡ S.other_n
+  pub no_dg : S.dg_of b ≡ S.other
+  pub no_hex_lem : S.hex_of b ≡ S.no_hex
+  pub no_sec : S.sec_of b ≡ S.other_s
 
 pub ending : {b : ℕ} → EndsItem b → Ending b
-ending (EndsItem.blank Blank.space) = record { no-num = refl; no-dg = refl; no-hex = refl; no-sec = refl }
-ending (EndsItem.blank Blank.tab) = record { no-num = refl; no-dg = refl; no-hex = refl; no-sec = refl }
-ending (EndsItem.blank Blank.line-feed) = record { no-num = refl; no-dg = refl; no-hex = refl; no-sec = refl }
-ending (EndsItem.blank Blank.carriage-return) = record { no-num = refl; no-dg = refl; no-hex = refl; no-sec = refl }
-ending EndsItem.hash = record { no-num = refl; no-dg = refl; no-hex = refl; no-sec = refl }
-ending EndsItem.slash = record { no-num = refl; no-dg = refl; no-hex = refl; no-sec = refl }
-ending EndsItem.comma = record { no-num = refl; no-dg = refl; no-hex = refl; no-sec = refl }
-ending EndsItem.bracket = record { no-num = refl; no-dg = refl; no-hex = refl; no-sec = refl }
-ending EndsItem.brace = record { no-num = refl; no-dg = refl; no-hex = refl; no-sec = refl }
-ending EndsItem.end = record { no-num = refl; no-dg = refl; no-hex = refl; no-sec = refl }
+ending (EndsItem.blank Blank.space) = record { no_num = refl; no_dg = refl; no_hex_lem = refl; no_sec = refl }
+ending (EndsItem.blank Blank.tab) = record { no_num = refl; no_dg = refl; no_hex_lem = refl; no_sec = refl }
+ending (EndsItem.blank Blank.line_feed) = record { no_num = refl; no_dg = refl; no_hex_lem = refl; no_sec = refl }
+ending (EndsItem.blank Blank.carriage_return) = record { no_num = refl; no_dg = refl; no_hex_lem = refl; no_sec = refl }
+ending EndsItem.hash = record { no_num = refl; no_dg = refl; no_hex_lem = refl; no_sec = refl }
+ending EndsItem.slash = record { no_num = refl; no_dg = refl; no_hex_lem = refl; no_sec = refl }
+ending EndsItem.comma = record { no_num = refl; no_dg = refl; no_hex_lem = refl; no_sec = refl }
+ending EndsItem.bracket = record { no_num = refl; no_dg = refl; no_hex_lem = refl; no_sec = refl }
+ending EndsItem.brace = record { no_num = refl; no_dg = refl; no_hex_lem = refl; no_sec = refl }
+ending EndsItem.end = record { no_num = refl; no_dg = refl; no_hex_lem = refl; no_sec = refl }

@@ -8,7 +8,7 @@ use lib.ListN.{length}
 use Rattle.meaning.specs.Letters.{letters}
 use Rattle.meaning.specs.Meaning.{Meaning}
 use Rattle.grammar.specs.Characters.{Many}
-use Rattle.grammar.specs.Comments.{c-char, Stars, C-begin-line}
+use Rattle.grammar.specs.Comments.{c_char, Stars, CBeginLine}
 use Rattle.grammar.specs.Strings.{String}
 use Rattle.grammar.specs.Binary.{Binary}
 use Rattle.grammar.specs.Values.{Value}
@@ -20,8 +20,8 @@ use Rattle.machine.specs.Numeric
 use Rattle.machine.specs.Strings
 use Rattle.machine.specs.Binaries
 use Rattle.machine.specs.Names
-use Rattle.machine.proofs.Runs.{adv, Steps, steps-join}
-use Rattle.machine.proofs.Layouts.{adv-join}
+use Rattle.machine.proofs.Runs.{adv, Steps, steps_join}
+use Rattle.machine.proofs.Layouts.{adv_join}
 use Rattle.machine.proofs.Refusals.Reason.{Reason}
 use Rattle.machine.proofs.Refusals.Bases
 
@@ -32,15 +32,15 @@ pub record Lined (k : List Frame) (d : ℕ) (s : Base) (l : List ℕ) : Type 0 w
   pub begin : List ℕ
   pub body : List ℕ
   pub stands : Bases.BaseAt k d s front
-  pub begins : C-begin-line begin
-  pub chars : Many (Bytewise.Byte c-char) body
+  pub begins : CBeginLine begin
+  pub chars : Many (Bytewise.Byte c_char) body
   pub split : l ≡ front ++ (begin ++ body)
 
 pub record Blocked (k : List Frame) (d : ℕ) (s : Base) (l : List ℕ) : Type 0 where
   pub front : List ℕ
   pub body : List ℕ
   pub stands : Bases.BaseAt k d s front
-  pub chars : Many Bytewise.Inner-byte body
+  pub chars : Many Bytewise.InnerByte body
   pub split : l ≡ front ++ (letters "/*" ++ body)
 
 pub record Starred (k : List Frame) (d : ℕ) (s : Base) (l : List ℕ) : Type 0 where
@@ -48,7 +48,7 @@ pub record Starred (k : List Frame) (d : ℕ) (s : Base) (l : List ℕ) : Type 0
   pub body : List ℕ
   pub stars : List ℕ
   pub stands : Bases.BaseAt k d s front
-  pub chars : Many Bytewise.Inner-byte body
+  pub chars : Many Bytewise.InnerByte body
   pub closing : Stars stars
   pub split : l ≡ front ++ (letters "/*" ++ (body ++ stars))
 
@@ -84,8 +84,8 @@ BinaryStart u k d l = (Bases.ValAt k d l × (u ≡ [])) ⊎ Bases.Plus (Bases.Va
 abbrev pub ItemAt : ℕ → List Frame → ℕ → Machine.Item → List ℕ → Type 0
 ItemAt p k d (Machine.word w m) l = Worded k d w m l
 ItemAt p k d (Machine.numeric s) l = Begun (Bases.ValAt k d) Numeric.scan Numeric.begin s p l
-ItemAt p k d (Machine.string-part z u s) l = Begun (PartStart z u k d) Strings.scan Strings.begin s p l
-ItemAt p k d (Machine.binary-part u s) l = Begun (BinaryStart u k d) Binaries.scan Binaries.begin s p l
+ItemAt p k d (Machine.string_part z u s) l = Begun (PartStart z u k d) Strings.scan Strings.begin s p l
+ItemAt p k d (Machine.binary_part u s) l = Begun (BinaryStart u k d) Binaries.scan Binaries.begin s p l
 ItemAt p k d (Machine.identifier s) l = Begun (Bases.KeyAt k d) Names.scan Names.begin s p l
 
 -- in the text t, where it fails: why
@@ -107,13 +107,13 @@ begun_more run {p = p} {b = b} {l = l} h e =
       front = h.front;
       body = h.body ++ (b ∷ []);
       starts = h.starts;
-      steps = steps-join run h.steps (Steps.eat Steps.stay (rw h.here e));
-      here = adv-join (length h.front) h.body (b ∷ []) ∙ ap suc h.here;
+      steps = steps_join run h.steps (Steps.eat Steps.stay (rw h.here e));
+      here = adv_join (length h.front) h.body (b ∷ []) ∙ ap suc h.here;
       split = rw h.split (append_assoc h.front h.body (b ∷ []));
     }
 
-pub begun-now : {S : List ℕ → Type 0} {X M : Type 0} (run : ℕ → X → ℕ → Out X M) (s₀ : X) {p : ℕ} (l : List ℕ) → S l → length l ≡ p → Begun S run s₀ s₀ p l
-begun-now run s₀ l h e = record { front = l; body = []; starts = h; steps = Steps.stay; here = e; split = sym (append-nil l) }
+pub begun_now : {S : List ℕ → Type 0} {X M : Type 0} (run : ℕ → X → ℕ → Out X M) (s₀ : X) {p : ℕ} (l : List ℕ) → S l → length l ≡ p → Begun S run s₀ s₀ p l
+begun_now run s₀ l h e = record { front = l; body = []; starts = h; steps = Steps.stay; here = e; split = sym (append-nil l) }
 
 -- the byte at which an item is asked, and the rest of the text from there: the text's end is one more byte
 pub data Next : ℕ → List ℕ → Type 0 where

@@ -11,32 +11,32 @@ use Rattle.meaning.specs.declared.Refusal.{Refusal}
 use Rattle.meaning.specs.Letters.{letters}
 use Rattle.meaning.specs.Meaning.{Meaning}
 use Rattle.grammar.specs.Numbers.{Number}
-use Rattle.grammar.specs.Times.{Time-value}
-use Rattle.grammar.specs.Refused.{Numeric, Takes-none, value, Left, Item-fault}
+use Rattle.grammar.specs.Times.{TimeValue}
+use Rattle.grammar.specs.Refused.{Numeric, TakesNone, value, Left, ItemFault}
 use Rattle.machine.specs.Scan.{breaks}
 use Rattle.machine.specs.Machine
 use Rattle.machine.specs.Machine.{Frame}
 use Rattle.machine.specs.Numeric.{St, Res, begin, scan}
-use Rattle.machine.proofs.Runs.{GoesTo, Steps, adv, taken-once, value-goes, steps_back}
-use Rattle.machine.proofs.Numeric.{NumericItem, NumericRest, numeric-is, Broke, numeric-broke, Taken}
-use Rattle.machine.proofs.Numeric.Complete.{number-goes}
-use Rattle.machine.proofs.Numeric.CompleteTime.{time-goes}
+use Rattle.machine.proofs.Runs.{GoesTo, Steps, adv, taken_once, value_goes, steps_back}
+use Rattle.machine.proofs.Numeric.{NumericItem, NumericRest, numeric_is, Broke, numeric_broke, Taken}
+use Rattle.machine.proofs.Numeric.Complete.{number_goes}
+use Rattle.machine.proofs.Numeric.CompleteTime.{time_goes}
 use Rattle.machine.proofs.Refusals.Reason.{Faulty, Reason}
-use Rattle.machine.proofs.Refusals.Items.{Stops, number-ends, time-ends}
-use Rattle.machine.proofs.Refusals.Untaken.{Takes, any-byte, after-space}
-use Rattle.machine.proofs.Refusals.Bases.{val-left}
+use Rattle.machine.proofs.Refusals.Items.{Stops, number_ends, time_ends}
+use Rattle.machine.proofs.Refusals.Untaken.{Takes, any_byte, after_space}
+use Rattle.machine.proofs.Refusals.Bases.{val_left}
 use Rattle.machine.proofs.Refusals.Confs.{ItemAt, Next}
 
 -- a byte that some rule lets the item take is taken
-goes_on : {Q : Res → Type 0} {F : ℕ → Type 0} {p : ℕ} {s s' : St} {a : List ℕ} (b : ℕ) (y : List ℕ) → Steps scan p s a s' → GoesTo scan Q F p s (a ++ (b ∷ y))
+goes_on_lem : {Q : Res → Type 0} {F : ℕ → Type 0} {p : ℕ} {s s' : St} {a : List ℕ} (b : ℕ) (y : List ℕ) → Steps scan p s a s' → GoesTo scan Q F p s (a ++ (b ∷ y))
     → Takes (scan (adv p a) s' b)
-goes_on b y Steps.stay (GoesTo.goes g f) = subst Takes (sym f) tt
-goes_on {Q = Q} {F = F} b y (Steps.eat {p = p} {a = a} x e) (GoesTo.goes g f) =
-    goes_on b y x (subst (λ (v : St). GoesTo scan Q F (suc p) v (a ++ (b ∷ y))) (taken-once scan (sym f ∙ e)) g)
+goes_on_lem b y Steps.stay (GoesTo.goes g f) = subst Takes (sym f) tt
+goes_on_lem {Q = Q} {F = F} b y (Steps.eat {p = p} {a = a} x e) (GoesTo.goes g f) =
+    goes_on_lem b y x (subst (λ (v : St). GoesTo scan Q F (suc p) v (a ++ (b ∷ y))) (taken_once scan (sym f ∙ e)) g)
 
-ends_at : {a tail : List ℕ} {b : ℕ} → ((y : List ℕ) → Numeric (a ++ (b ∷ y)) → ⊥) → Next b tail → Takes-none a tail
-ends_at f (Next.byte t) = Takes-none.byte f
-ends_at f Next.end = Takes-none.over
+ends_at : {a tail : List ℕ} {b : ℕ} → ((y : List ℕ) → Numeric (a ++ (b ∷ y)) → ⊥) → Next b tail → TakesNone a tail
+ends_at f (Next.byte t) = TakesNone.byte f
+ends_at f Next.end = TakesNone.over
 
 -- the item, behind f, has come to s and breaks with r before the rest
 module _ (f : List ℕ) (d : ℕ) (left : Left d value f) (s : St) (b : ℕ) (tail : List ℕ) (r : Refusal) where
@@ -51,29 +51,29 @@ module _ (f : List ℕ) (d : ℕ) (left : Left d value f) (s : St) (b : ℕ) (ta
     not_taken t = subst Takes e t
 
     untaken : (y : List ℕ) → Numeric (a ++ (b ∷ y)) → ⊥
-    untaken y (Numeric.number z) = not_taken (goes_on b y x (number-ends z (length f)))
-    untaken y (Numeric.time-value z) = not_taken (goes_on b y x (time-ends z (length f)))
+    untaken y (Numeric.number z) = not_taken (goes_on_lem b y x (number_ends z (length f)))
+    untaken y (Numeric.time_value z) = not_taken (goes_on_lem b y x (time_ends z (length f)))
 
     no_number : (n : N.Number) → Number true a n → ⊥
-    no_number n y = subst Stops e (any-byte Any None (value-goes scan tt (number-goes y (length f))) x b not_taken)
+    no_number n y = subst Stops e (any_byte Any None (value_goes scan tt (number_goes y (length f))) x b not_taken)
 
-    no-time : (t : T.Time) → Time-value true a t → ⊥
-    no-time t y = subst Stops e (any-byte Any None (value-goes scan tt (time-goes y (length f))) x b not_taken)
+    no_time : (t : T.Time) → TimeValue true a t → ⊥
+    no_time t y = subst Stops e (any_byte Any None (value_goes scan tt (time_goes y (length f))) x b not_taken)
 
   faults : {a : List ℕ} {m : Meaning} → Taken false a m → Steps scan (length f) begin a s → scan (adv (length f) a) s b ≡ breaks r → Next b tail
       → Faulty (f ++ (a ++ tail))
-  faults (Taken.item (NumericItem.number y)) x e n = (_, Item-fault.number left y (no_number x e) (ends_at (untaken x e) n))
-  faults (Taken.item (NumericItem.time-value y)) x e n = (_, Item-fault.time left y (no-time x e) (ends_at (untaken x e) n))
+  faults (Taken.item (NumericItem.number y)) x e n = (_, ItemFault.number left y (no_number x e) (ends_at (untaken x e) n))
+  faults (Taken.item (NumericItem.time_value y)) x e n = (_, ItemFault.time left y (no_time x e) (ends_at (untaken x e) n))
   -- a date and a space
   faults (Taken.trailed {a = c} y) x e n =
-      let none : (t : T.Time) → Time-value true c t → ⊥ = λ t z. subst Stops e
-      (after-space Any None (value-goes scan tt (time-goes z (length f))) x b (not_taken x e)) in
-      rw (append_assoc c (letters " ") tail) (_, Item-fault.time left (Time-value.local-date y) none (Takes-none.space (ends_at (untaken x e) n)))
+      let none : (t : T.Time) → TimeValue true c t → ⊥ = λ t z. subst Stops e
+      (after_space Any None (value_goes scan tt (time_goes z (length f))) x b (not_taken x e)) in
+      rw (append_assoc c (letters " ") tail) (_, ItemFault.time left (TimeValue.local_date y) none (TakesNone.space (ends_at (untaken x e) n)))
 
 -- why a number or a time value breaks
-pub numeric-breaks : (p d : ℕ) (k : List Frame) (s : St) (l tail : List ℕ) (b : ℕ) (r : Refusal) → Next b tail
+pub numeric_breaks : (p d : ℕ) (k : List Frame) (s : St) (l tail : List ℕ) (b : ℕ) (r : Refusal) → Next b tail
     → ItemAt p k d (Machine.numeric s) l → scan p s b ≡ breaks r → Reason (l ++ tail) r
-numeric-breaks p d k s l tail b r n h e = go (numeric-broke false p s b r e)
+numeric_breaks p d k s l tail b r n h e = go (numeric_broke false p s b r e)
   where
     f : List ℕ
     f = h.front
@@ -84,6 +84,6 @@ numeric-breaks p d k s l tail b r n h e = go (numeric-broke false p s b r e)
     go : Broke false r (NumericRest false s) → Reason (l ++ tail) r
     go (inl x) = inl x
     go (inr (w, x)) =
-        let y = faults f d (val-left k d f h.starts) s b tail r (steps_back scan (NumericRest false) (numeric-is false) h.steps x) h.steps
+        let y = faults f d (val_left k d f h.starts) s b tail r (steps_back scan (NumericRest false) (numeric_is false) h.steps x) h.steps
         (subst (λ (i : ℕ). scan i s b ≡ breaks r) (sym h.here) e) n in
         inr (subst Faulty (sym (ap (λ (t : List ℕ). t ++ tail) h.split ∙ append_assoc f a tail)) y)

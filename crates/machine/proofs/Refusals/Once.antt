@@ -8,13 +8,13 @@ use native.Mathlib.Decide.{dec_lt}
 use native.Mathlib.Omega.{arith}
 use lib.ListN.{length, length-append}
 use Rattle.rules.specs.Rfc3629.{Octets}
-use Rattle.rules.proofs.Characters.{same_head, same-tail}
+use Rattle.rules.proofs.Characters.{same_head, same_tail}
 use Rattle.meaning.specs.Meaning.{Meaning}
 use Rattle.grammar.specs.Values.{Loose}
 use Rattle.machine.specs.Machine.{Ok, reading}
 use Rattle.grammar.specs.Refused.{Opens, Stuck}
 use Rattle.machine.proofs.Sound.{derived}
-use Rattle.machine.proofs.Refusals.Loose.{loose-value}
+use Rattle.machine.proofs.Refusals.Loose.{loose_value}
 use Rattle.machine.proofs.Refusals.Opens.{fewer}
 
 -- ---- one place
@@ -23,7 +23,7 @@ use Rattle.machine.proofs.Refusals.Opens.{fewer}
 longer : (a c : List ℕ) (b : ℕ) (r s : List ℕ) → a ++ (b ∷ r) ≡ c ++ s → length a < length c → (x : List ℕ) × (c ≡ (a ++ (b ∷ [])) ++ x)
 longer a [] b r s e h = absurd (omega arith)
 longer [] (y ∷ c) b r s e h = (c, ap {B = List ℕ} (λ (z : ℕ). z ∷ c) (sym (same_head e)))
-longer (x ∷ a) (y ∷ c) b r s e h = let w = longer a c b r s (same-tail e) (omega arith) in (w.0, cons (sym (same_head e)) w.1)
+longer (x ∷ a) (y ∷ c) b r s e h = let w = longer a c b r s (same_tail e) (omega arith) in (w.0, cons (sym (same_head e)) w.1)
   where
     cons : {c' : List ℕ} → y ≡ x → c ≡ c' → y ∷ c ≡ x ∷ c'
     cons f g = cc
@@ -45,25 +45,25 @@ found (Stuck.byte a b r h n) = inl (record { front = a; at = b; rest = r; split 
 found (Stuck.end t h n) = inr (h, refl, n)
 
 -- none is stuck before what opens
-not-before : (t : List ℕ) (p : ℕ) (h : Byte t p) (c s : List ℕ) → t ≡ c ++ s → Opens c → length h.front < length c → ⊥
-not-before t p h c s e o l =
+not_before : (t : List ℕ) (p : ℕ) (h : Byte t p) (c s : List ℕ) → t ≡ c ++ s → Opens c → length h.front < length c → ⊥
+not_before t p h c s e o l =
     let w = longer h.front c h.at h.rest s (sym h.split ∙ e) l in h.stops (fewer (h.front ++ (h.at ∷ [])) w.0 (subst Opens w.1 o))
 
 inside : (t : List ℕ) (p : ℕ) (h : Byte t p) → length h.front < length t
 inside t p h = let e = ap length h.split ∙ length-append h.front (h.at ∷ h.rest) in omega arith
 
-pub stuck-once : (t : List ℕ) (p q : ℕ) → Stuck t p → Stuck t q → p ≡ q
-stuck-once t p q x y = go (found x) (found y)
+pub stuck_once : (t : List ℕ) (p q : ℕ) → Stuck t p → Stuck t q → p ≡ q
+stuck_once t p q x y = go (found x) (found y)
   where
     both : (h : Byte t p) (g : Byte t q) → Dec (length h.front < length g.front) → Dec (length g.front < length h.front) → p ≡ q
-    both h g (yes i) j = absurd (not-before t p h g.front (g.at ∷ g.rest) g.split g.opens i)
-    both h g (no i) (yes j) = absurd (not-before t q g h.front (h.at ∷ h.rest) h.split h.opens j)
+    both h g (yes i) j = absurd (not_before t p h g.front (g.at ∷ g.rest) g.split g.opens i)
+    both h g (no i) (yes j) = absurd (not_before t q g h.front (h.at ∷ h.rest) h.split h.opens j)
     both h g (no i) (no j) = let e = h.place in let f = g.place in omega arith
 
     go : Found t p → Found t q → p ≡ q
     go (inl h) (inl g) = both h g (dec_lt _ _) (dec_lt _ _)
-    go (inl h) (inr g) = absurd (not-before t p h t [] (sym (append-nil t)) g.0 (inside t p h))
-    go (inr h) (inl g) = absurd (not-before t q g t [] (sym (append-nil t)) h.0 (inside t q g))
+    go (inl h) (inr g) = absurd (not_before t p h t [] (sym (append-nil t)) g.0 (inside t p h))
+    go (inr h) (inl g) = absurd (not_before t q g t [] (sym (append-nil t)) h.0 (inside t q g))
     go (inr h) (inr g) = h.1 ∙ sym g.1
 
 -- what is accepted is stuck nowhere
@@ -71,7 +71,7 @@ pub accepted : (t : List ℕ) (m : Meaning) (p : ℕ) → Octets t → reading t
 accepted t m p o e x = go (found x)
   where
     means : Loose false t m
-    means = let h = derived t m o e in subst (λ (s : List ℕ). Loose false s m) (sym h.split) (Loose.text h.layout (loose-value h.value) h.last tt)
+    means = let h = derived t m o e in subst (λ (s : List ℕ). Loose false s m) (sym h.split) (Loose.text h.layout (loose_value h.value) h.last tt)
 
     go : Found t p → ⊥
     go (inl h) =

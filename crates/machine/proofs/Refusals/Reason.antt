@@ -6,7 +6,7 @@ use mathlib.Core.List.{List}
 use Rattle.meaning.specs.declared.Refusal.{Refusal}
 use Rattle.meaning.specs.declared.Refusal.TheVariants.{NotGrammar}
 use Rattle.meaning.specs.Paper.{number_of}
-use Rattle.grammar.specs.Refused.{Item-fault}
+use Rattle.grammar.specs.Refused.{ItemFault}
 
 -- 3, and any other
 abbrev pub Three : Refusal → Type 0
@@ -17,7 +17,7 @@ Other r = number_of r ≡ 3 → ⊥
 
 -- which refusal the fault has is not said: a text has one only
 abbrev pub Faulty : List ℕ → Type 0
-Faulty t = (r : Refusal) × Item-fault t r
+Faulty t = (r : Refusal) × ItemFault t r
 
 abbrev pub Reason : List ℕ → Refusal → Type 0
 Reason t r = Three r ⊎ Faulty t

@@ -13,26 +13,26 @@ use Rattle.meaning.specs.Meaning.{Meaning}
 use Rattle.grammar.specs.Comments.{Blank}
 use Rattle.machine.specs.Scan.{takes, stops, breaks, over}
 use Rattle.machine.specs.Numeric
-use Rattle.machine.specs.Numeric.{St, Res, begin, sign, word, nought, int, point, frac, exp, expSign, expDigits, hexMark, hex, both, field, spaced}
-use Rattle.machine.specs.Numeric.{secPoint, nanos, zulu, Len, d1, d2, d3, d4, When, alone, on, Slot, month, day, hour, minute, second, offsetHour}
-use Rattle.machine.specs.Numeric.{offsetMinute, scan, settle, scaled, dated, dateDone, Dg, digit, other, Num, digitN}
-use Rattle.machine.specs.Numeric.{pointN, eN, xN, colonN, minusN, otherN, Sec, digitS, pointS, zuluS, plusS, minusS, otherS, Fst, noughtF, digitF, plusF}
-use Rattle.machine.specs.Numeric.{minusF, pointF, nF, iF, otherF}
+use Rattle.machine.specs.Numeric.{St, Res, begin, sign, word, nought, int, point, frac, exp, exp_sign, exp_digits, hex_mark, hex, both, field, spaced}
+use Rattle.machine.specs.Numeric.{sec_point, nanos, zulu, Len, d1, d2, d3, d4, When, alone, on, Slot, month, day, hour, minute, second, offset_hour}
+use Rattle.machine.specs.Numeric.{offset_minute, scan, settle, scaled, dated, date_done, Dg, digit, other, Num, digit_n}
+use Rattle.machine.specs.Numeric.{point_n, e_n, x_n, colon_n, minus_n, other_n, Sec, digit_s, point_s, zulu_s, plus_s, minus_s, other_s, Fst, nought_f, digit_f, plus_f}
+use Rattle.machine.specs.Numeric.{minus_f, point_f, n_f, i_f, other_f}
 use Rattle.machine.proofs.Runs as Runs
-use Rattle.machine.proofs.Runs.{GoesTo, HaltTo, Steps, adv, taken-once, goes_end, end-out}
-use Rattle.machine.proofs.Layouts.{adv-join}
-use Rattle.machine.proofs.Numeric.Complete.{settleHex}
+use Rattle.machine.proofs.Runs.{GoesTo, HaltTo, Steps, adv, taken_once, goes_end, end_out_lem}
+use Rattle.machine.proofs.Layouts.{adv_join}
+use Rattle.machine.proofs.Numeric.Complete.{settle_hex}
 use Rattle.machine.proofs.Refusals.Items.{Outcome}
 
-abbrev stuckAt : ℕ → Res
-stuckAt p = breaks (NotGrammar p)
+abbrev stuck_at : ℕ → Res
+stuck_at p = breaks (NotGrammar p)
 
 -- what digits do as a number, and a full field, at the end
-abbrev numberEnd : ℕ → ℕ → Len → Bool → ℕ → Res
-numberEnd p q k z v = Numeric.as_number p q k z v over otherN
+abbrev number_end : ℕ → ℕ → Len → Bool → ℕ → Res
+number_end p q k z v = Numeric.as_number p q k z v over other_n
 
-abbrev fullEnd : ℕ → ℕ → Slot → ℕ → Res
-fullEnd p q l v = Numeric.onFull p q l v over
+abbrev full_end : ℕ → ℕ → Slot → ℕ → Res
+full_end p q l v = Numeric.on_full p q l v over
 
 abbrev pub Takes : Res → Type 0
 Takes (takes s) = Unit {0}
@@ -45,194 +45,194 @@ data Or : Res → Res → Type 0 where
   same : {e : Res} → Or e e
   none : {s : St} {o : Res} → Or o (takes s)
 
-only-or : (p c : ℕ) (s : St) (b : ℕ) → Or (Numeric.only p c s b) (Numeric.only p c s over)
-only-or p c s b = go (eqb b c) (eqb over c)
+only_or : (p c : ℕ) (s : St) (b : ℕ) → Or (Numeric.only p c s b) (Numeric.only p c s over)
+only_or p c s b = go (eqb b c) (eqb over c)
   where
     go : (t u : Bool) → Or (cond t (takes s) (breaks (NotGrammar p))) (cond u (takes s) (breaks (NotGrammar p)))
     go true u = Or.taken
     go false true = Or.none
     go false false = Or.same
 
-begin-or : (p b : ℕ) (c : Fst) → Or (Numeric.onBegin p b c) (stuckAt p)
-begin-or p b noughtF = Or.taken
-begin-or p b digitF = Or.taken
-begin-or p b pointF = Or.taken
-begin-or p b nF = Or.taken
-begin-or p b iF = Or.taken
-begin-or p b plusF = Or.taken
-begin-or p b minusF = Or.taken
-begin-or p b otherF = Or.same
+begin_or : (p b : ℕ) (c : Fst) → Or (Numeric.on_begin p b c) (stuck_at p)
+begin_or p b nought_f = Or.taken
+begin_or p b digit_f = Or.taken
+begin_or p b point_f = Or.taken
+begin_or p b n_f = Or.taken
+begin_or p b i_f = Or.taken
+begin_or p b plus_f = Or.taken
+begin_or p b minus_f = Or.taken
+begin_or p b other_f = Or.same
 
-sign-or : (p q : ℕ) (g : Bool) (b : ℕ) (c : Fst) → Or (Numeric.onSign p q g b c) (stuckAt p)
-sign-or p q g b noughtF = Or.taken
-sign-or p q g b digitF = Or.taken
-sign-or p q g b pointF = Or.taken
-sign-or p q g b nF = Or.taken
-sign-or p q g b iF = Or.taken
-sign-or p q g b plusF = Or.same
-sign-or p q g b minusF = Or.same
-sign-or p q g b otherF = Or.same
+sign_or : (p q : ℕ) (g : Bool) (b : ℕ) (c : Fst) → Or (Numeric.on_sign p q g b c) (stuck_at p)
+sign_or p q g b nought_f = Or.taken
+sign_or p q g b digit_f = Or.taken
+sign_or p q g b point_f = Or.taken
+sign_or p q g b n_f = Or.taken
+sign_or p q g b i_f = Or.taken
+sign_or p q g b plus_f = Or.same
+sign_or p q g b minus_f = Or.same
+sign_or p q g b other_f = Or.same
 
-nought-or : (q : ℕ) (g : Bool) (c : Num) → Or (Numeric.onNought q g c) (settle q g 0 0 0)
-nought-or q g pointN = Or.taken
-nought-or q g eN = Or.taken
-nought-or q g xN = Or.taken
-nought-or q g digitN = Or.same
-nought-or q g colonN = Or.same
-nought-or q g minusN = Or.same
-nought-or q g otherN = Or.same
+nought_or : (q : ℕ) (g : Bool) (c : Num) → Or (Numeric.on_nought q g c) (settle q g 0 0 0)
+nought_or q g point_n = Or.taken
+nought_or q g e_n = Or.taken
+nought_or q g x_n = Or.taken
+nought_or q g digit_n = Or.same
+nought_or q g colon_n = Or.same
+nought_or q g minus_n = Or.same
+nought_or q g other_n = Or.same
 
-int-or : (q : ℕ) (g : Bool) (m b : ℕ) (c : Num) → Or (Numeric.onInt q g m b c) (settle q g m 0 0)
-int-or q g m b digitN = Or.taken
-int-or q g m b pointN = Or.taken
-int-or q g m b eN = Or.taken
-int-or q g m b xN = Or.same
-int-or q g m b colonN = Or.same
-int-or q g m b minusN = Or.same
-int-or q g m b otherN = Or.same
+int_or : (q : ℕ) (g : Bool) (m b : ℕ) (c : Num) → Or (Numeric.on_int q g m b c) (settle q g m 0 0)
+int_or q g m b digit_n = Or.taken
+int_or q g m b point_n = Or.taken
+int_or q g m b e_n = Or.taken
+int_or q g m b x_n = Or.same
+int_or q g m b colon_n = Or.same
+int_or q g m b minus_n = Or.same
+int_or q g m b other_n = Or.same
 
-frac-or : (q : ℕ) (g : Bool) (m f b : ℕ) (c : Num) → Or (Numeric.onFrac q g m f b c) (settle q g m 0 f)
-frac-or q g m f b digitN = Or.taken
-frac-or q g m f b eN = Or.taken
-frac-or q g m f b pointN = Or.same
-frac-or q g m f b xN = Or.same
-frac-or q g m f b colonN = Or.same
-frac-or q g m f b minusN = Or.same
-frac-or q g m f b otherN = Or.same
+frac_or : (q : ℕ) (g : Bool) (m f b : ℕ) (c : Num) → Or (Numeric.on_frac q g m f b c) (settle q g m 0 f)
+frac_or q g m f b digit_n = Or.taken
+frac_or q g m f b e_n = Or.taken
+frac_or q g m f b point_n = Or.same
+frac_or q g m f b x_n = Or.same
+frac_or q g m f b colon_n = Or.same
+frac_or q g m f b minus_n = Or.same
+frac_or q g m f b other_n = Or.same
 
-point-or : (p q : ℕ) (g : Bool) (b : ℕ) (c : Dg) → Or (Numeric.onPoint p q g b c) (stuckAt p)
-point-or p q g b digit = Or.taken
-point-or p q g b other = Or.same
+point_or : (p q : ℕ) (g : Bool) (b : ℕ) (c : Dg) → Or (Numeric.on_point p q g b c) (stuck_at p)
+point_or p q g b digit = Or.taken
+point_or p q g b other = Or.same
 
-exp-or : (p q : ℕ) (g : Bool) (m f b : ℕ) (c : Numeric.ExpB) → Or (Numeric.onExp p q g m f b c) (stuckAt p)
-exp-or p q g m f b Numeric.digitE = Or.taken
-exp-or p q g m f b Numeric.plusE = Or.taken
-exp-or p q g m f b Numeric.minusE = Or.taken
-exp-or p q g m f b Numeric.otherE = Or.same
+exp_or : (p q : ℕ) (g : Bool) (m f b : ℕ) (c : Numeric.ExpB) → Or (Numeric.on_exp p q g m f b c) (stuck_at p)
+exp_or p q g m f b Numeric.digit_e = Or.taken
+exp_or p q g m f b Numeric.plus_e = Or.taken
+exp_or p q g m f b Numeric.minus_e = Or.taken
+exp_or p q g m f b Numeric.other_e = Or.same
 
-exp-sign-or : (p q : ℕ) (g : Bool) (m f : ℕ) (s : Bool) (b : ℕ) (c : Dg) → Or (Numeric.onExpSign p q g m f s b c) (stuckAt p)
-exp-sign-or p q g m f s b digit = Or.taken
-exp-sign-or p q g m f s b other = Or.same
+exp_sign_or : (p q : ℕ) (g : Bool) (m f : ℕ) (s : Bool) (b : ℕ) (c : Dg) → Or (Numeric.on_exp_sign p q g m f s b c) (stuck_at p)
+exp_sign_or p q g m f s b digit = Or.taken
+exp_sign_or p q g m f s b other = Or.same
 
-exp-digits-or : (q : ℕ) (g : Bool) (m f : ℕ) (s : Bool) (e b : ℕ) (c : Dg) → Or (Numeric.onExpDigits q g m f s e b c) (scaled q g m f s e)
-exp-digits-or q g m f s e b digit = Or.taken
-exp-digits-or q g m f s e b other = Or.same
+exp_digits_or : (q : ℕ) (g : Bool) (m f : ℕ) (s : Bool) (e b : ℕ) (c : Dg) → Or (Numeric.on_exp_digits q g m f s e b c) (scaled q g m f s e)
+exp_digits_or q g m f s e b digit = Or.taken
+exp_digits_or q g m f s e b other = Or.same
 
-mark-or : (p q : ℕ) (g : Bool) (c : Numeric.HexB) → Or (Numeric.onHexMark p q g c) (stuckAt p)
-mark-or p q g (Numeric.value d) = Or.taken
-mark-or p q g Numeric.noHex = Or.same
+mark_or : (p q : ℕ) (g : Bool) (c : Numeric.HexB) → Or (Numeric.on_hex_mark p q g c) (stuck_at p)
+mark_or p q g (Numeric.value d) = Or.taken
+mark_or p q g Numeric.no_hex = Or.same
 
-hex-or : (q : ℕ) (g : Bool) (v : ℕ) (c : Numeric.HexB) → Or (Numeric.onHex q g v c) (settleHex q g v)
-hex-or q g v (Numeric.value d) = Or.taken
-hex-or q g v Numeric.noHex = Or.same
+hex_or : (q : ℕ) (g : Bool) (v : ℕ) (c : Numeric.HexB) → Or (Numeric.on_hex q g v c) (settle_hex q g v)
+hex_or q g v (Numeric.value d) = Or.taken
+hex_or q g v Numeric.no_hex = Or.same
 
-as-number-or : (p q : ℕ) (k : Len) (z : Bool) (v b : ℕ) (c : Num) → Or (Numeric.as_number p q k z v b c) (numberEnd p q k z v)
-as-number-or p q k false v b c = int-or q false v b c
-as-number-or p q d1 true v b c = nought-or q false c
-as-number-or p q d2 true v b c = Or.same
-as-number-or p q d3 true v b c = Or.same
-as-number-or p q d4 true v b c = Or.same
+as_number_or : (p q : ℕ) (k : Len) (z : Bool) (v b : ℕ) (c : Num) → Or (Numeric.as_number p q k z v b c) (number_end p q k z v)
+as_number_or p q k false v b c = int_or q false v b c
+as_number_or p q d1 true v b c = nought_or q false c
+as_number_or p q d2 true v b c = Or.same
+as_number_or p q d3 true v b c = Or.same
+as_number_or p q d4 true v b c = Or.same
 
-digit_or : (p q : ℕ) (k : Len) (z : Bool) (v b : ℕ) → Or (Numeric.onDigit p q k z v b) (numberEnd p q k z v)
+digit_or : (p q : ℕ) (k : Len) (z : Bool) (v b : ℕ) → Or (Numeric.on_digit p q k z v b) (number_end p q k z v)
 digit_or p q d1 z v b = Or.taken
 digit_or p q d2 z v b = Or.taken
 digit_or p q d3 z v b = Or.taken
-digit_or p q d4 z v b = as-number-or p q d4 z v b digitN
+digit_or p q d4 z v b = as_number_or p q d4 z v b digit_n
 
-colon-or : (p q : ℕ) (k : Len) (z : Bool) (v b : ℕ) → Or (Numeric.onColon p q k z v b) (numberEnd p q k z v)
-colon-or p q d1 z v b = as-number-or p q d1 z v b colonN
-colon-or p q d2 z v b = Or.taken
-colon-or p q d3 z v b = as-number-or p q d3 z v b colonN
-colon-or p q d4 z v b = as-number-or p q d4 z v b colonN
+colon_or : (p q : ℕ) (k : Len) (z : Bool) (v b : ℕ) → Or (Numeric.on_colon p q k z v b) (number_end p q k z v)
+colon_or p q d1 z v b = as_number_or p q d1 z v b colon_n
+colon_or p q d2 z v b = Or.taken
+colon_or p q d3 z v b = as_number_or p q d3 z v b colon_n
+colon_or p q d4 z v b = as_number_or p q d4 z v b colon_n
 
-minus-or : (p q : ℕ) (k : Len) (z : Bool) (v b : ℕ) → Or (Numeric.onMinus p q k z v b) (numberEnd p q k z v)
-minus-or p q d1 z v b = as-number-or p q d1 z v b minusN
-minus-or p q d2 z v b = as-number-or p q d2 z v b minusN
-minus-or p q d3 z v b = as-number-or p q d3 z v b minusN
-minus-or p q d4 z v b = Or.taken
+minus_or : (p q : ℕ) (k : Len) (z : Bool) (v b : ℕ) → Or (Numeric.on_minus p q k z v b) (number_end p q k z v)
+minus_or p q d1 z v b = as_number_or p q d1 z v b minus_n
+minus_or p q d2 z v b = as_number_or p q d2 z v b minus_n
+minus_or p q d3 z v b = as_number_or p q d3 z v b minus_n
+minus_or p q d4 z v b = Or.taken
 
-both-or : (p q : ℕ) (k : Len) (z : Bool) (v b : ℕ) (c : Num) → Or (Numeric.onBoth p q k z v b c) (numberEnd p q k z v)
-both-or p q k z v b digitN = digit_or p q k z v b
-both-or p q k z v b colonN = colon-or p q k z v b
-both-or p q k z v b minusN = minus-or p q k z v b
-both-or p q k z v b pointN = as-number-or p q k z v b pointN
-both-or p q k z v b eN = as-number-or p q k z v b eN
-both-or p q k z v b xN = as-number-or p q k z v b xN
-both-or p q k z v b otherN = as-number-or p q k z v b otherN
+both_or : (p q : ℕ) (k : Len) (z : Bool) (v b : ℕ) (c : Num) → Or (Numeric.on_both p q k z v b c) (number_end p q k z v)
+both_or p q k z v b digit_n = digit_or p q k z v b
+both_or p q k z v b colon_n = colon_or p q k z v b
+both_or p q k z v b minus_n = minus_or p q k z v b
+both_or p q k z v b point_n = as_number_or p q k z v b point_n
+both_or p q k z v b e_n = as_number_or p q k z v b e_n
+both_or p q k z v b x_n = as_number_or p q k z v b x_n
+both_or p q k z v b other_n = as_number_or p q k z v b other_n
 
-day-or : (q : ℕ) (d : D.Date) (c : Numeric.Day) → Or (Numeric.onDay q d c) (dateDone q d)
-day-or q d Numeric.letterD = Or.taken
-day-or q d Numeric.spaceD = Or.taken
-day-or q d Numeric.otherD = Or.same
+day_or : (q : ℕ) (d : D.Date) (c : Numeric.Day) → Or (Numeric.on_day q d c) (date_done q d)
+day_or q d Numeric.letter_d = Or.taken
+day_or q d Numeric.space_d = Or.taken
+day_or q d Numeric.other_d = Or.same
 
-zone-or : (q : ℕ) (w : When) (h m s n : ℕ) (c : Sec) → Or (Numeric.onZone q w h m s n c) (Numeric.onZone q w h m s n otherS)
-zone-or q alone h m s n c = Or.same
-zone-or q (on d) h m s n zuluS = Or.taken
-zone-or q (on d) h m s n plusS = Or.taken
-zone-or q (on d) h m s n minusS = Or.taken
-zone-or q (on d) h m s n digitS = Or.same
-zone-or q (on d) h m s n pointS = Or.same
-zone-or q (on d) h m s n otherS = Or.same
+zone_or : (q : ℕ) (w : When) (h m s n : ℕ) (c : Sec) → Or (Numeric.on_zone q w h m s n c) (Numeric.on_zone q w h m s n other_s)
+zone_or q alone h m s n c = Or.same
+zone_or q (on d) h m s n zulu_s = Or.taken
+zone_or q (on d) h m s n plus_s = Or.taken
+zone_or q (on d) h m s n minus_s = Or.taken
+zone_or q (on d) h m s n digit_s = Or.same
+zone_or q (on d) h m s n point_s = Or.same
+zone_or q (on d) h m s n other_s = Or.same
 
-sec-or : (q : ℕ) (w : When) (h m s : ℕ) (c : Sec) → Or (Numeric.onSec q w h m s c) (Numeric.onZone q w h m s 0 otherS)
-sec-or q w h m s pointS = Or.taken
-sec-or q w h m s digitS = zone-or q w h m s 0 digitS
-sec-or q w h m s zuluS = zone-or q w h m s 0 zuluS
-sec-or q w h m s plusS = zone-or q w h m s 0 plusS
-sec-or q w h m s minusS = zone-or q w h m s 0 minusS
-sec-or q w h m s otherS = zone-or q w h m s 0 otherS
+sec_or : (q : ℕ) (w : When) (h m s : ℕ) (c : Sec) → Or (Numeric.on_sec q w h m s c) (Numeric.on_zone q w h m s 0 other_s)
+sec_or q w h m s point_s = Or.taken
+sec_or q w h m s digit_s = zone_or q w h m s 0 digit_s
+sec_or q w h m s zulu_s = zone_or q w h m s 0 zulu_s
+sec_or q w h m s plus_s = zone_or q w h m s 0 plus_s
+sec_or q w h m s minus_s = zone_or q w h m s 0 minus_s
+sec_or q w h m s other_s = zone_or q w h m s 0 other_s
 
-nanos-or : (q : ℕ) (w : When) (h m s k v b : ℕ) (c : Sec) → Or (Numeric.onNanos q w h m s k v b c) (Numeric.onZone q w h m s (v * 10 ^ k) otherS)
-nanos-or q w h m s zero v b digitS = Or.taken
-nanos-or q w h m s (suc k) v b digitS = Or.taken
-nanos-or q w h m s k v b pointS = zone-or q w h m s (v * 10 ^ k) pointS
-nanos-or q w h m s k v b zuluS = zone-or q w h m s (v * 10 ^ k) zuluS
-nanos-or q w h m s k v b plusS = zone-or q w h m s (v * 10 ^ k) plusS
-nanos-or q w h m s k v b minusS = zone-or q w h m s (v * 10 ^ k) minusS
-nanos-or q w h m s k v b otherS = zone-or q w h m s (v * 10 ^ k) otherS
+nanos_or : (q : ℕ) (w : When) (h m s k v b : ℕ) (c : Sec) → Or (Numeric.on_nanos q w h m s k v b c) (Numeric.on_zone q w h m s (v * 10 ^ k) other_s)
+nanos_or q w h m s zero v b digit_s = Or.taken
+nanos_or q w h m s (suc k) v b digit_s = Or.taken
+nanos_or q w h m s k v b point_s = zone_or q w h m s (v * 10 ^ k) point_s
+nanos_or q w h m s k v b zulu_s = zone_or q w h m s (v * 10 ^ k) zulu_s
+nanos_or q w h m s k v b plus_s = zone_or q w h m s (v * 10 ^ k) plus_s
+nanos_or q w h m s k v b minus_s = zone_or q w h m s (v * 10 ^ k) minus_s
+nanos_or q w h m s k v b other_s = zone_or q w h m s (v * 10 ^ k) other_s
 
-full-or : (p q : ℕ) (l : Slot) (v b : ℕ) → Or (Numeric.onFull p q l v b) (fullEnd p q l v)
-full-or p q (month y) v b = only-or p (ch "-") (field q (day y v) 2 0) b
-full-or p q (day y m) v b = day-or q (dated y m v) (Numeric.dayOf b)
-full-or p q (hour d) v b = only-or p (ch ":") (field q (minute (on d) v) 2 0) b
-full-or p q (minute w h) v b = only-or p (ch ":") (field q (second w h v) 2 0) b
-full-or p q (second w h m) v b = sec-or q w h m v (Numeric.secOf b)
-full-or p q (offsetHour d h m s n g) v b = only-or p (ch ":") (field q (offsetMinute d h m s n g v) 2 0) b
-full-or p q (offsetMinute d h m s n g i) v b = Or.same
+full_or : (p q : ℕ) (l : Slot) (v b : ℕ) → Or (Numeric.on_full p q l v b) (full_end p q l v)
+full_or p q (month y) v b = only_or p (ch "-") (field q (day y v) 2 0) b
+full_or p q (day y m) v b = day_or q (dated y m v) (Numeric.day_of b)
+full_or p q (hour d) v b = only_or p (ch ":") (field q (minute (on d) v) 2 0) b
+full_or p q (minute w h) v b = only_or p (ch ":") (field q (second w h v) 2 0) b
+full_or p q (second w h m) v b = sec_or q w h m v (Numeric.sec_of b)
+full_or p q (offset_hour d h m s n g) v b = only_or p (ch ":") (field q (offset_minute d h m s n g v) 2 0) b
+full_or p q (offset_minute d h m s n g i) v b = Or.same
 
-field-or : (p q : ℕ) (l : Slot) (n v b : ℕ) (c : Dg) → Or (Numeric.onField p q l n v b c) (stuckAt p)
-field-or p q l n v b digit = Or.taken
-field-or p q l n v b other = Or.same
+field_or : (p q : ℕ) (l : Slot) (n v b : ℕ) (c : Dg) → Or (Numeric.on_field p q l n v b c) (stuck_at p)
+field_or p q l n v b digit = Or.taken
+field_or p q l n v b other = Or.same
 
-spaced-or : (q : ℕ) (d : D.Date) (b : ℕ) (c : Dg) → Or (Numeric.onSpaced q d b c) (dateDone q d)
-spaced-or q d b digit = Or.taken
-spaced-or q d b other = Or.same
+spaced_or : (q : ℕ) (d : D.Date) (b : ℕ) (c : Dg) → Or (Numeric.on_spaced q d b c) (date_done q d)
+spaced_or q d b digit = Or.taken
+spaced_or q d b other = Or.same
 
-sec-point-or : (p q : ℕ) (w : When) (h m s b : ℕ) (c : Dg) → Or (Numeric.onSecPoint p q w h m s b c) (stuckAt p)
-sec-point-or p q w h m s b digit = Or.taken
-sec-point-or p q w h m s b other = Or.same
+sec_point_or : (p q : ℕ) (w : When) (h m s b : ℕ) (c : Dg) → Or (Numeric.on_sec_point p q w h m s b c) (stuck_at p)
+sec_point_or p q w h m s b digit = Or.taken
+sec_point_or p q w h m s b other = Or.same
 
-taken-or-same : (p : ℕ) (s : St) (b : ℕ) → Or (scan p s b) (scan p s over)
-taken-or-same p begin b = begin-or p b (Numeric.fst_of b)
-taken-or-same p (sign q g) b = sign-or p q g b (Numeric.fst_of b)
-taken-or-same p (word [] n) b = Or.same
-taken-or-same p (word (c ∷ a) n) b = only-or p c (word a n) b
-taken-or-same p (nought q g) b = nought-or q g (Numeric.num_of b)
-taken-or-same p (int q g m) b = int-or q g m b (Numeric.num_of b)
-taken-or-same p (point q g) b = point-or p q g b (Numeric.dgOf b)
-taken-or-same p (frac q g m f) b = frac-or q g m f b (Numeric.num_of b)
-taken-or-same p (exp q g m f) b = exp-or p q g m f b (Numeric.expOf b)
-taken-or-same p (expSign q g m f s) b = exp-sign-or p q g m f s b (Numeric.dgOf b)
-taken-or-same p (expDigits q g m f s e) b = exp-digits-or q g m f s e b (Numeric.dgOf b)
-taken-or-same p (hexMark q g) b = mark-or p q g (Numeric.hexOf b)
-taken-or-same p (hex q g v) b = hex-or q g v (Numeric.hexOf b)
-taken-or-same p (both q k z v) b = both-or p q k z v b (Numeric.num_of b)
-taken-or-same p (field q l zero v) b = full-or p q l v b
-taken-or-same p (field q l (suc n) v) b = field-or p q l n v b (Numeric.dgOf b)
-taken-or-same p (spaced q d) b = spaced-or q d b (Numeric.dgOf b)
-taken-or-same p (secPoint q w h m s) b = sec-point-or p q w h m s b (Numeric.dgOf b)
-taken-or-same p (nanos q w h m s k v) b = nanos-or q w h m s k v b (Numeric.secOf b)
-taken-or-same p (zulu q d h m s n) b = Or.same
+taken_or_same : (p : ℕ) (s : St) (b : ℕ) → Or (scan p s b) (scan p s over)
+taken_or_same p begin b = begin_or p b (Numeric.fst_of b)
+taken_or_same p (sign q g) b = sign_or p q g b (Numeric.fst_of b)
+taken_or_same p (word [] n) b = Or.same
+taken_or_same p (word (c ∷ a) n) b = only_or p c (word a n) b
+taken_or_same p (nought q g) b = nought_or q g (Numeric.num_of b)
+taken_or_same p (int q g m) b = int_or q g m b (Numeric.num_of b)
+taken_or_same p (point q g) b = point_or p q g b (Numeric.dg_of b)
+taken_or_same p (frac q g m f) b = frac_or q g m f b (Numeric.num_of b)
+taken_or_same p (exp q g m f) b = exp_or p q g m f b (Numeric.exp_of b)
+taken_or_same p (exp_sign q g m f s) b = exp_sign_or p q g m f s b (Numeric.dg_of b)
+taken_or_same p (exp_digits q g m f s e) b = exp_digits_or q g m f s e b (Numeric.dg_of b)
+taken_or_same p (hex_mark q g) b = mark_or p q g (Numeric.hex_of b)
+taken_or_same p (hex q g v) b = hex_or q g v (Numeric.hex_of b)
+taken_or_same p (both q k z v) b = both_or p q k z v b (Numeric.num_of b)
+taken_or_same p (field q l zero v) b = full_or p q l v b
+taken_or_same p (field q l (suc n) v) b = field_or p q l n v b (Numeric.dg_of b)
+taken_or_same p (spaced q d) b = spaced_or q d b (Numeric.dg_of b)
+taken_or_same p (sec_point q w h m s) b = sec_point_or p q w h m s b (Numeric.dg_of b)
+taken_or_same p (nanos q w h m s k v) b = nanos_or q w h m s k v b (Numeric.sec_of b)
+taken_or_same p (zulu q d h m s n) b = Or.same
 
 -- ---- the outcome at a byte that is not taken
 
@@ -251,26 +251,26 @@ module _ (P : Meaning → Type 0) (R : Refusal → Type 0) where
   no_takes (stops m) h t = t
   no_takes (breaks r) h t = t
 
-  untaken-out : {o e : Res} → Or o e → Q e → (Takes o → ⊥) → Q o
-  untaken-out Or.taken h n = absurd (n tt)
-  untaken-out Or.same h n = h
-  untaken-out Or.none h n = absurd h
+  untaken_out : {o e : Res} → Or o e → Q e → (Takes o → ⊥) → Q o
+  untaken_out Or.taken h n = absurd (n tt)
+  untaken_out Or.same h n = h
+  untaken_out Or.none h n = absurd h
 
-  pub any-byte : {p : ℕ} {s s' : St} {a : List ℕ} → GoesTo scan Q Runs.EndsItem p s a → Steps scan p s a s' → (b : ℕ) → (Takes (scan (adv p a) s' b) → ⊥)
+  pub any_byte : {p : ℕ} {s s' : St} {a : List ℕ} → GoesTo scan Q Runs.EndsItem p s a → Steps scan p s a s' → (b : ℕ) → (Takes (scan (adv p a) s' b) → ⊥)
       → Q (scan (adv p a) s' b)
-  any-byte {p} {s' = s'} {a = a} g x b n = untaken-out (taken-or-same (adv p a) s' b) (end-out scan Runs.EndsItem.end (goes_end scan x g)) n
+  any_byte {p} {s' = s'} {a = a} g x b n = untaken_out (taken_or_same (adv p a) s' b) (end_out_lem scan Runs.EndsItem.end (goes_end scan x g)) n
 
   -- behind a date and a space that is taken, what is no digit ends it
-  spaced-out : {p b : ℕ} {s u : St} → HaltTo scan Q p s b → b ≡ ch " " → scan p s (ch " ") ≡ takes u → (c : ℕ) → Runs.NoDigit c → Q (scan (suc p) u c)
-  spaced-out {p} {b} {s} (HaltTo.here h) e f c n = absurd (subst Q f (subst (λ (x : ℕ). Q (scan p s x)) e h))
-  spaced-out {p} (HaltTo.spaced g k) e f c n = subst (λ (x : St). Q (scan (suc p) x c)) (taken-once scan (sym g ∙ f)) (k (suc p) c n)
+  spaced_out : {p b : ℕ} {s u : St} → HaltTo scan Q p s b → b ≡ ch " " → scan p s (ch " ") ≡ takes u → (c : ℕ) → Runs.NoDigit c → Q (scan (suc p) u c)
+  spaced_out {p} {b} {s} (HaltTo.here h) e f c n = absurd (subst Q f (subst (λ (x : ℕ). Q (scan p s x)) e h))
+  spaced_out {p} (HaltTo.spaced g k) e f c n = subst (λ (x : St). Q (scan (suc p) x c)) (taken_once scan (sym g ∙ f)) (k (suc p) c n)
 
-  space-out : {p : ℕ} {s u : St} → GoesTo scan Q Runs.EndsItem p s [] → Steps scan p s (letters " ") u → (c : ℕ) → Runs.NoDigit c → Q (scan (suc p) u c)
-  space-out (GoesTo.ends h) (Steps.eat Steps.stay e) c n = spaced-out (h (ch " ") (Runs.EndsItem.blank Blank.space)) refl e c n
+  space_out : {p : ℕ} {s u : St} → GoesTo scan Q Runs.EndsItem p s [] → Steps scan p s (letters " ") u → (c : ℕ) → Runs.NoDigit c → Q (scan (suc p) u c)
+  space_out (GoesTo.ends h) (Steps.eat Steps.stay e) c n = spaced_out (h (ch " ") (Runs.EndsItem.blank Blank.space)) refl e c n
 
   module _ {p : ℕ} {s u : St} {a : List ℕ} (g : GoesTo scan Q Runs.EndsItem p s a) (x : Steps scan p s (a ++ letters " ") u) where
-    pub space-digitless : (c : ℕ) → Runs.NoDigit c → Q (scan (adv p (a ++ letters " ")) u c)
-    space-digitless c n = let h = split_steps a x in rw (adv-join p a (letters " ")) (space-out (goes_end scan h.1 g) h.2 c n)
+    pub space_digitless : (c : ℕ) → Runs.NoDigit c → Q (scan (adv p (a ++ letters " ")) u c)
+    space_digitless c n = let h = split_steps a x in rw (adv_join p a (letters " ")) (space_out (goes_end scan h.1 g) h.2 c n)
 
-    pub after-space : (b : ℕ) → (Takes (scan (adv p (a ++ letters " ")) u b) → ⊥) → Q (scan (adv p (a ++ letters " ")) u b)
-    after-space b n = let q = adv p (a ++ letters " ") in untaken-out (taken-or-same q u b) (space-digitless over (Runs.NoDigit.past (omega arith))) n
+    pub after_space : (b : ℕ) → (Takes (scan (adv p (a ++ letters " ")) u b) → ⊥) → Q (scan (adv p (a ++ letters " ")) u b)
+    after_space b n = let q = adv p (a ++ letters " ") in untaken_out (taken_or_same q u b) (space_digitless over (Runs.NoDigit.past (omega arith))) n

@@ -4,8 +4,8 @@ use mathlib.Core.Path.{◌≡◌}
 use mathlib.Core.Bool.{Bool, true}
 use mathlib.Core.List.{List, [], ◌∷◌, ◌++◌}
 use Rattle.meaning.specs.Letters.{ch}
-use Rattle.grammar.specs.Strings.{Quote, mark, three, Escape, Up-to-two, Newline, No-newline}
-use Rattle.machine.specs.Strings.{lineByte}
+use Rattle.grammar.specs.Strings.{Quote, mark, three, Escape, UpToTwo, Newline, NoNewline}
+use Rattle.machine.specs.Strings.{line_byte}
 use Rattle.machine.proofs.Strings.Quotes.{Between}
 
 -- b is plain between two quotes q
@@ -21,14 +21,14 @@ pub data Body (k : Bool) (q : Quote) : List ℕ → List ℕ → Type 0 where
 -- b may stand in a multiline part, and is no quote q
 pub record Inner (q b : ℕ) : Type 0 where
   pub no_end : b ≡ q → ⊥
-  pub may : lineByte b ≡ true
+  pub may : line_byte b ≡ true
 
 -- after the opening of a multiline part, with the closing quotes
 pub data Lines (q : Quote) : List ℕ → List ℕ → Type 0 where
   shut : Lines q (three q) []
-  byte : {s a u : List ℕ} {b : ℕ} → Up-to-two q s → Inner (mark q) b → Lines q a u → Lines q (s ++ (b ∷ a)) (s ++ (b ∷ u))
+  byte : {s a u : List ℕ} {b : ℕ} → UpToTwo q s → Inner (mark q) b → Lines q a u → Lines q (s ++ (b ∷ a)) (s ++ (b ∷ u))
 
-pub data Raw-part (k : Bool) : List ℕ → List ℕ → Type 0 where
-  one_line : {a u : List ℕ} (q : Quote) → Body k q a u → Raw-part k (mark q ∷ a) u
-  multiline : {a u : List ℕ} (q : Quote) → Lines q a u → No-newline a → Raw-part k (three q ++ a) u
-  trimmed : {n a u : List ℕ} (q : Quote) → Newline n → Lines q a u → Raw-part k (three q ++ (n ++ a)) u
+pub data RawPart (k : Bool) : List ℕ → List ℕ → Type 0 where
+  one_line : {a u : List ℕ} (q : Quote) → Body k q a u → RawPart k (mark q ∷ a) u
+  multiline : {a u : List ℕ} (q : Quote) → Lines q a u → NoNewline a → RawPart k (three q ++ a) u
+  trimmed : {n a u : List ℕ} (q : Quote) → Newline n → Lines q a u → RawPart k (three q ++ (n ++ a)) u

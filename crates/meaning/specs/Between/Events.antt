@@ -17,13 +17,13 @@ among u [] = false
 among u (v ∷ vs) = cond (same u v) true (among u vs)
 
 -- its place; of each open object, innermost first, the keys so far
-unfoldable pub firstRepeat : List (List (List ℕ)) → List Event → Option ℕ
-firstRepeat os [] = none
-firstRepeat os (begins ∷ es) = firstRepeat ([] ∷ os) es
-firstRepeat [] (ends ∷ es) = firstRepeat [] es
-firstRepeat (o ∷ os) (ends ∷ es) = firstRepeat os es
-firstRepeat [] (named q u ∷ es) = firstRepeat [] es
-firstRepeat (o ∷ os) (named q u ∷ es) = cond (among u o) (some q) (firstRepeat ((u ∷ o) ∷ os) es)
+unfoldable pub first_repeat : List (List (List ℕ)) → List Event → Option ℕ
+first_repeat os [] = none
+first_repeat os (begins ∷ es) = first_repeat ([] ∷ os) es
+first_repeat [] (ends ∷ es) = first_repeat [] es
+first_repeat (o ∷ os) (ends ∷ es) = first_repeat os es
+first_repeat [] (named q u ∷ es) = first_repeat [] es
+first_repeat (o ∷ os) (named q u ∷ es) = cond (among u o) (some q) (first_repeat ((u ∷ o) ∷ os) es)
 
 -- the places rise, from a on and below b
 abbrev pub Spans : ℕ → ℕ → List Event → Type 0
@@ -53,13 +53,13 @@ unfoldable mutual
   events (Meaning.string s) = []
   events (Meaning.binary s) = []
   events (Meaning.time t) = []
-  events (Meaning.array x) = elementEvents x
-  events (Meaning.object x) = begins ∷ (memberEvents x ++ (ends ∷ []))
+  events (Meaning.array x) = element_events x
+  events (Meaning.object x) = begins ∷ (member_events x ++ (ends ∷ []))
 
-  pub elementEvents : Meanings → List Event
-  elementEvents Meanings.none = []
-  elementEvents (Meanings.more x m) = elementEvents x ++ events m
+  pub element_events : Meanings → List Event
+  element_events Meanings.none = []
+  element_events (Meanings.more x m) = element_events x ++ events m
 
-  pub memberEvents : Members → List Event
-  memberEvents Members.bare = []
-  memberEvents (Members.member x u m) = memberEvents x ++ (named 0 u ∷ events m)
+  pub member_events : Members → List Event
+  member_events Members.bare = []
+  member_events (Members.member x u m) = member_events x ++ (named 0 u ∷ events m)

@@ -1,5 +1,5 @@
 -- A record's sixteen bytes (docs/FORMAT.md, 11.1) as four numbers of 2, 2, 4 and 8 bytes, as code reads and writes
--- them; that they are the bytes of `Tape.recordBytes` is proved (`proofs/Records.antt`), not believed. Assumes nothing.
+-- them; that they are the bytes of `Tape.record_bytes` is proved (`proofs/Records.antt`), not believed. Assumes nothing.
 pub use Rattle.meaning.specs.Look.{FitDate, Fit}
 use Rattle.std.specs.Prelude.{true, false, List, ◌++◌, get_or, ℕ, zero, suc, ◌+◌, ◌*◌, ◌<◌, ◌^◌}
 use Prim.Native.Char.{Char}
@@ -55,8 +55,8 @@ low_of (Record.Array count end) = 0
 low_of (Record.Object count end) = 0
 
 -- month, day and offset in bytes 4-7
-abbrev pub monthDay : Date → ℕ → ℕ
-monthDay d offset = d.month + d.day * 256 + offset * 65536
+abbrev pub month_day : Date → ℕ → ℕ
+month_day d offset = d.month + d.day * 256 + offset * 65536
 
 -- bytes 4-7
 unfoldable pub mid_of : Record → ℕ
@@ -69,10 +69,10 @@ mid_of (Record.Number (Infinite true)) = 2
 mid_of (Record.Str size start) = size
 mid_of (Record.Key size start) = size
 mid_of (Record.Bin size start) = size
-mid_of (Record.Time (LocalDate d)) = monthDay d 0
+mid_of (Record.Time (LocalDate d)) = month_day d 0
 mid_of (Record.Time (LocalTime t)) = 0
-mid_of (Record.Time (LocalDateTime d t)) = monthDay d 0
-mid_of (Record.Time (OffsetDateTime d t offset)) = monthDay d (of_z w16 offset)
+mid_of (Record.Time (LocalDateTime d t)) = month_day d 0
+mid_of (Record.Time (OffsetDateTime d t offset)) = month_day d (of_z w16 offset)
 mid_of (Record.Array count end) = count
 mid_of (Record.Object count end) = count
 
@@ -94,5 +94,5 @@ high_of (Record.Array count end) = end
 high_of (Record.Object count end) = end
 
 -- the bytes of four numbers
-unfoldable pub fourWords : ℕ → ℕ → ℕ → ℕ → List ℕ
-fourWords a b c d = le 2 a ++ (le 2 b ++ (le 4 c ++ le 8 d))
+unfoldable pub four_words : ℕ → ℕ → ℕ → ℕ → List ℕ
+four_words a b c d = le 2 a ++ (le 2 b ++ (le 4 c ++ le 8 d))

@@ -18,5 +18,5 @@ add-result c = omega (arith, mod-lt c.args.tag c.requires.0, c.requires)
 returns : tie.Need-returns
 returns c = (refl, omega (arith, mod-lt c.args.tag c.requires.0))
 
-pub bucket-spec : {M : Type 1} → statement M
-bucket-spec = tie.close (tie.spec rem-result mul-result add-result returns)
+pub bucket_spec : {M : Type 1} → statement M
+bucket_spec = tie.close (tie.spec rem-result mul-result add-result returns)

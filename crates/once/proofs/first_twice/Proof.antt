@@ -16,5 +16,5 @@ cast-result c = omega (arith, c.shared-slice-known.given 4)
 returns-2 : tie.Need-returns-2
 returns-2 c = search rules
 
-pub first-twice-spec : {M : Type 1} → statement M
-first-twice-spec = tie.close (tie.spec returns shared-slice-read-result cast-result returns-2)
+pub first_twice_spec : {M : Type 1} → statement M
+first_twice_spec = tie.close (tie.spec returns shared-slice-read-result cast-result returns-2)

@@ -12,5 +12,5 @@ returns-2 c = simp (ne_eqb _ _ c.before.if1.false, le-leb _ _ c.if2.true)
 returns-3 : tie.Need-returns-3
 returns-3 c = simp (ne_eqb _ _ c.before.if1.false, lt-leb _ _ c.if2.false)
 
-pub further-spec : {M : Type 1} → statement M
-further-spec = tie.close (tie.spec returns returns-2 returns-3)
+pub further_spec : {M : Type 1} → statement M
+further_spec = tie.close (tie.spec returns returns-2 returns-3)

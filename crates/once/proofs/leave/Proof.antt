@@ -2,7 +2,7 @@
 use mathlib.Core.Bool.{true, false}
 use native.Mathlib.Omega.{arith}
 use Rattle.once.specs.Groups.{taken}
-use Rattle.once.proofs.GroupsLaws.{left, own-fits, own-above, leave-some, leave_none}
+use Rattle.once.proofs.GroupsLaws.{left, own_fits, own_above, leave_some, leave_none}
 use Rattle.once.proofs.GroupsLaws.{owns_not}
 use borrow.Author.Rules.{rules}
 use Rattle.once.proofs.leave.Statement.{statement}
@@ -22,7 +22,7 @@ slice-read-to : tie.Need-slice-read-to
 slice-read-to c = search rules
 
 sub-to : tie.Need-overflow-sub-to
-sub-to c = (own-fits c.before.before.before.before.before.args.seen.now c.before.before.before.before.before.requires
+sub-to c = (own_fits c.before.before.before.before.before.args.seen.now c.before.before.before.before.before.requires
     (owns_not c.before.before.before.before.before.args.seen.now c.before.before.owned.result false c.before.if1.false
     c.before.before.owned.ensures)).0
 
@@ -33,7 +33,7 @@ mul-outer : tie.Need-overflow-mul-outer
 mul-outer c = omega (
   arith,
   c.slot.ensures,
-  own-fits c.before.before.before.before.before.before.args.seen.now
+  own_fits c.before.before.before.before.before.before.args.seen.now
       c.before.before.before.before.before.before.requires (owns_not c.before.before.before.before.before.before.args.seen.now
       c.before.before.before.owned.result false c.before.before.if1.false c.before.before.before.owned.ensures),
 )
@@ -42,13 +42,13 @@ slice-read-outer : tie.Need-slice-read-outer
 slice-read-outer c = omega (
   arith,
   c.before.slot.ensures,
-  own-fits c.before.before.before.before.before.before.before.args.seen.now
+  own_fits c.before.before.before.before.before.before.before.args.seen.now
       c.before.before.before.before.before.before.before.requires (owns_not c.before.before.before.before.before.before.before.args.seen.now
       c.before.before.before.before.owned.result false c.before.before.before.if1.false c.before.before.before.before.owned.ensures),
 )
 
 drop-requires : tie.Need-drop-requires
-drop-requires c κs = own-above c.before.before.before.before.before.before.before.before.args.seen.now
+drop-requires c κs = own_above c.before.before.before.before.before.before.before.before.args.seen.now
     c.before.before.before.before.before.before.before.before.requires (owns_not
     c.before.before.before.before.before.before.before.before.args.seen.now c.before.before.before.before.before.owned.result false
     c.before.before.before.before.if1.false c.before.before.before.before.before.owned.ensures)
@@ -60,7 +60,7 @@ same-length-2 : tie.Need-same-length-2
 same-length-2 c = search rules
 
 returns-2 : tie.Need-returns-2
-returns-2 c = leave-some c.before.before.before.before.before.before.before.before.before.before.before.args.seen.now
+returns-2 c = leave_some c.before.before.before.before.before.before.before.before.before.before.before.args.seen.now
     c.before.before.before.before.before.before.before.before.before.before.before.requires
     (owns_not c.before.before.before.before.before.before.before.before.before.before.before.args.seen.now
     c.before.before.before.before.before.before.before.before.owned.result false

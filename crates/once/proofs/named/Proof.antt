@@ -1,7 +1,7 @@
 -- `named`: noticed, then taken in, or not where the chain is too long. Assumes nothing.
 use native.Mathlib.Omega.{arith}
 use Rattle.once.specs.Groups.{marked}
-use Rattle.once.proofs.GroupsTakingLaws.{does-sane, names-crowded, names-taken}
+use Rattle.once.proofs.GroupsTakingLaws.{does_sane, names_crowded, names_taken}
 use borrow.Author.Rules.{rules}
 use Rattle.once.proofs.named.Statement.{statement}
 use Rattle.once.proofs.named.Tie as tie
@@ -10,7 +10,7 @@ mark-requires : tie.Need-mark-requires
 mark-requires c κs = search rules
 
 crowded-requires : tie.Need-crowded-requires
-crowded-requires c κs = does-sane (marked c.before.before.before.before.before.before.args.again
+crowded-requires c κs = does_sane (marked c.before.before.before.before.before.before.args.again
     c.before.before.before.before.before.before.args.place) _ _ c.before.before.before.before.before.before.requires
     c.before.before.before.mark.ensures
 
@@ -21,10 +21,10 @@ same_length : tie.Need-same-length
 same_length c = search rules
 
 returns : tie.Need-returns
-returns c = names-crowded _ _ _ _ _ c.before.before.before.before.before.mark.ensures c.if1.true c.before.crowded.ensures
+returns c = names_crowded _ _ _ _ _ c.before.before.before.before.before.mark.ensures c.if1.true c.before.crowded.ensures
 
 take-in-requires : tie.Need-take-in-requires
-take-in-requires c κs = does-sane (marked c.before.before.before.before.before.before.before.before.before.args.again
+take-in-requires c κs = does_sane (marked c.before.before.before.before.before.before.before.before.before.args.again
     c.before.before.before.before.before.before.before.before.before.args.place) _ _
     c.before.before.before.before.before.before.before.before.before.requires c.before.before.before.before.before.before.mark.ensures
 
@@ -32,11 +32,11 @@ same-length-2 : tie.Need-same-length-2
 same-length-2 c = search rules
 
 returns-2 : tie.Need-returns-2
-returns-2 c = names-taken _ _ _ _ _ c.before.before.before.before.before.before.before.before.before.mark.ensures
+returns-2 c = names_taken _ _ _ _ _ c.before.before.before.before.before.before.before.before.before.mark.ensures
     c.before.before.take_in.ensures
 
-pub named-spec : {M : Type 1} → statement M
-named-spec =
+pub named_spec : {M : Type 1} → statement M
+named_spec =
     tie.close
     (tie.spec
     mark-requires

@@ -1,5 +1,5 @@
 -- `pop`: its bucket's head is its link. Assumes nothing.
-use Rattle.once.proofs.TableLaws.{pop-does}
+use Rattle.once.proofs.TableLaws.{pop_does}
 use Prim.Native.Nat.{◌-◌}
 use native.Mathlib.Omega.{arith}
 use lib.ListN.{get_or, length-set}
@@ -57,7 +57,7 @@ same_length : tie.Need-same-length
 same_length c = search rules
 
 returns : tie.Need-returns
-returns c = pop-does c.before.before.before.before.before.before.before.args.seen.now c.bucket.result c.before.before.before.slot.result
+returns c = pop_does c.before.before.before.before.before.before.before.args.seen.now c.bucket.result c.before.before.before.slot.result
     (get_or c.before.before.before.before.before.before.before.args.seen.now 0 0 - 1) c.before.before.before.before.before.slots.result
     c.before.before.before.slot.ensures c.bucket.ensures.0 (omega (
       arith,

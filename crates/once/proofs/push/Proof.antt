@@ -1,5 +1,5 @@
 -- `push`: it is its bucket's head. Assumes nothing.
-use Rattle.once.proofs.TableLaws.{push-does}
+use Rattle.once.proofs.TableLaws.{push_does}
 use mathlib.Core.Path.{refl}
 use native.Mathlib.Omega.{arith}
 use lib.ListN.{get_or, length-set}
@@ -92,7 +92,7 @@ same_length : tie.Need-same-length
 same_length c = search rules
 
 returns : tie.Need-returns
-returns c = push-does c.before.before.before.before.before.before.args.seen.now c.before.before.before.before.before.before.args.place
+returns c = push_does c.before.before.before.before.before.before.args.seen.now c.before.before.before.before.before.before.args.place
     c.before.before.before.before.before.before.args.tag c.slot.result c.before.before.bucket.result
     (get_or c.before.before.before.before.before.before.args.seen.now 0 0) c.before.before.before.before.slots.result c.slot.ensures
     c.before.before.bucket.ensures.0 refl c.before.before.before.before.slots.ensures.0

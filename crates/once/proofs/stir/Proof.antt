@@ -12,5 +12,5 @@ returns : tie.Need-returns
 unfolding stirred
 returns c = refl
 
-pub stir-spec : {M : Type 1} → statement M
-stir-spec = tie.close (tie.spec cast-low returns)
+pub stir_spec : {M : Type 1} → statement M
+stir_spec = tie.close (tie.spec cast-low returns)

@@ -16,5 +16,5 @@ cast-result c = omega (arith, c.shared-slice-known.given 5)
 returns-2 : tie.Need-returns-2
 returns-2 c = search rules
 
-pub stopped-spec : {M : Type 1} → statement M
-stopped-spec = tie.close (tie.spec returns shared-slice-read-result cast-result returns-2)
+pub stopped_spec : {M : Type 1} → statement M
+stopped_spec = tie.close (tie.spec returns shared-slice-read-result cast-result returns-2)

@@ -1,13 +1,13 @@
 -- `tag_of`: its second number. Assumes nothing.
 use native.Mathlib.Omega.{arith}
 use Rattle.once.proofs.GroupsChainLaws.{tag_is}
-use Rattle.once.proofs.GroupsChainLaws.{stands-fits}
+use Rattle.once.proofs.GroupsChainLaws.{stands_fits}
 use borrow.Author.Rules.{rules}
 use Rattle.once.proofs.tag_of.Statement.{statement}
 use Rattle.once.proofs.tag_of.Tie as tie
 
 sub-slot : tie.Need-overflow-sub-slot
-sub-slot c = (stands-fits c.before.args.seen.now c.before.args.at c.before.requires).0
+sub-slot c = (stands_fits c.before.args.seen.now c.before.args.at c.before.requires).0
 
 slot-requires : tie.Need-slot-requires
 slot-requires c κs = search rules
@@ -22,14 +22,14 @@ shared-slice-read-result : tie.Need-shared-slice-read-result
 shared-slice-read-result c = omega (
   arith,
   c.before.slot.ensures,
-  stands-fits c.before.before.before.args.seen.now
+  stands_fits c.before.before.before.args.seen.now
       c.before.before.before.args.at c.before.before.before.requires,
 )
 
 returns : tie.Need-returns
 returns c = tag_is c.before.before.before.args.seen.now c.before.before.before.args.at c.before.slot.result c.before.slot.ensures
 
-pub tag-of-spec : {M : Type 1} → statement M
-tag-of-spec =
+pub tag_of_spec : {M : Type 1} → statement M
+tag_of_spec =
     tie.close
     (tie.spec sub-slot slot-requires add-result mul-result shared-slice-read-result returns)

@@ -6,22 +6,22 @@ use native.Mathlib.Omega.{arith}
 use lib.ListN.{get_or, length-set}
 use Rattle.once.specs.Table.{room}
 use Rattle.once.specs.Groups.{taken}
-use Rattle.once.proofs.GroupsLaws.{owns_as, short-does}
-use Rattle.once.proofs.GroupsChainLaws.{set-short}
-use Rattle.once.proofs.GroupsTakingLaws.{take-stopped, take_own, take-new, full-own, full-new, roomy, roomy-more}
+use Rattle.once.proofs.GroupsLaws.{owns_as, short_does}
+use Rattle.once.proofs.GroupsChainLaws.{set_short}
+use Rattle.once.proofs.GroupsTakingLaws.{take_stopped, take_own, take_new, full_own, full_new, roomy, roomy_more}
 use borrow.Author.Rules.{rules}
 use Rattle.once.proofs.take_in.Statement.{statement}
 use Rattle.once.proofs.take_in.Tie as tie
 
 returns : tie.Need-returns
-returns c = short-does (taken (room c.before.before.args.seen.now) (c.before.before.args.place, c.before.before.args.tag))
+returns c = short_does (taken (room c.before.before.args.seen.now) (c.before.before.args.place, c.before.before.args.tag))
     c.before.before.args.seen.now c.if1.true
 
 slice-read-if2 : tie.Need-slice-read-if2
 slice-read-if2 c = search rules
 
 returns-2 : tie.Need-returns-2
-returns-2 c = take-stopped c.before.before.before.before.args.seen.now (
+returns-2 c = take_stopped c.before.before.before.before.args.seen.now (
   c.before.before.before.before.args.place,
   c.before.before.before.before.args.tag,
 ) c.if2.true
@@ -65,7 +65,7 @@ same-length-2 : tie.Need-same-length-2
 same-length-2 c = search rules
 
 returns-4 : tie.Need-returns-4
-returns-4 c = full-own c.before.before.before.before.before.before.before.before.before.before.args.seen.now
+returns-4 c = full_own c.before.before.before.before.before.before.before.before.before.before.args.seen.now
     c.before.before.before.before.before.before.before.before.before.before.args.place
     c.before.before.before.before.before.before.before.before.before.before.args.tag c.before.before.before.before.before.slots.result
     c.before.before.before.before.before.slots.ensures.0 c.before.before.before.before.before.before.if2.false
@@ -96,7 +96,7 @@ add-seen c = omega (
   arith,
   c.before.before.before.before.before.before.if5.true,
   c.before.before.before.before.before.before.before.before.before.before.before.slots.ensures.0,
-  set-short c.before.before.before.before.before.before.before.before.before.before.before.before.before.before.before.before.args.seen.now c.before.before.before.before.before.before.before.before.before.before.before.before.before.before.if1.false
+  set_short c.before.before.before.before.before.before.before.before.before.before.before.before.before.before.before.before.args.seen.now c.before.before.before.before.before.before.before.before.before.before.before.before.before.before.if1.false
       c.before.before.before.before.before.before.before.before.before.before.before.before.before.before.before.before.requires,
 )
 
@@ -104,7 +104,7 @@ slice-write-seen-2 : tie.Need-slice-write-seen-2
 slice-write-seen-2 c = search rules
 
 push-requires-3 : tie.Need-push-requires-3
-push-requires-3 c κs = roomy-more c.before.before.before.before.before.before.before.before.before.before.before.before.before.before.before.before.before.args.seen.now c.before.before.before.push2.new.0
+push-requires-3 c κs = roomy_more c.before.before.before.before.before.before.before.before.before.before.before.before.before.before.before.before.before.args.seen.now c.before.before.before.push2.new.0
     (get_or c.before.before.before.before.before.before.before.before.before.before.before.before.before.before.before.before.before.args.seen.now 1 0) (get_or c.before.before.before.before.before.before.before.before.before.before.before.before.before.before.before.before.before.args.seen.now 2 0) c.before.before.before.before.before.before.before.before.before.before.before.before.slots.result
     c.before.before.before.before.before.before.before.before.before.before.before.before.before.before.before.if1.false
     c.before.before.before.before.before.before.before.before.before.before.before.before.before.before.before.before.before.requires
@@ -116,7 +116,7 @@ same-length-3 c = c.before.before.push3.ensures.0.0 ∙ length-set c.before.befo
     (get_or c.before.before.before.before.before.before.before.before.before.before.before.before.before.before.before.before.before.before.before.before.args.seen.now 0 0 + 1) ∙ c.before.before.before.before.before.before.push2.ensures.0.0
 
 returns-5 : tie.Need-returns-5
-returns-5 c = take-new c.before.before.before.before.before.before.before.before.before.before.before.before.before.before.before.before.before.before.before.before.args.seen.now c.before.before.before.before.before.before.before.before.before.before.before.before.before.before.before.before.before.before.before.before.args.place c.before.before.before.before.before.before.before.before.before.before.before.before.before.before.before.before.before.before.before.before.args.tag
+returns-5 c = take_new c.before.before.before.before.before.before.before.before.before.before.before.before.before.before.before.before.before.before.before.before.args.seen.now c.before.before.before.before.before.before.before.before.before.before.before.before.before.before.before.before.before.before.before.before.args.place c.before.before.before.before.before.before.before.before.before.before.before.before.before.before.before.before.before.before.before.before.args.tag
     c.before.before.before.before.before.before.before.before.before.before.before.before.before.before.before.slots.result
     c.before.before.before.before.before.before.before.before.before.before.before.before.before.before.before.slots.ensures.0
     c.before.before.before.before.before.before.before.before.before.before.before.before.before.before.before.before.if2.false
@@ -134,15 +134,15 @@ same-length-4 : tie.Need-same-length-4
 same-length-4 c = search rules
 
 returns-6 : tie.Need-returns-6
-returns-6 c = full-new c.before.before.before.before.before.before.before.before.before.before.args.seen.now
+returns-6 c = full_new c.before.before.before.before.before.before.before.before.before.before.args.seen.now
     c.before.before.before.before.before.before.before.before.before.before.args.place
     c.before.before.before.before.before.before.before.before.before.before.args.tag c.before.before.before.before.before.slots.result
     c.before.before.before.before.before.slots.ensures.0 c.before.before.before.before.before.before.if2.false
     (owns_as c.before.before.before.before.before.before.before.before.before.before.args.seen.now c.before.before.owned.result false
     c.before.if3.false c.before.before.owned.ensures) c.if5.false
 
-pub take-in-spec : {M : Type 1} → statement M
-take-in-spec =
+pub take_in_spec : {M : Type 1} → statement M
+take_in_spec =
     tie.close
     (tie.spec
     returns

@@ -11,5 +11,5 @@ returns c = record { none = λ e. absurd (omega (arith, c.if1.true)); some = λ 
 returns-2 : tie.Need-returns-2
 returns-2 c = record { none = λ e. refl; some = λ n. absurd (omega (arith, c.if1.false)) }
 
-pub answered-spec : {M : Type 1} → statement M
-answered-spec = tie.close (tie.spec returns returns-2)
+pub answered_spec : {M : Type 1} → statement M
+answered_spec = tie.close (tie.spec returns returns-2)

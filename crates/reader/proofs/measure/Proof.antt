@@ -5,8 +5,8 @@ use Rattle.rules.specs.declared.Utf8Answer.{Utf8Answer}
 use Rattle.rules.specs.Rfc3629.{Judged}
 use Rattle.once.specs.Windows.{nothing}
 use Rattle.reader.specs.Between.Walk.{Searching}
-use Rattle.reader.proofs.WalkWindowLaws.{zeroes-there}
-use Rattle.reader.proofs.AnswersLaws.{measure-long, measure-ill, measure-refused, Counted, measure-counted, search-refused, measure-answered}
+use Rattle.reader.proofs.WalkWindowLaws.{zeroes_there}
+use Rattle.reader.proofs.AnswersLaws.{measure_long, measure_ill, measure_refused, Counted, measure_counted, search_refused, measure_answered}
 use borrow.Author.Rules.{rules}
 use Rattle.reader.proofs.measure.Statement.{statement}
 use Rattle.reader.proofs.measure.Tie as tie
@@ -21,7 +21,7 @@ use Rattle.reader.proofs.walk.Reads as walk-reads
 use Rattle.rules.proofs.utf8.Reads as utf8-reads
 
 returns : tie.Need-returns
-returns c = measure-long c.before.before.args.text.now (omega (arith, c.if1.true))
+returns c = measure_long c.before.before.args.text.now (omega (arith, c.if1.true))
 
 utf8-requires : tie.Need-utf8-requires
 utf8-requires c κs = search rules
@@ -44,7 +44,7 @@ slice-aggregate-walk-3 c = search rules
 walk-requires : tie.Need-walk-requires
 walk-requires c κs = (
   omega (arith, c.before.before.before.before.before.before.if1.false),
-  inr (0, (nothing, zeroes-there _ 520 (omega arith) (omega arith))),
+  inr (0, (nothing, zeroes_there _ 520 (omega arith) (omega arith))),
 )
 
 enum-known-why : tie.Need-enum-known-why
@@ -80,16 +80,16 @@ counted c =
     let a = c.before.before.before.before.before.before.before.before.before.before.before.before.before.before.before.args in
     let walk = c.before.before.before.before.before.before.walk in
     let records = c.before.records in
-    measure-counted a.text.now (omega (
+    measure_counted a.text.now (omega (
       arith,
       c.before.before.before.before.before.before.before.before.before.before.before.before.before.if1.false,
     ))
     (subst (λ (r : Utf8Answer). Judged a.text.now r) c.before.before.before.before.before.before.before.before.before.before.enum_told.given.1 c.before.before.before.before.before.before.before.before.before.before.before.before.utf8.ensures)
-    records.given.0.0 records.given.0.1.0 (rw records.given.1 at walk.ensures) (zeroes-there _ 520 (omega arith) (omega arith))
+    records.given.0.0 records.given.0.1.0 (rw records.given.1 at walk.ensures) (zeroes_there _ 520 (omega arith) (omega arith))
 
 returns-2 : tie.Need-returns-2
 returns-2 c = let t = counted c.before.before.before.before.before.before.before in
-    measure-answered t _ (subst (Searching _ _) (sym c.before.before.further.ensures ∙ c.before.if2.true)
+    measure_answered t _ (subst (Searching _ _) (sym c.before.before.further.ensures ∙ c.before.if2.true)
     (t.searching _ _ c.before.before.before.before.before.first-twice.ensures c.before.before.before.stopped.ensures)) _ c.answered.ensures
 
 searched-requires : tie.Need-searched-requires
@@ -109,12 +109,12 @@ answered-requires-2 c κs = search rules
 
 returns-3 : tie.Need-returns-3
 returns-3 c = let a = c.before.before.before.before.before.before.args in
-    measure-ill a.text.now (omega (arith, c.before.before.before.before.if1.false)) c.before.p.given.0.0
+    measure_ill a.text.now (omega (arith, c.before.before.before.before.if1.false)) c.before.p.given.0.0
     (subst (λ (r : Utf8Answer). Judged a.text.now r) c.before.p.given.1 c.before.before.before.utf8.ensures)
 
 returns-4 : tie.Need-returns-4
 returns-4 c = let a = c.before.before.before.before.before.before.before.before.before.before.before.before.before.before.before.args in
-    measure-refused a.text.now (omega (
+    measure_refused a.text.now (omega (
       arith,
       c.before.before.before.before.before.before.before.before.before.before.before.before.before.if1.false,
     ))
@@ -122,16 +122,16 @@ returns-4 c = let a = c.before.before.before.before.before.before.before.before.
     (rw c.before.why.given.1 at c.before.before.before.before.before.before.walk.ensures)
 
 returns-5 : tie.Need-returns-5
-returns-5 c = absurd (search-refused (counted c.before.before.before.before.before.before.before.before.before.before)
+returns-5 c = absurd (search_refused (counted c.before.before.before.before.before.before.before.before.before.before)
     c.before.why2.given.0.0
     (rw c.before.why2.given.1 at c.before.before.before.searched.ensures))
 
 returns-6 : tie.Need-returns-6
-returns-6 c = measure-answered (counted c.before.before.before.before.before.before.before.before.before.before.before) _
+returns-6 c = measure_answered (counted c.before.before.before.before.before.before.before.before.before.before.before) _
     (rw c.before.before.best.given.1 at c.before.before.before.before.searched.ensures) _ c.answered2.ensures
 
-pub measure-spec : {M : Type 1} → statement M
-measure-spec =
+pub measure_spec : {M : Type 1} → statement M
+measure_spec =
     tie.close
     (tie.spec
     returns

@@ -1,11 +1,11 @@
 use Rattle.reader.specs.Between.Layout.{LayoutEnds}
-use Rattle.reader.proofs.WalkLaws.{walk_at, walk-seen, walk-breaks, walk_refused, walk-ended}
+use Rattle.reader.proofs.WalkLaws.{walk_at, walk_seen, walk_breaks, walk_refused, walk_ended}
 use borrow.Author.Rules.{rules}
 use Rattle.reader.proofs.walk.Statement.{statement}
 use Rattle.reader.proofs.walk.Tie as tie
 use Rattle.reader.proofs.walk.Reads as reads
 use Rattle.reader.proofs.walk.Lts as lts
-use Rattle.reader.proofs.cursor.Cursor.value.Reads as value-reads
+use Rattle.reader.proofs.cursor.Cursor.value.Reads as value_reads
 use Rattle.reader.proofs.ended.Reads as ended-reads
 use Rattle.reader.proofs.layout.pass.Reads as pass-reads
 
@@ -26,7 +26,7 @@ begun c = rw c.before.before.before.before.first.given.1 at c.before.before.befo
 
 value-requires : tie.Need-value-requires
 value-requires c κs = let p = c.before.before.before.before.before.before.before.before.before.before.before.requires in
-    (walk_at _ _ (begun c) p.0, walk-seen _ _ (begun c) _ p.0 p.1)
+    (walk_at _ _ (begun c) p.0, walk_seen _ _ (begun c) _ p.0 p.1)
 
 enum-known-why : tie.Need-enum-known-why
 enum-known-why c = search rules
@@ -39,7 +39,7 @@ ended-requires c κs = let w = rw c.before.next.given.1 at c.before.before.befor
     w.within
 
 returns : tie.Need-returns
-returns c = walk-breaks _ _ (rw c.before.p.given.1 at c.before.before.before.pass.ensures)
+returns c = walk_breaks _ _ (rw c.before.p.given.1 at c.before.before.before.pass.ensures)
 
 same_length : tie.Need-same-length
 same_length c = search rules
@@ -65,11 +65,11 @@ same-length-6 c = search rules
 
 returns-3 : tie.Need-returns-3
 returns-3 c = let w = rw c.before.before.next.given.1 at c.before.before.before.before.before.before.before.before.before.before.value.ensures in
-    walk-ended _ _ (begun c.before.before.before.before.before.before.before.before.before.before.before) _ _ _ _ _ _ _
+    walk_ended _ _ (begun c.before.before.before.before.before.before.before.before.before.before.before) _ _ _ _ _ _ _
     c.before.before.before.before.before.before.before.before.before.before.before.before.before.before.before.before.before.before.before.before.before.before.requires.0 w c.ended.result c.ended.ensures
 
-pub walk-spec : {M : Type 1} → statement M
-walk-spec =
+pub walk_spec : {M : Type 1} → statement M
+walk_spec =
     tie.close
     (tie.spec
     pass-requires

@@ -1,4 +1,4 @@
-use Rattle.reader.proofs.WalkWindowLaws.{window-seen, window-says}
+use Rattle.reader.proofs.WalkWindowLaws.{window_seen, window_says}
 use borrow.Author.Rules.{rules}
 use Rattle.reader.proofs.window.Statement.{statement}
 use Rattle.reader.proofs.window.Tie as tie
@@ -25,7 +25,7 @@ slice-aggregate-walk-2 c = search rules
 
 walk-requires : tie.Need-walk-requires
 walk-requires c κs = let p = c.before.before.before.before.before.before.before.before.before.requires in
-    (p.searching.short, window-seen p c.before.before.before.before.before.begin.new.0 c.before.before.before.before.before.begin.ensures)
+    (p.searching.short, window_seen p c.before.before.before.before.before.begin.new.0 c.before.before.before.before.before.begin.ensures)
 
 enum-known-why : tie.Need-enum-known-why
 enum-known-why c = search rules
@@ -56,13 +56,13 @@ same-length-2 c = search rules
 
 returns-2 : tie.Need-returns-2
 returns-2 c = rw (c.further.ensures, c.before.before.before.least.ensures)
-    (window-says c.before.before.before.before.before.before.before.before.before.before.before.before.before.before.before.before.before.before.before.before.before.before.requires c.before.before.before.before.before.before.before.before.before.before.before.before.before.before.before.before.before.before.begin.ensures _ _ (rw c.before.before.before.before.before.before.enum_told.given.1 at
+    (window_says c.before.before.before.before.before.before.before.before.before.before.before.before.before.before.before.before.before.before.before.before.before.before.requires c.before.before.before.before.before.before.before.before.before.before.before.before.before.before.before.before.before.before.begin.ensures _ _ (rw c.before.before.before.before.before.before.enum_told.given.1 at
     c.before.before.before.before.before.before.before.before.before.before.before.before.walk.ensures)
     c.before.before.before.before.first-twice.result c.before.stopped.result c.before.before.before.before.first-twice.ensures
     c.before.stopped.ensures)
 
-pub window-spec : {M : Type 1} → statement M
-window-spec =
+pub window_spec : {M : Type 1} → statement M
+window_spec =
     tie.close
     (tie.spec
     cast-begin

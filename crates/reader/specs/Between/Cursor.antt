@@ -6,20 +6,20 @@ use Rattle.meaning.specs.declared.Record.{Record}
 use Rattle.meaning.specs.declared.Refusal.{Refusal}
 use Rattle.meaning.specs.declared.Refusal.TheVariants.{TooDeep}
 use Rattle.meaning.specs.Letters.{ch}
-use Rattle.meaning.specs.Limits.{textLimit}
+use Rattle.meaning.specs.Limits.{text_limit}
 use Rattle.meaning.specs.Meaning.{Meaning, Meanings, Members}
-use Rattle.meaning.specs.Tape.{records, store_of, bytes, recordsOf, recordsBytes}
+use Rattle.meaning.specs.Tape.{records, store_of, bytes, records_of, records_bytes}
 use Rattle.meaning.specs.Between.Events.{Event, begins, ends, named}
 use Rattle.grammar.specs.Values.{Inside, elements, members}
 use Rattle.machine.specs.Machine.{Base, want, got, key, value, base, Frame, inside, pair, Conf, at}
-use Rattle.machine.specs.Machine.{Bracket, square, curly, bareOf, wanted, shut, class_of, quoteC}
-use Rattle.machine.specs.Heard.{names, tell, keyHeard, key_at}
-use Rattle.machine.specs.Names.{wordScan}
+use Rattle.machine.specs.Machine.{Bracket, square, curly, bare_of, wanted, shut, class_of, quote_c}
+use Rattle.machine.specs.Heard.{names, tell, key_heard, key_at}
+use Rattle.machine.specs.Names.{word_scan}
 use Rattle.machine.specs.Scan.{ended, broke}
-use Rattle.items.specs.Between.Places.{ranAt}
+use Rattle.items.specs.Between.Places.{ran_at}
 use Rattle.once.specs.Groups.{Does, shallower}
 use Rattle.once.specs.Windows.{Kept, level}
-use Rattle.tape.specs.Between.Putting.{putRecord}
+use Rattle.tape.specs.Between.Putting.{put_record}
 use Rattle.reader.specs.Between.Scanning.{Goes, Hears, Tells, Refuses, Bare, Shut}
 use Rattle.reader.specs.Between.Repeat.{Keeping, Led}
 use Rattle.items.specs.declared.Item.{Item}
@@ -34,30 +34,30 @@ use Rattle.reader.specs.declared.cursor.Member.{Member}
 -- ---- items
 
 -- the record of an item whose store bytes begin at `start`
-abbrev pub recordItem : Item → ℕ → Record
-recordItem Item.Null start = Record.Null
-recordItem (Item.Bool b) start = Record.Bool b
-recordItem (Item.Number n) start = Record.Number n
-recordItem (Item.Time t) start = Record.Time t
-recordItem (Item.Str n) start = Record.Str n start
-recordItem (Item.Bin n) start = Record.Bin n start
+abbrev pub record_item : Item → ℕ → Record
+record_item Item.Null start = Record.Null
+record_item (Item.Bool b) start = Record.Bool b
+record_item (Item.Number n) start = Record.Number n
+record_item (Item.Time t) start = Record.Time t
+record_item (Item.Str n) start = Record.Str n start
+record_item (Item.Bin n) start = Record.Bin n start
 
 -- how many store bytes an item has
-abbrev pub itemBytes : Item → ℕ
-itemBytes Item.Null = 0
-itemBytes (Item.Bool b) = 0
-itemBytes (Item.Number n) = 0
-itemBytes (Item.Time t) = 0
-itemBytes (Item.Str n) = n
-itemBytes (Item.Bin n) = n
+abbrev pub item_bytes : Item → ℕ
+item_bytes Item.Null = 0
+item_bytes (Item.Bool b) = 0
+item_bytes (Item.Number n) = 0
+item_bytes (Item.Time t) = 0
+item_bytes (Item.Str n) = n
+item_bytes (Item.Bin n) = n
 
 -- one item, where a value is wanted: what it means, its record and its store bytes
 pub record Scalar (text : List ℕ) (p start : ℕ) (entry exit : List ℕ) (i : Item) (q : ℕ) : Type 0 where
   pub m : Meaning
   pub runs : (d : ℕ) (k : List Frame) → Goes text (at (base want) d k) p (at (base (got (value m))) d k) q
-  pub taped : (index : ℕ) → recordsOf m index start ≡ recordItem i start ∷ []
+  pub taped : (index : ℕ) → records_of m index start ≡ record_item i start ∷ []
   pub filled : exit ≡ sets entry start (store_of m)
-  pub counted : itemBytes i ≡ bytes m
+  pub counted : item_bytes i ≡ bytes m
   pub room : p + bytes m ≤ q
   pub past : p < q
   pub within : q ≤ length text
@@ -73,22 +73,22 @@ ScalarSays text p start entry exit (Scanned.Refused why) = Unwanted text p why
 -- a word that means this item
 abbrev pub SpeltSays : List ℕ → ℕ → List ℕ → Item → Scanned → Type 0
 SpeltSays text p letters item (Scanned.Item i q) =
-    (ranAt wordScan text letters p ≡ ended tt q) × (q ≤ length text) × (i ≡ item)
-SpeltSays text p letters item (Scanned.Refused why) = ranAt wordScan text letters p ≡ broke why
+    (ran_at word_scan text letters p ≡ ended tt q) × (q ≤ length text) × (i ≡ item)
+SpeltSays text p letters item (Scanned.Refused why) = ran_at word_scan text letters p ≡ broke why
 
 -- a quote stands at p
 pub record Quoted (text : List ℕ) (p : ℕ) : Type 0 where
   pub inside : p < length text
-  pub quote : class_of (get_or text p 0) ≡ quoteC
+  pub quote : class_of (get_or text p 0) ≡ quote_c
 
 -- where an item may stand: no layout, and no opening bracket
 pub record AtScalar (text : List ℕ) (p start : ℕ) : Type 0 where
   pub inside : p < length text
   pub bare : Bare text p
   pub stored : start ≤ p
-  pub short : length text ≤ textLimit
-  pub no-square : get_or text p 0 ≡ ch "[" → ⊥
-  pub no-curly : get_or text p 0 ≡ ch "{" → ⊥
+  pub short : length text ≤ text_limit
+  pub no_square : get_or text p 0 ≡ ch "[" → ⊥
+  pub no_curly : get_or text p 0 ≡ ch "{" → ⊥
 
 -- ---- the cursor
 
@@ -97,7 +97,7 @@ pub record Ready (text : List ℕ) (c : Cursor) : Type 0 where
   pub within : c.at ≤ length text
   pub records : c.records ≤ c.at
   pub stored : c.stored ≤ c.at
-  pub short : length text ≤ textLimit
+  pub short : length text ≤ text_limit
 
 -- where a value is wanted, no layout stands
 pub record AtValue (text : List ℕ) (c : Cursor) : Type 0 where
@@ -109,7 +109,7 @@ pub record Inner (text : List ℕ) (c : Cursor) : Type 0 where
   pub within : c.at ≤ length text
   pub records : c.records < c.at
   pub stored : c.stored < c.at
-  pub short : length text ≤ textLimit
+  pub short : length text ≤ text_limit
 
 -- where a member begins
 pub record AtMember (text : List ℕ) (c : Cursor) : Type 0 where
@@ -132,26 +132,26 @@ pub record Moved (text : List ℕ) (c n : Cursor) : Type 0 where
 -- ---- brackets, commas and colons
 
 -- what an opening bracket says, and the closing bracket of a container
-abbrev pub openingOf : Bracket → List Event
-openingOf square = []
-openingOf curly = begins ∷ []
+abbrev pub opening_of : Bracket → List Event
+opening_of square = []
+opening_of curly = begins ∷ []
 
-abbrev pub closingOf : Inside → List Event
-closingOf (elements x) = []
-closingOf (members x) = ends ∷ []
+abbrev pub closing_of : Inside → List Event
+closing_of (elements x) = []
+closing_of (members x) = ends ∷ []
 
 -- an opening bracket
 pub record Opened (text : List ℕ) (c : Cursor) (y : Bracket) (n : Cursor) : Type 0 where
   pub opens : (d : ℕ) (k : List Frame)
-      → Tells text (at (base want) (suc d) k) c.at (openingOf y)
-      (at (base (wanted (bareOf y))) d (inside (bareOf y) ∷ k)) n.at
+      → Tells text (at (base want) (suc d) k) c.at (opening_of y)
+      (at (base (wanted (bare_of y))) d (inside (bare_of y) ∷ k)) n.at
   pub deep : (k : List Frame) → Refuses text (at (base want) 0 k) c.at (TooDeep c.at)
   pub moved : Moved text c n
 
 pub record OneItem (text : List ℕ) (c : Cursor) (entry exit : List ℕ) (i : Item) (n : Cursor) : Type 0 where
   pub scalar : Scalar text c.at c.stored entry exit i n.at
   pub records : n.records ≡ c.records + 1
-  pub stored : n.stored ≡ c.stored + itemBytes i
+  pub stored : n.stored ≡ c.stored + item_bytes i
 
 abbrev pub HeadSays : List ℕ → Cursor → List ℕ → List ℕ → Head → Type 0
 HeadSays text c entry exit (Head.Item i n) = OneItem text c entry exit i n
@@ -185,7 +185,7 @@ pub record Begins (text : List ℕ) (c : Cursor) (closing : ℕ) (n : Cursor) : 
 abbrev pub AheadSays : List ℕ → Cursor → ℕ → Ahead → Type 0
 AheadSays text c closing (Ahead.Close n) =
     ((y : Inside) → closer y ≡ closing → (d : ℕ) (k : List Frame)
-    → Tells text (within y d k) c.at (closingOf y) (closed y d k) n.at) × Moved text c n
+    → Tells text (within y d k) c.at (closing_of y) (closed y d k) n.at) × Moved text c n
 AheadSays text c closing (Ahead.More n) = Begins text c closing n
 AheadSays text c closing (Ahead.Refused why) =
     (y : Inside) → closer y ≡ closing → (d : ℕ) (k : List Frame) → Refuses text (within y d k) c.at why
@@ -201,7 +201,7 @@ AfterSays text c closing (After.Comma n) =
     → Goes text (at (base (got (value m))) d (f ∷ k)) c.at (within (y m) d k) n.at) × Moved text c n
 AfterSays text c closing (After.Close n) =
     ((f : Frame) (y : Meaning → Inside) → Adds f closing y → (m : Meaning) (d : ℕ) (k : List Frame)
-    → Tells text (at (base (got (value m))) d (f ∷ k)) c.at (closingOf (y m)) (closed (y m) d k) n.at)
+    → Tells text (at (base (got (value m))) d (f ∷ k)) c.at (closing_of (y m)) (closed (y m) d k) n.at)
     × Moved text c n
 AfterSays text c closing (After.Refused why) =
     (f : Frame) (y : Meaning → Inside) → Adds f closing y → (m : Meaning) (d : ℕ) (k : List Frame)
@@ -213,8 +213,8 @@ pub record Coloned (text : List ℕ) (c n : Cursor) : Type 0 where
       → Hears text (at (base (got (key u))) d (inside (members x) ∷ k)) c.at (names u ∷ [])
       (at (base want) d (pair x u ∷ k)) n.at
   -- whatever is open, the colon says what the key means
-  pub names-it : (u : List ℕ) (d : ℕ) (k : List Frame)
-      → keyHeard (tell c.at (at (base (got (key u))) d k) (drop c.at text)).heard ≡ some u
+  pub names_it : (u : List ℕ) (d : ℕ) (k : List Frame)
+      → key_heard (tell c.at (at (base (got (key u))) d k) (drop c.at text)).heard ≡ some u
   pub bare : Bare text n.at
   pub moved : Moved text c n
 
@@ -251,10 +251,10 @@ pub record MemberBegins (text : List ℕ) (c : Cursor) (tape tape' store store' 
     : Type 0 where
   pub size : ℕ
   pub first : ℕ
-  pub key-is : Named text c first store store' size v
-  pub taped : tape' ≡ putRecord tape c.records (Record.Key size c.stored)
+  pub key_is : Named text c first store store' size v
+  pub taped : tape' ≡ put_record tape c.records (Record.Key size c.stored)
   pub noted : (f : ℕ) (s : Kept) → Keeping text seen c.at f s → 0 < length s.keys
-      → Led text seen' v.at f s (named first key-is.u ∷ [])
+      → Led text seen' v.at f s (named first key_is.u ∷ [])
 
 -- in an object where a member may stand
 abbrev pub MemberAheadSays : List ℕ → Cursor → List ℕ → List ℕ → List ℕ → List ℕ → List ℕ → List ℕ → Ahead → Type 0
@@ -276,8 +276,8 @@ abbrev pub keeping : List ℕ → List ℕ → Cursor → Stood
 keeping text seen c f s = Keeping text seen c.at f s
 
 -- after an opening bracket: the keys before the bracket
-abbrev pub keepingBefore : List ℕ → List ℕ → Cursor → Stood
-keepingBefore text seen c f s = Keeping text seen (c.at - 1) f s
+abbrev pub keeping_before : List ℕ → List ℕ → Cursor → Stood
+keeping_before text seen c f s = Keeping text seen (c.at - 1) f s
 
 -- A value has been read, from a state in which `depth` more may open to one in which `top` may: what it means, the
 -- records and the store bytes put, and that these are no more than the bytes passed; and the objects and keys heard.
@@ -291,10 +291,10 @@ pub record Took (text : List ℕ) (start : List Frame → Conf) (top : ℕ) (hea
   pub recorded : n.records ≡ c.records + records m
   pub stored : n.stored ≡ c.stored + bytes m
   pub taped : n.records * 16 ≤ length tape
-      → tape' ≡ sets tape (c.records * 16) (recordsBytes (recordsOf m c.records c.stored))
+      → tape' ≡ sets tape (c.records * 16) (records_bytes (records_of m c.records c.stored))
   pub filled : store' ≡ sets store c.stored (store_of m)
   -- as many objects are open as before
-  pub level-kept : (i : ℕ) → level i (heard ++ keys) ≡ i
+  pub level_kept : (i : ℕ) → level i (heard ++ keys) ≡ i
   pub noted : (f : ℕ) (s : Kept) → stood f s → Led text seen' n.at f s (heard ++ keys)
   pub past : c.at < n.at
   pub few : n.records + c.at ≤ c.records + n.at
@@ -314,11 +314,11 @@ Says text start ok top heard stood c tape tape' store store' seen' (Step.Refused
 -- after a container's closing bracket: its own record is put; an object's keys leave the table
 abbrev pub ArrayClosed : Cursor → ℕ → ℕ → List ℕ → List ℕ → Step → Type 0
 ArrayClosed c own count tape tape' r =
-    (r ≡ Step.Value c) × (tape' ≡ putRecord tape own (Record.Array count c.records))
+    (r ≡ Step.Value c) × (tape' ≡ put_record tape own (Record.Array count c.records))
 
 abbrev pub ObjectClosed : Cursor → ℕ → ℕ → List ℕ → List ℕ → List ℕ → List ℕ → Step → Type 0
 ObjectClosed c own count tape tape' seen seen' r =
-    (r ≡ Step.Value c) × (tape' ≡ putRecord tape own (Record.Object count c.records)) × Does shallower seen seen'
+    (r ≡ Step.Value c) × (tape' ≡ put_record tape own (Record.Object count c.records)) × Does shallower seen seen'
 
 -- where a value has been read, what has been put is no more than what has been passed
 abbrev pub StepReady : List ℕ → Step → Type 0
@@ -335,8 +335,8 @@ abbrev pub wants : ℕ → List Frame → Conf
 wants d k = at (base want) d k
 
 -- inside a container with nothing in it yet
-abbrev pub bareIn : Bracket → ℕ → List Frame → Conf
-bareIn y d k = within (bareOf y) d k
+abbrev pub bare_in : Bracket → ℕ → List Frame → Conf
+bare_in y d k = within (bare_of y) d k
 
 abbrev pub always : List Frame → Type 0
 always k = Unit {0}
@@ -350,6 +350,6 @@ ValueSays text depth c tape tape' store store' seen seen' r =
 abbrev pub InsideSays : List ℕ → Bracket → ℕ → Cursor → List ℕ → List ℕ → List ℕ → List ℕ → List ℕ → List ℕ → Step
     → Type 0
 InsideSays text b depth c tape tape' store store' seen seen' r =
-    Says text (bareIn b depth) always (suc depth) (openingOf b) (keepingBefore text seen c) c tape tape' store store'
+    Says text (bare_in b depth) always (suc depth) (opening_of b) (keeping_before text seen c) c tape tape' store store'
     seen'
     r

@@ -2,8 +2,8 @@
 use Rattle.std.specs.Prelude.{◌≡◌, List, [], ◌∷◌, ℕ, ◌≤◌, ◌<◌, length, get_or, drop}
 use Rattle.meaning.specs.declared.Refusal.{Refusal}
 use Rattle.meaning.specs.declared.Refusal.TheVariants.{NotGrammar}
-use Rattle.machine.specs.Machine.{Use, Item, string-part, binary-part, Got, string, binary, key, Base, wantKey, got}
-use Rattle.machine.specs.Machine.{Mode, base, item, Frame, Conf, at, Class, class_of, plusC, plusAfter}
+use Rattle.machine.specs.Machine.{Use, Item, string_part, binary_part, Got, string, binary, key, Base, want_key, got}
+use Rattle.machine.specs.Machine.{Mode, base, item, Frame, Conf, at, Class, class_of, plus_c, plus_after}
 use Rattle.machine.specs.Heard.{starts}
 use Rattle.machine.specs.Scan.{Out, broke, ran}
 use Rattle.machine.specs.Strings
@@ -17,11 +17,11 @@ use Rattle.reader.specs.declared.joined.Bytes.{Bytes}
 
 -- no plus stands at p
 abbrev pub Plusless : List ℕ → ℕ → Type 0
-Plusless text p = p < length text → class_of (get_or text p 0) ≡ plusC → ⊥
+Plusless text p = p < length text → class_of (get_or text p 0) ≡ plus_c → ⊥
 
 -- after g a plus may come, and then s is expected
 abbrev pub Plus : Got → Base → Type 0
-Plus g s = (o d : ℕ) (k : List Frame) → plusAfter o d k g ≡ at (base s) d k
+Plus g s = (o d : ℕ) (k : List Frame) → plus_after o d k g ≡ at (base s) d k
 
 -- after a part: none follows
 pub record Alone (text : List ℕ) (p q : ℕ) : Type 0 where
@@ -64,8 +64,8 @@ module _ {S : Type 0} (scan : ℕ → S → ℕ → Out S (List ℕ)) (begin : S
 
   -- the part is refused, or what follows it
   pub data Unlinked (text : List ℕ) (p start : ℕ) (entry exit : List ℕ) (why : Refusal) : Type 0 where
-    in-part : ran scan p begin (drop p text) ≡ broke why → Unlinked text p start entry exit why
-    after-part : {n : ℕ} → Linked text p start entry exit n (λ q. Stray text q why)
+    in_part : ran scan p begin (drop p text) ≡ broke why → Unlinked text p start entry exit why
+    after_part : {n : ℕ} → Linked text p start entry exit n (λ q. Stray text q why)
         → Unlinked text p start entry exit why
 
   abbrev pub LinkSays : List ℕ → ℕ → ℕ → List ℕ → List ℕ → Link → Type 0
@@ -90,24 +90,24 @@ BytesSays A part whole text p start entry exit (Bytes.Whole n q) = Joined A part
 BytesSays A part whole text p start entry exit (Bytes.Refused why) =
     (a : A) (d : ℕ) (k : List Frame) → Refuses text (at (item (part a [])) d k) p why
 
-abbrev pub stringPart : Use → List ℕ → Item
-stringPart z u = string-part z u Strings.begin
+abbrev pub string_part_of : Use → List ℕ → Item
+string_part_of z u = string_part z u Strings.begin
 
-abbrev pub binaryPart : Unit {0} → List ℕ → Item
-binaryPart z u = binary-part u Binaries.begin
+abbrev pub binary_part_of : Unit {0} → List ℕ → Item
+binary_part_of z u = binary_part u Binaries.begin
 
-abbrev pub wholeBinary : Unit {0} → List ℕ → Got
-wholeBinary z u = binary u
+abbrev pub whole_binary : Unit {0} → List ℕ → Got
+whole_binary z u = binary u
 
 -- a key: its first byte is heard
 pub record Keyed (text : List ℕ) (p start : ℕ) (entry exit : List ℕ) (q n : ℕ) : Type 0 where
   pub u : List ℕ
   pub runs : (d : ℕ) (k : List Frame)
-      → Hears text (at (base wantKey) d k) p (starts p ∷ []) (at (base (got (key u))) d k) q
+      → Hears text (at (base want_key) d k) p (starts p ∷ []) (at (base (got (key u))) d k) q
   pub meant : Meant start entry exit u n p q
   pub within : q ≤ length text
 
 abbrev pub KeySays : List ℕ → ℕ → ℕ → List ℕ → List ℕ → Bytes → Type 0
 KeySays text p start entry exit (Bytes.Whole n q) = Keyed text p start entry exit q n
 KeySays text p start entry exit (Bytes.Refused why) =
-    (d : ℕ) (k : List Frame) → Shut text p d k → Refuses text (at (base wantKey) d k) p why
+    (d : ℕ) (k : List Frame) → Shut text p d k → Refuses text (at (base want_key) d k) p why

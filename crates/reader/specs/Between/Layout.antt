@@ -29,7 +29,7 @@ CommentSays text mode p (Comment.NotGrammar q) = Breaks text mode p q
 -- a comment that may begin at p
 abbrev pub MaybeSays : List ℕ → ℕ → Comment → Type 0
 MaybeSays text p Comment.Absent =
-    (Machine.class_of (get_or text p 0) ≡ Machine.hashC → ⊥) × (Machine.class_of (get_or text p 0) ≡ Machine.slashC → ⊥)
+    (Machine.class_of (get_or text p 0) ≡ Machine.hash_c → ⊥) × (Machine.class_of (get_or text p 0) ≡ Machine.slash_c → ⊥)
 MaybeSays text p (Comment.Ended q) = Commented text base p q × (p < q)
 MaybeSays text p (Comment.NotGrammar q) = Breaks text base p q
 
@@ -37,7 +37,7 @@ MaybeSays text p (Comment.NotGrammar q) = Breaks text base p q
 pub record Blanks (text : List ℕ) (p q : ℕ) : Type 0 where
   pub goes : Passes text p q
   pub onward : Onward text p q
-  pub stopped : q < length text → Machine.class_of (get_or text q 0) ≡ Machine.blankC → ⊥
+  pub stopped : q < length text → Machine.class_of (get_or text q 0) ≡ Machine.blank_c → ⊥
 
 -- all the layout from p on
 pub record LayoutEnds (text : List ℕ) (p q : ℕ) : Type 0 where

@@ -3,11 +3,11 @@
 use Rattle.std.specs.Prelude.{◌≡◌, ◌⊎◌, Bool, true, List, [], ◌∷◌, ℕ, ◌+◌, ◌≤◌, ◌<◌, length, get_or}
 use Rattle.std.proofs.Math.Option.{some}
 use Rattle.meaning.specs.Letters.{ch}
-use Rattle.meaning.specs.Limits.{textLimit}
+use Rattle.meaning.specs.Limits.{text_limit}
 use Rattle.meaning.specs.Once.{same}
 use Rattle.meaning.specs.Between.Events.{Event, named}
 use Rattle.machine.specs.Heard.{key_at}
-use Rattle.once.specs.Hash.{hashOf}
+use Rattle.once.specs.Hash.{hash_of}
 use Rattle.once.specs.Windows.{Kept, hits, all, present}
 use Rattle.once.specs.Keeping.{Keeps, Goes}
 use Rattle.reader.specs.Between.Scanning.{Bare}
@@ -23,11 +23,11 @@ pub record AtKey (text : List ℕ) (q : ℕ) : Type 0 where
   pub u : List ℕ
   pub is : KeyIs text q u
   pub inside : q < length text
-  pub short : length text ≤ textLimit
+  pub short : length text ≤ text_limit
 
 -- the table holds the keys before a place, in the window from f on
 abbrev pub Keeping : List ℕ → List ℕ → ℕ → ℕ → Kept → Type 0
-Keeping text seen at f s = Keeps (KeyIs text) (hashOf f) seen at f s
+Keeping text seen at f s = Keeps (KeyIs text) (hash_of f) seen at f s
 
 -- a table, or none
 abbrev pub Tabled : List ℕ → List ℕ → ℕ → Type 0
@@ -35,7 +35,7 @@ Tabled text seen at = (length seen < 12) ⊎ ((f : ℕ) × ((s : Kept) × Keepin
 
 -- the table stands where these events lead
 abbrev pub Led : List ℕ → List ℕ → ℕ → ℕ → Kept → List Event → Type 0
-Led text seen at f s es = Goes (KeyIs text) (hashOf f) seen at f s es
+Led text seen at f s es = Goes (KeyIs text) (hash_of f) seen at f s es
 
 -- ---- one key
 
@@ -47,7 +47,7 @@ abbrev pub OverSays : List ℕ → Spelling → Bool → Type 0
 OverSays text s r = (e u : List ℕ) → Spells text s e u → r ≡ same e u
 
 abbrev pub TagSays : List ℕ → ℕ → ℕ → ℕ → Type 0
-TagSays text q salt r = (u : List ℕ) → KeyIs text q u → r ≡ hashOf salt u
+TagSays text q salt r = (u : List ℕ) → KeyIs text q u → r ≡ hash_of salt u
 
 -- a colon stands at q
 abbrev pub ColonAtSays : List ℕ → ℕ → Bool → Type 0

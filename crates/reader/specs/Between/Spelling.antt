@@ -7,8 +7,8 @@ use Rattle.machine.specs.Scan.{ended, ran}
 use Rattle.machine.specs.Names
 use Rattle.machine.specs.Strings
 use Rattle.machine.specs.Strings.{Bad, mk, whole, body, lines, begin}
-use Rattle.machine.specs.Machine.{as-key, string, key, got, base, Conf, at}
-use Rattle.machine.specs.Heard.{tell, keyHeard}
+use Rattle.machine.specs.Machine.{as_key, string, key, got, base, Conf, at}
+use Rattle.machine.specs.Heard.{tell, key_heard}
 use Rattle.reader.specs.declared.spelling.Spelling.{Spelling}
 use Rattle.reader.specs.declared.spelling.Spelt.{Spelt}
 use Rattle.reader.specs.declared.spelling.Letter.{Letter}
@@ -16,32 +16,32 @@ use Rattle.reader.specs.declared.spelling.Letter.{Letter}
 -- ---- a character
 
 -- the last bytes of a character's UTF-8 form, so many
-abbrev pub dueOf : ℕ → ℕ → List ℕ
-dueOf c left = drop (length (encode c) - left) (encode c)
+abbrev pub due_of : ℕ → ℕ → List ℕ
+due_of c left = drop (length (encode c) - left) (encode c)
 
 -- the first of them
 abbrev pub OctetSays : ℕ → ℕ → ℕ → Type 0
-OctetSays c left r = 0 < left → left ≤ length (encode c) → dueOf c left ≡ r ∷ dueOf c (left - 1)
+OctetSays c left r = 0 < left → left ≤ length (encode c) → due_of c left ≡ r ∷ due_of c (left - 1)
 
 -- ---- what is still to be heard
 
 -- from the state c at p on, the first colon names u
 abbrev pub NamesNext : List ℕ → Conf → ℕ → List ℕ → Type 0
-NamesNext text c p u = keyHeard (tell p c (drop p text)).heard ≡ some u
+NamesNext text c p u = key_heard (tell p c (drop p text)).heard ≡ some u
 
 -- behind string parts of these bytes, or behind an identifier
-abbrev pub gotParts : List ℕ → Conf
-gotParts e = at (base (got (string as-key e))) 0 []
+abbrev pub got_parts : List ℕ → Conf
+got_parts e = at (base (got (string as_key e))) 0 []
 
-abbrev pub gotName : List ℕ → Conf
-gotName e = at (base (got (key e))) 0 []
+abbrev pub got_name : List ℕ → Conf
+got_name e = at (base (got (key e))) 0 []
 
 -- a string part at p, the scanner in the state s: where it has closed, behind the bytes before it, u is named
 pub record Part (text : List ℕ) (s : Strings.St) (p : ℕ) (before u : List ℕ) : Type 0 where
   pub value : List ℕ
   pub close : ℕ
   pub runs : ran Strings.scan p s (drop p text) ≡ ended value close
-  pub names : NamesNext text (gotParts (before ++ value)) close u
+  pub names : NamesNext text (got_parts (before ++ value)) close u
 
 -- the bytes e are those of the parts before and those of this part so far, which the scanner's state has
 pub record Inside (text : List ℕ) (state : List ℕ → Strings.St) (p : ℕ) (e u : List ℕ) : Type 0 where
@@ -62,7 +62,7 @@ pub record Naming (text : List ℕ) (p : ℕ) (e u : List ℕ) : Type 0 where
   pub value : List ℕ
   pub close : ℕ
   pub runs : ran Names.scan p (Names.name e) (drop p text) ≡ ended value close
-  pub names : NamesNext text (gotName value) close u
+  pub names : NamesNext text (got_name value) close u
 
 -- the bytes e have been given: the key is going to be u
 abbrev pub Spells : List ℕ → Spelling → List ℕ → List ℕ → Type 0
@@ -71,7 +71,7 @@ Spells text (Spelling.Opening p) e u = Part text begin p e u
 Spells text (Spelling.Quoted p quote) e u = Quoting text p quote e u
 Spells text (Spelling.Lines p quote) e u = Inside text (lines quote 0) p e u
 Spells text (Spelling.Due c left p quote) e u =
-    (left ≤ length (encode c)) × Quoting text p quote (e ++ dueOf c left) u
+    (left ≤ length (encode c)) × Quoting text p quote (e ++ due_of c left) u
 
 -- ---- steps
 
@@ -83,16 +83,16 @@ InText text (Spelling.Lines p quote) = p ≤ length text
 InText text (Spelling.Due c left p quote) = (p ≤ length text) × (c ≤ 0x10FFFF) × (0 < left) × (left ≤ 4)
 
 -- a number that falls with each step
-abbrev pub toCome : List ℕ → Spelling → ℕ
-toCome text (Spelling.Name p) = 8 * (length text - p)
-toCome text (Spelling.Opening p) = 8 * (length text - p)
-toCome text (Spelling.Quoted p quote) = 8 * (length text - p)
-toCome text (Spelling.Lines p quote) = 8 * (length text - p)
-toCome text (Spelling.Due c left p quote) = 8 * (length text - p) + left
+abbrev pub to_come : List ℕ → Spelling → ℕ
+to_come text (Spelling.Name p) = 8 * (length text - p)
+to_come text (Spelling.Opening p) = 8 * (length text - p)
+to_come text (Spelling.Quoted p quote) = 8 * (length text - p)
+to_come text (Spelling.Lines p quote) = 8 * (length text - p)
+to_come text (Spelling.Due c left p quote) = 8 * (length text - p) + left
 
 pub record Further (text : List ℕ) (most : ℕ) (s : Spelling) : Type 0 where
   pub within : InText text s
-  pub falls : toCome text s < most
+  pub falls : to_come text s < most
 
 -- a step from where the bytes e lead to the key u as From says
 abbrev pub StepFromSays : List ℕ → ℕ → (List ℕ → List ℕ → Type 0) → Spelt → Type 0
@@ -102,11 +102,11 @@ StepFromSays text most From (Spelt.On s) = Further text most s × ((e u : List �
 StepFromSays text most From Spelt.Over = (e u : List ℕ) → From e u → e ≡ u
 
 abbrev pub StepSays : List ℕ → Spelling → Spelt → Type 0
-StepSays text s = StepFromSays text (toCome text s) (Spells text s)
+StepSays text s = StepFromSays text (to_come text s) (Spells text s)
 
 abbrev pub LetterSays : List ℕ → Spelling → Letter → Type 0
 LetterSays text s (Letter.Byte b t) =
-    Further text (toCome text s) t × ((e u : List ℕ) → Spells text s e u → Spells text t (e ++ (b ∷ [])) u)
+    Further text (to_come text s) t × ((e u : List ℕ) → Spells text s e u → Spells text t (e ++ (b ∷ [])) u)
 LetterSays text s Letter.Over = (e u : List ℕ) → Spells text s e u → e ≡ u
 
 -- three quotes stand at p, or not

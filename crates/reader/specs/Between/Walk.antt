@@ -3,19 +3,19 @@
 use Rattle.std.specs.Prelude.{◌≡◌, List, [], ℕ, ◌≤◌, ◌<◌, ◌^◌, length, drop}
 use Rattle.std.proofs.lemmas.List.Edits.{sets}
 use Rattle.meaning.specs.declared.Refusal.TheVariants.{RepeatedKey}
-use Rattle.meaning.specs.Limits.{textLimit}
+use Rattle.meaning.specs.Limits.{text_limit}
 use Rattle.meaning.specs.Meaning.{Meaning}
-use Rattle.meaning.specs.Tape.{records, bytes, tapeOf, store_of}
+use Rattle.meaning.specs.Tape.{records, bytes, tape_of, store_of}
 use Rattle.meaning.specs.Between.Events.{Event}
 use Rattle.machine.specs.Machine.{got, value, base, at, Ok, No, reading}
-use Rattle.machine.specs.Heard.{tell, telling, heardOf}
+use Rattle.machine.specs.Heard.{tell, telling, heard_of}
 use Rattle.once.specs.Windows.{Kept, SearchedTo, NoneOrLater}
 use Rattle.reader.specs.declared.Answer.{Answer}
 use Rattle.reader.specs.declared.Answer.TheVariants.{Counts, Refused}
 use Rattle.reader.specs.declared.Windowed.{Windowed}
 use Rattle.reader.specs.declared.Search.{Search}
 use Rattle.reader.specs.declared.cursor.Cursor.{Cursor}
-use Rattle.reader.specs.Answers.{tapeBytes}
+use Rattle.reader.specs.Answers.{tape_bytes}
 use Rattle.reader.specs.Between.Scanning.{Refuses}
 use Rattle.reader.specs.Between.Repeat.{Keeping, Led}
 
@@ -30,11 +30,11 @@ EndedSays text c (Refused why) = (m : Meaning) (d : ℕ) → Refuses text (at (b
 
 pub record Walked (text tape tape' store store' seen seen' : List ℕ) (m : Meaning) : Type 0 where
   pub keys : List Event
-  pub told : telling text ≡ record { verdict = Ok m; heard = heardOf keys }
+  pub told : telling text ≡ record { verdict = Ok m; heard = heard_of keys }
   pub reads : reading text ≡ Ok m
   -- they are noted in a table that stands at the text's first byte
   pub noted : (f : ℕ) (s : Kept) → Keeping text seen 0 f s → Led text seen' (length text) f s keys
-  pub taped : tapeBytes m ≤ length tape → tape' ≡ sets tape 0 (tapeOf m)
+  pub taped : tape_bytes m ≤ length tape → tape' ≡ sets tape 0 (tape_of m)
   pub filled : store' ≡ sets store 0 (store_of m)
   pub few : records m ≤ length text
   pub short : bytes m ≤ length text
@@ -49,9 +49,9 @@ WalkSays text tape tape' store store' seen seen' (Refused why) = reading text �
 -- the search among the text's keys, as far as `from`
 pub record Searching (text : List ℕ) (best from : ℕ) : Type 0 where
   pub keys : List Event
-  pub told : (telling text).heard ≡ heardOf keys
+  pub told : (telling text).heard ≡ heard_of keys
   pub windows : SearchedTo (length text) keys best from
-  pub short : length text ≤ textLimit
+  pub short : length text ≤ text_limit
 
 -- a further window, by this table
 pub record AtWindow (text seen : List ℕ) (best from : ℕ) : Type 0 where

@@ -2,7 +2,7 @@
 use mathlib.Core.Path.{refl}
 use native.Mathlib.Omega.{arith}
 use Rattle.rules.specs.Rfc3339.{none}
-use Rattle.rules.proofs.Months.{too-late, a-date}
+use Rattle.rules.proofs.Months.{too_late, a_date}
 use borrow.Author.Rules.{rules}
 use Rattle.rules.proofs.date.Statement.{statement}
 use Rattle.rules.proofs.date.Tie as tie
@@ -20,11 +20,11 @@ days-requires : tie.Need-days-requires
 days-requires c κs = search rules
 
 returns-3 : tie.Need-returns-3
-returns-3 c = too-late _ _ _ _ c.before.days.ensures c.if3.true
+returns-3 c = too_late _ _ _ _ c.before.days.ensures c.if3.true
 
 returns-4 : tie.Need-returns-4
 returns-4 c =
-    a-date _ _ _ _ (omega arith) (omega arith) c.before.days.ensures c.if3.false
+    a_date _ _ _ _ (omega arith) (omega arith) c.before.days.ensures c.if3.false
 
-pub date-spec : {M : Type 1} → statement M
-date-spec = tie.close (tie.spec returns returns-2 days-requires returns-3 returns-4)
+pub date_spec : {M : Type 1} → statement M
+date_spec = tie.close (tie.spec returns returns-2 days-requires returns-3 returns-4)

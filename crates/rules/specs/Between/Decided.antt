@@ -1,6 +1,6 @@
 -- The first fault of any bytes, and whether three numbers are a date (docs/FORMAT.md, 1.1 and 6), as functions that
--- compute. That they answer what Rfc3629 and Rfc3339 allow is proved (`judged-is` of proofs/Decided.antt; `date-is`,
--- `is-date` of proofs/Months.antt). Assumes nothing.
+-- compute. That they answer what Rfc3629 and Rfc3339 allow is proved (`judged_is` of proofs/Decided.antt; `date_is`,
+-- `is_date_lem` of proofs/Months.antt). Assumes nothing.
 use Rattle.std.specs.Prelude.{Bool, true, false, cond, List, [], ◌∷◌, ℕ, zero, suc, ◌+◌, ◌-◌, ◌/◌, ◌%◌, eqb, leb, ltb, length, get_or}
 use Rattle.std.specs.Int.Count.{count_leading_zeros}
 use Rattle.rules.specs.Between.Posts.{low_of, high_of}
@@ -32,29 +32,29 @@ unfoldable pub length_at : List ℕ → ℕ → ℕ
 length_at s i = let n = ones (get_or s i 0) in cond (eqb n 0) 1 (cond (is_wide s i n) n 0)
 
 -- from the place i on, in at most so many characters
-unfoldable pub faultFrom : ℕ → List ℕ → ℕ → Utf8Answer
-faultFrom zero s i = Done
-faultFrom (suc f) s i =
+unfoldable pub fault_from : ℕ → List ℕ → ℕ → Utf8Answer
+fault_from zero s i = Done
+fault_from (suc f) s i =
     let n = length_at s i in
-    let further = faultFrom f s (i + n) in
+    let further = fault_from f s (i + n) in
     cond (leb (length s) i) Done (cond (eqb n 0) (IllFormed i) further)
 
 -- what `utf8` answers
 unfoldable pub judged : List ℕ → Utf8Answer
-judged s = faultFrom (length s) s 0
+judged s = fault_from (length s) s 0
 
 -- ---- a date
 
-unfoldable pub isLeap : ℕ → Bool
-isLeap y = cond (eqb (y % 4) 0) (cond (eqb (y % 100) 0) (eqb (y % 400) 0) true) false
+unfoldable pub is_leap : ℕ → Bool
+is_leap y = cond (eqb (y % 4) 0) (cond (eqb (y % 100) 0) (eqb (y % 400) 0) true) false
 
 -- the days of a month other than February: up to July the odd months have 31, from August on the even ones
-abbrev pub longOrShort : ℕ → ℕ
-longOrShort m = 30 + (m + m / 8) % 2
+abbrev pub long_or_short : ℕ → ℕ
+long_or_short m = 30 + (m + m / 8) % 2
 
 -- the days of a month, in a leap year or not; 0 where the number is no month
-abbrev pub daysOf : Bool → ℕ → ℕ
-daysOf leap m = cond (eqb m 2) (cond leap 29 28) (cond (leb 1 m) (cond (leb m 12) (longOrShort m) 0) 0)
+abbrev pub days_of : Bool → ℕ → ℕ
+days_of leap m = cond (eqb m 2) (cond leap 29 28) (cond (leb 1 m) (cond (leb m 12) (long_or_short m) 0) 0)
 
-unfoldable pub isDate : ℕ → ℕ → ℕ → Bool
-isDate y m d = cond (leb y 9999) (cond (leb 1 d) (leb d (daysOf (isLeap y) m)) false) false
+unfoldable pub is_date : ℕ → ℕ → ℕ → Bool
+is_date y m d = cond (leb y 9999) (cond (leb 1 d) (leb d (days_of (is_leap y) m)) false) false

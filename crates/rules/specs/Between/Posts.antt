@@ -43,4 +43,4 @@ high_of a = cond (eqb a 0xED) 0x9F (cond (eqb a 0xF4) 0x8F 0xBF)
 -- the days of the month, or 0 where the number is no month
 pub data Lasts (y m : ℕ) : ℕ → Type 0 where
   month : {n : ℕ} → Days y m n → Lasts y m n
-  no-month : ((n : ℕ) → Days y m n → ⊥) → Lasts y m 0
+  no_month : ((n : ℕ) → Days y m n → ⊥) → Lasts y m 0

@@ -2,7 +2,7 @@
 use mathlib.Core.Path.{refl}
 use native.Mathlib.Omega.{arith}
 use Rattle.tape.specs.Looking.{past_end}
-use Rattle.tape.proofs.LookingLaws.{look-found, look-junk, look-fault}
+use Rattle.tape.proofs.LookingLaws.{look_found, look_junk, look_fault}
 use borrow.Author.Rules.{rules}
 use Rattle.tape.proofs.look.Statement.{statement}
 use Rattle.tape.proofs.look.Tie as tie
@@ -26,7 +26,7 @@ own-fields-requires : tie.Need-own-fields-requires
 own-fields-requires c κs = search rules
 
 returns-2 : tie.Need-returns-2
-returns-2 c = look-found c.before.before.before.before.before.before.before.before.before.args.tape.now
+returns-2 c = look_found c.before.before.before.before.before.before.before.before.before.args.tape.now
     c.before.before.before.before.before.before.before.before.before.args.store.now
     c.before.before.before.before.before.before.before.before.before.args.index
     (λ j. (c.before.before.before.before.before.before.before.before.shared-slice-known.given j).fits)
@@ -34,13 +34,13 @@ returns-2 c = look-found c.before.before.before.before.before.before.before.befo
     c.before.before.before.r.given.1 c.before.own-fields.ensures c.if2.true
 
 returns-3 : tie.Need-returns-3
-returns-3 c = look-junk c.before.before.before.before.before.before.args.tape.now
+returns-3 c = look_junk c.before.before.before.before.before.before.args.tape.now
     c.before.before.before.before.before.before.args.store.now c.before.before.before.before.before.before.args.index
     (λ j. (c.before.before.before.before.before.shared-slice-known.given j).fits) (omega (arith, c.before.before.before.if1.false))
     c.before.before.shape_at.ensures c.enum_told.given.1
 
 returns-4 : tie.Need-returns-4
-returns-4 c = look-fault c.before.before.before.before.before.before.before.before.before.args.tape.now
+returns-4 c = look_fault c.before.before.before.before.before.before.before.before.before.args.tape.now
     c.before.before.before.before.before.before.before.before.before.args.store.now
     c.before.before.before.before.before.before.before.before.before.args.index
     (λ j. (c.before.before.before.before.before.before.before.before.shared-slice-known.given j).fits)

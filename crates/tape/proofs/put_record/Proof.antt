@@ -1,7 +1,7 @@
 -- `put_record`: the part that was lent to its four numbers, come back. Assumes nothing.
 use mathlib.Core.Path.{refl, sym}
 use native.Mathlib.Omega.{arith}
-use Rattle.tape.proofs.PuttingLaws.{put-by-words, record-no-room}
+use Rattle.tape.proofs.PuttingLaws.{put_by_words, record_no_room}
 use borrow.Author.Rules.{rules}
 use Rattle.tape.proofs.put_record.Statement.{statement}
 use Rattle.tape.proofs.put_record.Tie as tie
@@ -31,16 +31,16 @@ same_length : tie.Need-same-length
 same_length c = search rules
 
 returns : tie.Need-returns
-returns c = put-by-words c.before.before.before.before.before.before.before.args.tape.now _
+returns c = put_by_words c.before.before.before.before.before.before.before.args.tape.now _
     c.before.before.before.before.before.before.before.args.index _ _ _ c.before.before.before.words_of.ensures
-    (omega (arith, c.before.before.before.before.before.if1.true)) refl c.before.before.put-words.ensures
+    (omega (arith, c.before.before.before.before.before.if1.true)) refl c.before.before.put_words.ensures
 
 returns-2 : tie.Need-returns-2
-returns-2 c = sym (record-no-room c.before.before.args.tape.now c.before.before.args.index c.before.before.args.r
+returns-2 c = sym (record_no_room c.before.before.args.tape.now c.before.before.args.index c.before.before.args.r
     (omega (arith, c.if1.false)))
 
-pub put-record-spec : {M : Type 1} → statement M
-put-record-spec =
+pub put_record_spec : {M : Type 1} → statement M
+put_record_spec =
     tie.close
     (tie.spec
     mul_at

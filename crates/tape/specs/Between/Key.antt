@@ -3,29 +3,29 @@
 use Rattle.std.specs.Prelude.{◌≡◌, Bool, true, false, cond, List, [], ◌∷◌, ◌++◌, ℕ, suc, ◌+◌, ◌-◌, ◌*◌, ◌/◌, ◌≤◌, ◌<◌, leb, length, get_or, take, drop}
 use Rattle.meaning.specs.declared.Record.{Record}
 use Rattle.meaning.specs.Once.{same}
-use Rattle.meaning.specs.Limits.{recordLimit, depthLimit}
+use Rattle.meaning.specs.Limits.{record_limit, depth_limit}
 use Rattle.meaning.specs.Look.{RecordAt}
-use Rattle.meaning.specs.Between.Events.{Event, begins, ends, named, firstRepeat}
+use Rattle.meaning.specs.Between.Events.{Event, begins, ends, named, first_repeat}
 use Rattle.once.specs.Groups.{Stands, Placed, Tagged}
-use Rattle.once.specs.Hash.{hashOf}
+use Rattle.once.specs.Hash.{hash_of}
 use Rattle.once.specs.Windows.{hits, all, num, Kept, nothing, present, level, SearchedTo, NoneOrLater}
 use Rattle.once.specs.Keeping.{Keeps, Goes}
 use Rattle.tape.specs.declared.key.Window.{Window}
-use Rattle.tape.specs.Between.Standing.{readAt, recordsFrom}
+use Rattle.tape.specs.Between.Standing.{read_at, records_from}
 
 -- ---- what happens to keys, record by record
 
 -- an open container, by its end
 pub data Open : Type 0 where
-  arrayTo objectTo : ℕ → Open
+  array_to object_to : ℕ → Open
 
 abbrev pub end_of : Open → ℕ
-end_of (arrayTo e) = e
-end_of (objectTo e) = e
+end_of (array_to e) = e
+end_of (object_to e) = e
 
 abbrev pub ending : Open → List Event
-ending (arrayTo e) = []
-ending (objectTo e) = ends ∷ []
+ending (array_to e) = []
+ending (object_to e) = ends ∷ []
 
 -- before index i what ends there or before closes, the innermost first; and what is left open
 unfoldable pub closings : ℕ → List Open → List Event
@@ -37,10 +37,10 @@ left i [] = []
 left i (o ∷ os) = cond (leb (end_of o) i) (left i os) (o ∷ os)
 
 -- the innermost is an object
-abbrev pub inObject : List Open → Bool
-inObject [] = false
-inObject (arrayTo e ∷ os) = false
-inObject (objectTo e ∷ os) = true
+abbrev pub in_object : List Open → Bool
+in_object [] = false
+in_object (array_to e ∷ os) = false
+in_object (object_to e ∷ os) = true
 
 -- what a record does: an object begins; a key counts where it stands in an object
 abbrev pub gives : List ℕ → List Open → ℕ → Record → List Event
@@ -48,50 +48,50 @@ gives store os i Record.Null = []
 gives store os i (Record.Bool b) = []
 gives store os i (Record.Number n) = []
 gives store os i (Record.Str size start) = []
-gives store os i (Record.Key size start) = cond (inObject os) (named i (take size (drop start store)) ∷ []) []
+gives store os i (Record.Key size start) = cond (in_object os) (named i (take size (drop start store)) ∷ []) []
 gives store os i (Record.Bin size start) = []
 gives store os i (Record.Time t) = []
 gives store os i (Record.Array count end) = []
 gives store os i (Record.Object count end) = begins ∷ []
 
 -- what is open after it
-abbrev pub openAfter : Record → List Open → List Open
-openAfter Record.Null os = os
-openAfter (Record.Bool b) os = os
-openAfter (Record.Number n) os = os
-openAfter (Record.Str size start) os = os
-openAfter (Record.Key size start) os = os
-openAfter (Record.Bin size start) os = os
-openAfter (Record.Time t) os = os
-openAfter (Record.Array count end) os = arrayTo end ∷ os
-openAfter (Record.Object count end) os = objectTo end ∷ os
+abbrev pub open_after : Record → List Open → List Open
+open_after Record.Null os = os
+open_after (Record.Bool b) os = os
+open_after (Record.Number n) os = os
+open_after (Record.Str size start) os = os
+open_after (Record.Key size start) os = os
+open_after (Record.Bin size start) os = os
+open_after (Record.Time t) os = os
+open_after (Record.Array count end) os = array_to end ∷ os
+open_after (Record.Object count end) os = object_to end ∷ os
 
 -- the events of records, the first at index i, where so much is open; what ends where they do closes too
-unfoldable pub eventsIn : List ℕ → List Record → ℕ → List Open → List Event
-eventsIn store [] i os = closings i os
-eventsIn store (r ∷ rs) i os =
-    closings i os ++ (gives store (left i os) i r ++ eventsIn store rs (i + 1) (openAfter r (left i os)))
+unfoldable pub events_in : List ℕ → List Record → ℕ → List Open → List Event
+events_in store [] i os = closings i os
+events_in store (r ∷ rs) i os =
+    closings i os ++ (gives store (left i os) i r ++ events_in store rs (i + 1) (open_after r (left i os)))
 
 -- no more are open at once than may be
 abbrev pub Shallow : List Record → ℕ → List Open → Type 0
 Shallow [] i os = Unit {0}
-Shallow (r ∷ rs) i os = (length (openAfter r (left i os)) ≤ depthLimit) × Shallow rs (i + 1) (openAfter r (left i os))
+Shallow (r ∷ rs) i os = (length (open_after r (left i os)) ≤ depth_limit) × Shallow rs (i + 1) (open_after r (left i os))
 
 -- ---- the first repeated key
 
 -- the events of the records below a bound
-abbrev pub eventsBelow : List ℕ → List ℕ → ℕ → List Event
-eventsBelow tape store bound = eventsIn store (recordsFrom bound tape 0) 0 []
+abbrev pub events_below : List ℕ → List ℕ → ℕ → List Event
+events_below tape store bound = events_in store (records_from bound tape 0) 0 []
 
 -- the least index below the bound of a key that repeats an earlier one of its object; 0 for none
 abbrev pub first_of : List ℕ → List ℕ → ℕ → ℕ
-first_of tape store bound = num (firstRepeat [] (eventsBelow tape store bound))
+first_of tape store bound = num (first_repeat [] (events_below tape store bound))
 
 -- each record below the bound stands by itself
 pub record Standing (tape store : List ℕ) (bound : ℕ) : Type 0 where
-  pub few : bound ≤ recordLimit
-  pub each : (k : ℕ) → k < bound → RecordAt tape store k (readAt tape k)
-  pub shallow : Shallow (recordsFrom bound tape 0) 0 []
+  pub few : bound ≤ record_limit
+  pub each : (k : ℕ) → k < bound → RecordAt tape store k (read_at tape k)
+  pub shallow : Shallow (records_from bound tape 0) 0 []
 
 -- ---- a key, and those of its object that are taken in
 
@@ -117,8 +117,8 @@ pub data SlotIs (tape store key : List ℕ) (tag : ℕ) (seen : List ℕ) (at : 
 
 -- the table of a window, at some index, and the tag of a key
 pub record Tabled (tape store key : List ℕ) (tag : ℕ) (seen : List ℕ) (at from : ℕ) (s : Kept) : Type 0 where
-  pub keeps : Keeps (KeyIs tape store) (hashOf from) seen at from s
-  pub tagged : tag ≡ hashOf from key
+  pub keeps : Keeps (KeyIs tape store) (hash_of from) seen at from s
+  pub tagged : tag ≡ hash_of from key
 
 abbrev pub Seeks : List ℕ → List ℕ → List ℕ → ℕ → List ℕ → Type 0
 Seeks tape store key tag seen = (at : ℕ) × ((from : ℕ) × ((s : Kept) × Tabled tape store key tag seen at from s))
@@ -129,10 +129,10 @@ Repeats tape store key tag seen r =
 
 -- the key at an index comes, in an object
 pub record Comes (tape store : List ℕ) (index from : ℕ) (key seen : List ℕ) (s : Kept) : Type 0 where
-  pub keeps : Keeps (KeyIs tape store) (hashOf from) seen index from s
+  pub keeps : Keeps (KeyIs tape store) (hash_of from) seen index from s
   pub is : KeyIs tape store index key
   pub inside : 0 < length s.keys
-  pub few : index < recordLimit
+  pub few : index < record_limit
 
 abbrev pub Coming : List ℕ → List ℕ → ℕ → ℕ → List ℕ → List ℕ → Type 0
 Coming tape store index from key seen = (s : Kept) × Comes tape store index from key seen s
@@ -140,14 +140,14 @@ Coming tape store index from key seen = (s : Kept) × Comes tape store index fro
 abbrev pub Notes : List ℕ → List ℕ → ℕ → ℕ → List ℕ → List ℕ → List ℕ → Type 0
 Notes tape store index from key seen seen' =
     (s : Kept) → Comes tape store index from key seen s
-    → Goes (KeyIs tape store) (hashOf from) seen' (index + 1) from s (named index key ∷ [])
+    → Goes (KeyIs tape store) (hash_of from) seen' (index + 1) from s (named index key ∷ [])
 
 -- ---- a pass
 
 -- an open container on the stack: twice its end, and one more for an object
 abbrev pub number_of : Open → ℕ
-number_of (arrayTo e) = 2 * e
-number_of (objectTo e) = 2 * e + 1
+number_of (array_to e) = 2 * e
+number_of (object_to e) = 2 * e + 1
 
 -- the innermost stands last
 abbrev pub Stacked : List ℕ → List Open → Type 0
@@ -155,12 +155,12 @@ Stacked stack [] = Unit {0}
 Stacked stack (o ∷ os) = (get_or stack (length os) 0 ≡ number_of o) × Stacked stack os
 
 abbrev pub Innermost : List ℕ → ℕ → Bool → Type 0
-Innermost stack depth r = (os : List Open) → Stacked stack os → length os ≡ depth → r ≡ inObject os
+Innermost stack depth r = (os : List Open) → Stacked stack os → length os ≡ depth → r ≡ in_object os
 
-abbrev pub objectsOf : List Open → ℕ
-objectsOf [] = 0
-objectsOf (arrayTo e ∷ os) = objectsOf os
-objectsOf (objectTo e ∷ os) = suc (objectsOf os)
+abbrev pub objects_of : List Open → ℕ
+objects_of [] = 0
+objects_of (array_to e ∷ os) = objects_of os
+objects_of (object_to e ∷ os) = suc (objects_of os)
 
 -- the table and the stack before index i, where os is open: the events so far, and those to come
 pub record Walk (tape store : List ℕ) (bound from : ℕ) (seen stack : List ℕ) (depth i : ℕ) (os : List Open) : Type 0
@@ -168,14 +168,14 @@ pub record Walk (tape store : List ℕ) (bound from : ℕ) (seen stack : List �
     pub standing : Standing tape store bound
     pub within : i ≤ bound
     pub so : List Event
-    pub goes : Goes (KeyIs tape store) (hashOf from) seen i from nothing so
-    pub whole : so ++ eventsIn store (recordsFrom (bound - i) tape i) i os ≡ eventsBelow tape store bound
-    pub shallow : Shallow (recordsFrom (bound - i) tape i) i os
+    pub goes : Goes (KeyIs tape store) (hash_of from) seen i from nothing so
+    pub whole : so ++ events_in store (records_from (bound - i) tape i) i os ≡ events_below tape store bound
+    pub shallow : Shallow (records_from (bound - i) tape i) i os
     pub many : length os ≡ depth
-    pub deepest : depth ≤ depthLimit
-    pub objects : level 0 so ≡ objectsOf os
+    pub deepest : depth ≤ depth_limit
+    pub objects : level 0 so ≡ objects_of os
     pub stacked : Stacked stack os
-    pub long : length stack ≡ depthLimit
+    pub long : length stack ≡ depth_limit
 
 abbrev pub Walks : List ℕ → List ℕ → ℕ → ℕ → List ℕ → List ℕ → ℕ → ℕ → Type 0
 Walks tape store bound from seen stack depth i = (os : List Open) × Walk tape store bound from seen stack depth i os
@@ -214,17 +214,17 @@ Steps tape store from seen stack depth i seen' stack' depth' =
 
 abbrev pub Passed : List ℕ → List ℕ → ℕ → ℕ → List ℕ → Type 0
 Passed tape store bound from seen =
-    Goes (KeyIs tape store) (hashOf from) seen bound from nothing (eventsBelow tape store bound)
+    Goes (KeyIs tape store) (hash_of from) seen bound from nothing (events_below tape store bound)
 
 -- ---- windows
 
 -- an empty table
 abbrev pub Empty : List ℕ → List ℕ → ℕ → List ℕ → Type 0
-Empty tape store from seen = Keeps (KeyIs tape store) (hashOf from) seen 0 from nothing
+Empty tape store from seen = Keeps (KeyIs tape store) (hash_of from) seen 0 from nothing
 
 -- all windows so far
 abbrev pub Windowed : List ℕ → List ℕ → ℕ → Window → Type 0
-Windowed tape store bound w = SearchedTo (bound + 1) (eventsBelow tape store bound) w.best w.from
+Windowed tape store bound w = SearchedTo (bound + 1) (events_below tape store bound) w.best w.from
 
 -- a window later than another
 pub record Later (tape store : List ℕ) (bound : ℕ) (w v : Window) : Type 0 where

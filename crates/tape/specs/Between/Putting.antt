@@ -2,9 +2,9 @@
 use Rattle.std.specs.Prelude.{cond, List, ℕ, ◌*◌, ltb}
 use Rattle.std.proofs.lemmas.List.Edits.{sets}
 use Rattle.meaning.specs.declared.Record.{Record}
-use Rattle.meaning.specs.Tape.{recordBytes}
-use Rattle.meaning.specs.Look.{wholeRecords}
+use Rattle.meaning.specs.Tape.{record_bytes}
+use Rattle.meaning.specs.Look.{whole_records}
 
 -- the tape with this record at this index, where it has sixteen bytes for it
-unfoldable pub putRecord : List ℕ → ℕ → Record → List ℕ
-putRecord tape index r = cond (ltb index (wholeRecords tape)) (sets tape (index * 16) (recordBytes r)) tape
+unfoldable pub put_record : List ℕ → ℕ → Record → List ℕ
+put_record tape index r = cond (ltb index (whole_records tape)) (sets tape (index * 16) (record_bytes r)) tape

@@ -1,5 +1,5 @@
 -- `write_json`: by what the judge and the search say. Assumes nothing.
-use Rattle.writer.proofs.WrittenLaws.{is-well, json-ill, json-formless, json-text}
+use Rattle.writer.proofs.WrittenLaws.{is_well, json_ill, json_formless, json_text}
 use borrow.Author.Rules.{rules}
 use Rattle.writer.proofs.write_json.Statement.{statement}
 use Rattle.writer.proofs.write_json.Tie as tie
@@ -26,13 +26,13 @@ write-text-requires : tie.Need-write-text-requires
 write-text-requires c κs =
     let judge = c.before.before.before.before.before.before.judge in
     let enum-told2 = c.before.before.before.before.enum-told2 in
-    is-well judge.ensures enum-told2.given.1
+    is_well judge.ensures enum-told2.given.1
 
 returns : tie.Need-returns
 returns c =
     let judge = c.before.before.judge in
     let args = c.before.before.before.before.before.before.args in
-    json-ill judge.ensures args.out.now c.enum_told.given.1
+    json_ill judge.ensures args.out.now c.enum_told.given.1
 
 returns-2 : tie.Need-returns-2
 returns-2 c =
@@ -40,7 +40,7 @@ returns-2 c =
     let enum-told2 = c.before.before.before.before.enum-told2 in
     let first-formless = c.before.before.before.first-formless in
     let args = c.before.before.before.before.before.before.before.before.before.before.args in
-    json-formless judge.ensures enum-told2.given.1 first-formless.ensures args.out.now c.before.index.given.1
+    json_formless judge.ensures enum-told2.given.1 first-formless.ensures args.out.now c.before.index.given.1
 
 same_length : tie.Need-same-length
 same_length c = search rules
@@ -52,10 +52,10 @@ returns-3 c =
     let first-formless = c.before.before.before.before.before.before.first-formless in
     let enum-told3 = c.before.before.before.before.enum-told3 in
     let write-text = c.before.before.write-text in
-    json-text judge.ensures enum-told2.given.1 first-formless.ensures enum-told3.given.1 write-text.ensures
+    json_text judge.ensures enum-told2.given.1 first-formless.ensures enum-told3.given.1 write-text.ensures
 
-pub write-json-spec : {M : Type 1} → statement M
-write-json-spec =
+pub write_json_spec : {M : Type 1} → statement M
+write_json_spec =
     tie.close
     (tie.spec
     judge-requires

@@ -1,5 +1,5 @@
 -- `write_text`: 13, then 12, then the text. Assumes nothing.
-use Rattle.writer.proofs.WrittenLaws.{text-too-long, text-too-short, text-fits, text-written}
+use Rattle.writer.proofs.WrittenLaws.{text_too_long, text_too_short, text_fits, text_written}
 use borrow.Author.Rules.{rules}
 use Rattle.writer.proofs.write_text.Statement.{statement}
 use Rattle.writer.proofs.write_text.Tie as tie
@@ -10,20 +10,20 @@ text-len-requires c κs = search rules
 returns : tie.Need-returns
 returns c =
     let args = c.before.before.before.before.before.args in
-    text-too-long args.out.now c.before.text-len.ensures c.if1.true
+    text_too_long args.out.now c.before.text-len.ensures c.if1.true
 
 returns-2 : tie.Need-returns-2
 returns-2 c =
     let args = c.before.before.before.before.before.before.args in
     let text-len = c.before.before.text-len in
-    text-too-short args.out.now text-len.ensures c.before.if1.false c.if2.true
+    text_too_short args.out.now text-len.ensures c.before.if1.false c.if2.true
 
 write-records-requires : tie.Need-write-records-requires
 write-records-requires c κs =
     let args = c.before.before.before.before.before.before.before.args in
     let text-len = c.before.before.before.text-len in
     let pre = c.before.before.before.before.before.before.before.requires in
-    text-fits args.out.now text-len.ensures c.before.if2.false pre
+    text_fits args.out.now text-len.ensures c.before.if2.false pre
 
 same_length : tie.Need-same-length
 same_length c = search rules
@@ -35,9 +35,9 @@ returns-3 c =
     let if1 = c.before.before.before.before.before.if1 in
     let if2 = c.before.before.before.before.if2 in
     let write-records = c.before.before.write-records in
-    text-written args.out.now text-len.ensures if1.false if2.false write-records.ensures
+    text_written args.out.now text-len.ensures if1.false if2.false write-records.ensures
 
-pub write-text-spec : {M : Type 1} → statement M
-write-text-spec =
+pub write_text_spec : {M : Type 1} → statement M
+write_text_spec =
     tie.close
     (tie.spec text-len-requires returns returns-2 write-records-requires same_length returns-3)

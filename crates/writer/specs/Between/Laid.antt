@@ -3,8 +3,8 @@ use Rattle.std.specs.Prelude.{◌≡◌, List, ◌++◌, ℕ, ◌+◌, length, t
 pub use Rattle.meaning.specs.Bytes.{laid}
 
 -- t over o from the place `at` on
-abbrev pub laidAt : List ℕ → ℕ → List ℕ → List ℕ
-laidAt t at o = take at o ++ (t ++ drop (at + length t) o)
+abbrev pub laid_at : List ℕ → ℕ → List ℕ → List ℕ
+laid_at t at o = take at o ++ (t ++ drop (at + length t) o)
 
 -- A writer that was lent the part o of the output wrote t over its start, left `out` there, and answers t's length.
 pub record Put (t o out : List ℕ) (r : ℕ) : Type 0 where
@@ -14,4 +14,4 @@ pub record Put (t o out : List ℕ) (r : ℕ) : Type 0 where
 -- A writer at a place of o wrote t there, left `out`, and answers the place right after t.
 pub record PutAt (t : List ℕ) (at : ℕ) (o out : List ℕ) (r : ℕ) : Type 0 where
   pub next : r ≡ at + length t
-  pub text : out ≡ laidAt t at o
+  pub text : out ≡ laid_at t at o

@@ -1,8 +1,8 @@
 -- What the functions below the writers of a piece (docs/FORMAT.md, 12) promise their callers. Assumes nothing.
 use Rattle.std.specs.Prelude.{◌≡◌, Bool, true, false, cond, List, [], ◌∷◌, ◌++◌, ℕ, suc, ◌+◌, ◌^◌, ◌≤◌, ◌<◌, ltb, ℤ, pos, negsuc, nat_abs, length, get_or}
 use Rattle.meaning.specs.Letters.{letters, ch}
-use Rattle.meaning.specs.Limits.{plainDigits, fractionDigits}
-use Rattle.meaning.specs.Canonical.{hexPair, escaped, fixed, trimmed as trimmedText}
+use Rattle.meaning.specs.Limits.{plain_digits, fraction_digits}
+use Rattle.meaning.specs.Canonical.{hex_pair, escaped, fixed, trimmed as trimmedText}
 use Rattle.writer.specs.declared.Form.{Form}
 use Rattle.writer.specs.declared.Form.TheVariants.{Zeros, Point, Power as WithPower}
 use Rattle.writer.specs.declared.Signed.{Signed}
@@ -18,21 +18,21 @@ pub record SignAndSize (x : ℤ) (r : Signed) : Type 0 where
 
 -- the form of a number of d digits with this power
 pub data FormOf (d : ℕ) : ℤ → Form → Type 0 where
-  zeros : {p : ℕ} → d + p ≤ plainDigits → FormOf d (pos p) (Zeros p)
-  point : {n : ℕ} → suc n ≤ plainDigits → FormOf d (negsuc n) (Point (suc n))
-  raised : {p : ℕ} → plainDigits < d + p → FormOf d (pos p) WithPower
-  lowered : {n : ℕ} → plainDigits < suc n → FormOf d (negsuc n) WithPower
+  zeros : {p : ℕ} → d + p ≤ plain_digits → FormOf d (pos p) (Zeros p)
+  point : {n : ℕ} → suc n ≤ plain_digits → FormOf d (negsuc n) (Point (suc n))
+  raised : {p : ℕ} → plain_digits < d + p → FormOf d (pos p) WithPower
+  lowered : {n : ℕ} → plain_digits < suc n → FormOf d (negsuc n) WithPower
 
 -- how long d digits are with the last n of them after a point
 pub record PointedLength (d n r : ℕ) : Type 0 where
   pub few : d ≤ n → r ≡ n + 2
   pub more : n < d → r ≡ d + 1
-  pub small : r ≤ plainDigits + 2
+  pub small : r ≤ plain_digits + 2
 
 -- a letter after the backslash, or 0: below U+0020 by its number, else plain
 pub record Lettered (b r : ℕ) : Type 0 where
   pub short : (r ≡ 0 → ⊥) → escaped b ≡ letters "\\" ++ (r ∷ [])
-  pub other : r ≡ 0 → escaped b ≡ cond (ltb b (ch " ")) (letters "\\u00" ++ hexPair b) (b ∷ [])
+  pub other : r ≡ 0 → escaped b ≡ cond (ltb b (ch " ")) (letters "\\u00" ++ hex_pair b) (b ∷ [])
 
 -- where r is not 0, the byte b stands for itself
 pub record Ease (b r : ℕ) : Type 0 where
@@ -54,8 +54,8 @@ pub record PlainLast (s : List ℕ) (b : Bool) : Type 0 where
 
 -- so many digits of this number are the fraction's, without closing zeros
 pub record FractionDigits (n : ℕ) (r : Trimmed) : Type 0 where
-  pub text : trimmedText fractionDigits n ≡ fixed r.count r.digits
-  pub few : r.count ≤ fractionDigits
+  pub text : trimmedText fraction_digits n ≡ fixed r.count r.digits
+  pub few : r.count ≤ fraction_digits
 
 -- 10 to the power t, and 0 where t is 0
 pub record Power (t r : ℕ) : Type 0 where

@@ -5,8 +5,8 @@ use Rattle.meaning.specs.declared.Record.{Record}
 use Rattle.meaning.specs.Letters.{letters, ch}
 use Rattle.meaning.specs.Meaning.{Meaning}
 use Rattle.meaning.specs.Tape.{WellFormed}
-use Rattle.meaning.specs.Canonical.{numberText, quoted, binaryText, timeText, canonical}
-use Rattle.meaning.specs.Json.{noJson}
+use Rattle.meaning.specs.Canonical.{number_text, quoted, binary_text, time_text, canonical}
+use Rattle.meaning.specs.Json.{no_json}
 use Rattle.writer.specs.declared.Effect.{Effect}
 use Rattle.writer.specs.declared.Formless.{Formless}
 use Rattle.writer.specs.declared.Written.{Written}
@@ -21,18 +21,18 @@ part store size start = take size (drop start store)
 unfoldable pub printed : Record → List ℕ → List ℕ
 printed Record.Null store = letters "null"
 printed (Record.Bool b) store = cond b (letters "true") (letters "false")
-printed (Record.Number n) store = numberText n
+printed (Record.Number n) store = number_text n
 printed (Record.Str size start) store = quoted (part store size start)
 printed (Record.Key size start) store = quoted (part store size start) ++ letters ":"
-printed (Record.Bin size start) store = binaryText (part store size start)
-printed (Record.Time t) store = timeText t
+printed (Record.Bin size start) store = binary_text (part store size start)
+printed (Record.Time t) store = time_text t
 printed (Record.Array count end) store = letters "["
 printed (Record.Object count end) store = letters "{"
 
 -- a comma before it, where a value stands before it in its container
-abbrev pub commaText : Bool → List ℕ
-commaText true = letters ","
-commaText false = []
+abbrev pub comma_text : Bool → List ℕ
+comma_text true = letters ","
+comma_text false = []
 
 -- what it does to the walk: it is passed, and a comma comes next or not; or a container opens, with the bracket that
 -- closes it and its end
@@ -85,8 +85,8 @@ pub record WritesText (tape store o : List ℕ) (answer : Written) (out : List �
 
 -- the first record with no JSON form
 pub data Finds (m : Meaning) : Formless → Type 0 where
-  at : {index : ℕ} → noJson m ≡ some index → Finds m (Formless.At index)
-  nowhere : noJson m ≡ none → Finds m Formless.Nowhere
+  at : {index : ℕ} → no_json m ≡ some index → Finds m (Formless.At index)
+  nowhere : no_json m ≡ none → Finds m Formless.Nowhere
 
 pub record FirstFormless (tape store : List ℕ) (found : Formless) : Type 0 where
   pub is : (w : WellFormed tape store) → Finds w.meaning found

@@ -1,5 +1,5 @@
 use native.Mathlib.Omega.{arith}
-use Rattle.arriving.proofs.ClassesLaws.{upper-class, lower-class, other-class}
+use Rattle.arriving.proofs.ClassesLaws.{upper_class, lower_class, other_class}
 use borrow.Author.Rules.{rules}
 use Rattle.arriving.proofs.classes.class_of.Statement.{statement}
 use Rattle.arriving.proofs.classes.class_of.Tie as tie
@@ -67,23 +67,23 @@ returns-20 : tie.Need-returns-20
 returns-20 c = search rules
 
 returns-21 : tie.Need-returns-21
-returns-21 c = upper-class c.before.before.before.args.b (omega arith) (omega arith)
+returns-21 c = upper_class c.before.before.before.args.b (omega arith) (omega arith)
 
 returns-22 : tie.Need-returns-22
-returns-22 c = lower-class c.before.before.before.before.before.args.b c.before.before.before.before.match.rest (omega arith) (omega arith)
+returns-22 c = lower_class c.before.before.before.before.before.args.b c.before.before.before.before.match.rest (omega arith) (omega arith)
 
 returns-23 : tie.Need-returns-23
-returns-23 c = other-class c.before.before.args.b c.before.match.rest (λ h. omega arith) (λ h. omega arith)
+returns-23 c = other_class c.before.before.args.b c.before.match.rest (λ h. omega arith) (λ h. omega arith)
 
 returns-24 : tie.Need-returns-24
-returns-24 c = other-class c.before.before.before.before.args.b c.before.before.before.match.rest (λ h. omega arith) (λ h. omega arith)
+returns-24 c = other_class c.before.before.before.before.args.b c.before.before.before.match.rest (λ h. omega arith) (λ h. omega arith)
 
 returns-25 : tie.Need-returns-25
-returns-25 c = other-class c.before.before.before.before.before.args.b c.before.before.before.before.match.rest (λ h. omega arith)
+returns-25 c = other_class c.before.before.before.before.before.args.b c.before.before.before.before.match.rest (λ h. omega arith)
     (λ h. omega arith)
 
-pub class-of-spec : {M : Type 1} → statement M
-class-of-spec =
+pub class_of_spec : {M : Type 1} → statement M
+class_of_spec =
     tie.close
     (tie.spec
     returns

@@ -1,5 +1,5 @@
 use native.Mathlib.Omega.{arith}
-use Rattle.arriving.proofs.ClassesLaws.{control-note, plain-note}
+use Rattle.arriving.proofs.ClassesLaws.{control_note, plain_note}
 use borrow.Author.Rules.{rules}
 use Rattle.arriving.proofs.classes.note_of.Statement.{statement}
 use Rattle.arriving.proofs.classes.note_of.Tie as tie
@@ -22,12 +22,12 @@ returns-5 : tie.Need-returns-5
 returns-5 c = search rules
 
 returns-6 : tie.Need-returns-6
-returns-6 c = control-note c.before.before.args.b c.before.match.rest.0.0.0.0.1 c.before.match.rest.0.0.0.1
+returns-6 c = control_note c.before.before.args.b c.before.match.rest.0.0.0.0.1 c.before.match.rest.0.0.0.1
     c.before.match.rest.0.0.1 (omega arith)
 
 returns-7 : tie.Need-returns-7
-returns-7 c = plain-note c.before.before.args.b c.before.match.rest.0.1 c.before.match.rest.1 (omega arith)
+returns-7 c = plain_note c.before.before.args.b c.before.match.rest.0.1 c.before.match.rest.1 (omega arith)
 
-pub note-of-spec : {M : Type 1} → statement M
-note-of-spec =
+pub note_of_spec : {M : Type 1} → statement M
+note_of_spec =
     tie.close (tie.spec returns returns-2 returns-3 returns-4 returns-5 returns-6 returns-7)

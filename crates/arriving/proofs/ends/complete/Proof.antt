@@ -40,5 +40,5 @@ returns-3 c = by (λ t. cond t (cond (eqb c.before.before.args.here.depth 0)
     (Counts c.before.before.args.here.records c.before.before.args.here.stored) (Refused (NotGrammar c.before.before.args.p)))
     (Refused (NotGrammar c.before.before.args.p))) (sym c.before.after-value.ensures ∙ c.if1.false) refl
 
-pub complete-spec : {M : Type 1} → statement M
-complete-spec = tie.close (tie.spec after-value-requires returns returns-2 returns-3)
+pub complete_spec : {M : Type 1} → statement M
+complete_spec = tie.close (tie.spec after-value-requires returns returns-2 returns-3)

@@ -1,5 +1,5 @@
 use mathlib.Core.Path.{refl}
-use Rattle.arriving.specs.Between.Arriving.{endOut}
+use Rattle.arriving.specs.Between.Arriving.{end_out}
 use Rattle.arriving.proofs.StepsLaws.{by}
 use borrow.Author.Rules.{rules}
 use Rattle.arriving.proofs.ends.ended_item.Statement.{statement}
@@ -21,18 +21,18 @@ enum-known-out : tie.Need-enum-known-out
 enum-known-out c = search rules
 
 returns : tie.Need-returns
-unfolding endOut
-returns c = by (endOut c.before.before.args.here c.before.before.args.p) c.enum_told.given.1 refl
+unfolding end_out
+returns c = by (end_out c.before.before.args.here c.before.before.args.p) c.enum_told.given.1 refl
 
 returns-2 : tie.Need-returns-2
-unfolding endOut
-returns-2 c = by (endOut c.before.before.before.args.here c.before.before.before.args.p) c.before.enum-told2.given.1 c.complete.ensures
+unfolding end_out
+returns-2 c = by (end_out c.before.before.before.args.here c.before.before.before.args.p) c.before.enum-told2.given.1 c.complete.ensures
 
 returns-3 : tie.Need-returns-3
-unfolding endOut
-returns-3 c = by (endOut c.before.before.before.args.here c.before.before.before.args.p) c.before.out.given.1 refl
+unfolding end_out
+returns-3 c = by (end_out c.before.before.before.args.here c.before.before.before.args.p) c.before.out.given.1 refl
 
-pub ended-item-spec : {M : Type 1} → statement M
-ended-item-spec =
+pub ended_item_spec : {M : Type 1} → statement M
+ended_item_spec =
     tie.close
     (tie.spec enum_told enum-told-2 complete-requires enum-known-out returns returns-2 returns-3)

@@ -1,7 +1,7 @@
 use mathlib.Core.Path.{refl, ap, ◌∙◌}
-use Rattle.arriving.specs.Between.Arriving.{endOut, endMode}
+use Rattle.arriving.specs.Between.Arriving.{end_out, end_mode}
 use Rattle.arriving.proofs.StepsLaws.{by}
-use Rattle.arriving.proofs.ArrivingLaws.{figure-in}
+use Rattle.arriving.proofs.ArrivingLaws.{figure_in}
 use borrow.Author.Rules.{rules}
 use Rattle.arriving.proofs.ends.finished.Statement.{statement}
 use Rattle.arriving.proofs.ends.finished.Tie as tie
@@ -51,7 +51,7 @@ enum-known-mode-2 c = search rules
 
 figure-next-requires : tie.Need-figure-next-requires
 figure-next-requires c κs = (
-  figure-in c.before.before.before.args.p c.before.before.before.args.here.mode _ c.before.before.before.requires.0
+  figure_in c.before.before.before.args.p c.before.before.before.args.here.mode _ c.before.before.before.requires.0
       c.before.mode2.given.1,
   c.before.before.before.requires.1,
 )
@@ -99,68 +99,68 @@ enum-known-mode-6 : tie.Need-enum-known-mode-6
 enum-known-mode-6 c = search rules
 
 returns : tie.Need-returns
-unfolding endMode
-returns c = by (endMode c.before.before.before.args.here c.before.before.before.args.p) c.before.enum_told.given.1 c.complete.ensures
+unfolding end_mode
+returns c = by (end_mode c.before.before.before.args.here c.before.before.before.args.p) c.before.enum_told.given.1 c.complete.ensures
 
 returns-2 : tie.Need-returns-2
-unfolding endMode
-returns-2 c = by (endMode c.before.before.before.args.here c.before.before.before.args.p) c.before.enum-told2.given.1
+unfolding end_mode
+returns-2 c = by (end_mode c.before.before.before.args.here c.before.before.before.args.p) c.before.enum-told2.given.1
     c.complete2.ensures
 
 returns-3 : tie.Need-returns-3
-unfolding endMode
-returns-3 c = by (endMode c.before.before.args.here c.before.before.args.p) c.enum-told3.given.1 refl
+unfolding end_mode
+returns-3 c = by (end_mode c.before.before.args.here c.before.before.args.p) c.enum-told3.given.1 refl
 
 returns-4 : tie.Need-returns-4
-unfolding endMode
-returns-4 c = by (endMode c.before.before.args.here c.before.before.args.p) c.enum-told4.given.1 refl
+unfolding end_mode
+returns-4 c = by (end_mode c.before.before.args.here c.before.before.args.p) c.enum-told4.given.1 refl
 
 returns-5 : tie.Need-returns-5
-unfolding endMode
-returns-5 c = by (endMode c.before.before.args.here c.before.before.args.p) c.enum-told5.given.1 refl
+unfolding end_mode
+returns-5 c = by (end_mode c.before.before.args.here c.before.before.args.p) c.enum-told5.given.1 refl
 
 returns-6 : tie.Need-returns-6
-unfolding endMode
-returns-6 c = by (endMode c.before.before.before.before.before.args.here c.before.before.before.before.before.args.p)
-    c.before.before.before.mode.given.1 (c.ended-item.ensures ∙ ap (endOut c.before.before.before.before.before.args.here
+unfolding end_mode
+returns-6 c = by (end_mode c.before.before.before.before.before.args.here c.before.before.before.before.before.args.p)
+    c.before.before.before.mode.given.1 (c.ended-item.ensures ∙ ap (end_out c.before.before.before.before.before.args.here
     c.before.before.before.before.before.args.p) c.before.word_next.ensures)
 
 returns-7 : tie.Need-returns-7
-unfolding endMode
-returns-7 c = by (endMode c.before.before.before.before.before.args.here c.before.before.before.before.before.args.p)
-    c.before.before.before.mode2.given.1 (c.ended-item2.ensures ∙ ap (endOut c.before.before.before.before.before.args.here
+unfolding end_mode
+returns-7 c = by (end_mode c.before.before.before.before.before.args.here c.before.before.before.before.before.args.p)
+    c.before.before.before.mode2.given.1 (c.ended-item2.ensures ∙ ap (end_out c.before.before.before.before.before.args.here
     c.before.before.before.before.before.args.p) c.before.figure-next.ensures)
 
 returns-8 : tie.Need-returns-8
-unfolding endMode
-returns-8 c = by (endMode c.before.before.before.before.before.args.here c.before.before.before.before.before.args.p)
-    c.before.before.before.mode3.given.1 (c.ended-item3.ensures ∙ ap (endOut c.before.before.before.before.before.args.here
+unfolding end_mode
+returns-8 c = by (end_mode c.before.before.before.before.before.args.here c.before.before.before.before.before.args.p)
+    c.before.before.before.mode3.given.1 (c.ended-item3.ensures ∙ ap (end_out c.before.before.before.before.before.args.here
     c.before.before.before.before.before.args.p) c.before.moment-next.ensures)
 
 returns-9 : tie.Need-returns-9
-unfolding endMode
-returns-9 c = by (endMode c.before.before.before.before.before.args.here c.before.before.before.before.before.args.p)
-    c.before.before.before.mode4.given.1 (c.ended-item4.ensures ∙ ap (endOut c.before.before.before.before.before.args.here
+unfolding end_mode
+returns-9 c = by (end_mode c.before.before.before.before.before.args.here c.before.before.before.before.before.args.p)
+    c.before.before.before.mode4.given.1 (c.ended-item4.ensures ∙ ap (end_out c.before.before.before.before.before.args.here
     c.before.before.before.before.before.args.p) c.before.quoted-next.ensures)
 
 returns-10 : tie.Need-returns-10
-unfolding endMode
-returns-10 c = by (endMode c.before.before.before.before.before.args.here c.before.before.before.before.before.args.p)
-    c.before.before.before.mode5.given.1 (c.ended-item5.ensures ∙ ap (endOut c.before.before.before.before.before.args.here
+unfolding end_mode
+returns-10 c = by (end_mode c.before.before.before.before.before.args.here c.before.before.before.before.before.args.p)
+    c.before.before.before.mode5.given.1 (c.ended-item5.ensures ∙ ap (end_out c.before.before.before.before.before.args.here
     c.before.before.before.before.before.args.p) c.before.octets-next.ensures)
 
 returns-11 : tie.Need-returns-11
-unfolding endMode
-returns-11 c = by (endMode c.before.before.before.before.args.here c.before.before.before.before.args.p)
-    c.before.before.enum-told6.given.1 (c.ended-item6.ensures ∙ ap (endOut c.before.before.before.before.args.here
+unfolding end_mode
+returns-11 c = by (end_mode c.before.before.before.before.args.here c.before.before.before.before.args.p)
+    c.before.before.enum-told6.given.1 (c.ended-item6.ensures ∙ ap (end_out c.before.before.before.before.args.here
     c.before.before.before.before.args.p) c.before.name-next.ensures)
 
 returns-12 : tie.Need-returns-12
-unfolding endMode
-returns-12 c = by (endMode c.before.before.before.args.here c.before.before.before.args.p) c.before.mode6.given.1 refl
+unfolding end_mode
+returns-12 c = by (end_mode c.before.before.before.args.here c.before.before.before.args.p) c.before.mode6.given.1 refl
 
-pub finished-spec : {M : Type 1} → statement M
-finished-spec =
+pub finished_spec : {M : Type 1} → statement M
+finished_spec =
     tie.close
     (tie.spec
     enum_told

@@ -4,9 +4,9 @@ use Rattle.rules.proofs.TestsLaws.{held, failed}
 use mathlib.Core.Path.{◌∙◌}
 use Prim.Native.Nat.{◌-◌}
 use lib.Dec.{eqb}
-use Rattle.arriving.specs.Between.Figures.{beginFigure}
+use Rattle.arriving.specs.Between.Figures.{begin_figure}
 use borrow.Author.Rules.{rules}
-use Rattle.arriving.proofs.FiguresLaws.{begin-else, begin-digit, as-open}
+use Rattle.arriving.proofs.FiguresLaws.{begin_else, begin_digit, as_open}
 use Rattle.arriving.proofs.figures.begin.Statement.{statement}
 use Rattle.arriving.proofs.figures.begin.Tie as tie
 
@@ -14,14 +14,14 @@ goes-requires : tie.Need-goes-requires
 goes-requires c κs = search rules
 
 returns : tie.Need-returns
-unfolding beginFigure
+unfolding begin_figure
 returns c = rw c.before.if1.true c.goes.ensures
 
 goes-requires-2 : tie.Need-goes-requires-2
 goes-requires-2 c κs = search rules
 
 returns-2 : tie.Need-returns-2
-unfolding beginFigure
+unfolding begin_figure
 returns-2 c = rw c.before.if2.true c.goes2.ensures
 
 is-digit-requires : tie.Need-is-digit-requires
@@ -40,22 +40,22 @@ goes-requires-3 : tie.Need-goes-requires-3
 goes-requires-3 c κs = search rules
 
 returns-3 : tie.Need-returns-3
-unfolding beginFigure
-returns-3 c = as-open c.before.before.before.before.before.before.args.p 1 (eqb c.before.before.before.before.before.before.args.b 48)
+unfolding begin_figure
+returns-3 c = as_open c.before.before.before.before.before.before.args.p 1 (eqb c.before.before.before.before.before.before.args.b 48)
     (c.before.before.before.before.before.before.args.b - 48) c.goes3.ensures c.before.push.ensures.1.1
-    ∙ begin-digit c.before.before.before.before.before.before.args.p c.before.before.before.before.before.before.args.b
+    ∙ begin_digit c.before.before.before.before.before.before.args.p c.before.before.before.before.before.before.args.b
     (held c.before.before.before.is_digit.ensures c.before.before.if3.true)
 
 undigited-requires : tie.Need-undigited-requires
 undigited-requires c κs = failed c.before.is_digit.ensures c.if3.false
 
 returns-4 : tie.Need-returns-4
-unfolding beginFigure
-returns-4 c = c.undigited.ensures ∙ begin-else _ _ (failed c.before.before.is_digit.ensures c.before.if3.false)
+unfolding begin_figure
+returns-4 c = c.undigited.ensures ∙ begin_else _ _ (failed c.before.before.is_digit.ensures c.before.if3.false)
     c.before.before.before.before.if1.false c.before.before.before.if2.false
 
-pub begin-spec : {M : Type 1} → statement M
-begin-spec =
+pub begin_spec : {M : Type 1} → statement M
+begin_spec =
     tie.close
     (tie.spec
     goes-requires

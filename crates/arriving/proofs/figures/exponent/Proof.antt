@@ -1,7 +1,7 @@
 -- A sign, or what comes after one. Assumes nothing.
 use mathlib.Core.Path.{◌∙◌}
 use borrow.Author.Rules.{rules}
-use Rattle.arriving.proofs.FiguresLaws.{exponent-else}
+use Rattle.arriving.proofs.FiguresLaws.{exponent_else}
 use Rattle.arriving.proofs.figures.exponent.Statement.{statement}
 use Rattle.arriving.proofs.figures.exponent.Tie as tie
 
@@ -21,9 +21,9 @@ exponent-sign-requires : tie.Need-exponent-sign-requires
 exponent-sign-requires c κs = search rules
 
 returns-3 : tie.Need-returns-3
-returns-3 c = c.exponent-sign.ensures ∙ exponent-else _ _ _ c.before.before.if1.false c.before.if2.false
+returns-3 c = c.exponent-sign.ensures ∙ exponent_else _ _ _ c.before.before.if1.false c.before.if2.false
 
-pub exponent-spec : {M : Type 1} → statement M
-exponent-spec =
+pub exponent_spec : {M : Type 1} → statement M
+exponent_spec =
     tie.close
     (tie.spec goes-requires returns goes-requires-2 returns-2 exponent-sign-requires returns-3)

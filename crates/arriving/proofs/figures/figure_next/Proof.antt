@@ -1,7 +1,7 @@
 -- Each state by its own function. Assumes nothing.
-use Rattle.arriving.specs.Between.Figures.{nextFigure}
+use Rattle.arriving.specs.Between.Figures.{next_figure}
 use borrow.Author.Rules.{rules}
-use Rattle.arriving.proofs.FiguresLaws.{sane-whole, sane-fraction, sane-digits, sane-open}
+use Rattle.arriving.proofs.FiguresLaws.{sane_whole, sane_fraction, sane_digits, sane_open}
 use Rattle.arriving.proofs.figures.figure_next.Statement.{statement}
 use Rattle.arriving.proofs.figures.figure_next.Tie as tie
 
@@ -39,19 +39,19 @@ enum-known-f-6 : tie.Need-enum-known-f-6
 enum-known-f-6 c = search rules
 
 open-digits-requires : tie.Need-open-digits-requires
-open-digits-requires c κs = sane-open _ _ c.before.before.before.requires.0 c.before.before.before.requires.1 _ _ _ _ _ c.before.f6.given.1
+open-digits-requires c κs = sane_open _ _ c.before.before.before.requires.0 c.before.before.before.requires.1 _ _ _ _ _ c.before.f6.given.1
 
 enum-known-f-7 : tie.Need-enum-known-f-7
 enum-known-f-7 c = search rules
 
 whole-requires : tie.Need-whole-requires
-whole-requires c κs = sane-whole _ _ c.before.before.before.requires.0 c.before.before.before.requires.1 _ c.before.f7.given.1
+whole-requires c κs = sane_whole _ _ c.before.before.before.requires.0 c.before.before.before.requires.1 _ c.before.f7.given.1
 
 enum-known-f-8 : tie.Need-enum-known-f-8
 enum-known-f-8 c = search rules
 
 fraction-requires : tie.Need-fraction-requires
-fraction-requires c κs = sane-fraction _ _ c.before.before.before.requires.0 c.before.before.before.requires.1 _ c.before.f8.given.1
+fraction-requires c κs = sane_fraction _ _ c.before.before.before.requires.0 c.before.before.before.requires.1 _ c.before.f8.given.1
 
 enum-known-f-9 : tie.Need-enum-known-f-9
 enum-known-f-9 c = search rules
@@ -69,54 +69,54 @@ enum-known-f-11 : tie.Need-enum-known-f-11
 enum-known-f-11 c = search rules
 
 exponent-digits-requires : tie.Need-exponent-digits-requires
-exponent-digits-requires c κs = sane-digits _ _ c.before.before.before.requires.0 c.before.before.before.requires.1 _ _ _ c.before.f11.given.1
+exponent-digits-requires c κs = sane_digits _ _ c.before.before.before.requires.0 c.before.before.before.requires.1 _ _ _ c.before.f11.given.1
 
 returns : tie.Need-returns
-unfolding nextFigure
+unfolding next_figure
 returns c = rw c.before.before.f.given.1 c.signed.ensures
 
 returns-2 : tie.Need-returns-2
-unfolding nextFigure
+unfolding next_figure
 returns-2 c = rw c.before.before.f2.given.1 c.nought.ensures
 
 returns-3 : tie.Need-returns-3
-unfolding nextFigure
+unfolding next_figure
 returns-3 c = rw c.before.before.f3.given.1 c.point.ensures
 
 returns-4 : tie.Need-returns-4
-unfolding nextFigure
+unfolding next_figure
 returns-4 c = rw c.before.before.f4.given.1 c.hex-mark.ensures
 
 returns-5 : tie.Need-returns-5
-unfolding nextFigure
+unfolding next_figure
 returns-5 c = rw c.before.before.f5.given.1 c.hex.ensures
 
 returns-6 : tie.Need-returns-6
-unfolding nextFigure
+unfolding next_figure
 returns-6 c = rw c.before.before.f6.given.1 c.open-digits.ensures
 
 returns-7 : tie.Need-returns-7
-unfolding nextFigure
+unfolding next_figure
 returns-7 c = rw c.before.before.f7.given.1 c.whole.ensures
 
 returns-8 : tie.Need-returns-8
-unfolding nextFigure
+unfolding next_figure
 returns-8 c = rw c.before.before.f8.given.1 c.fraction.ensures
 
 returns-9 : tie.Need-returns-9
-unfolding nextFigure
+unfolding next_figure
 returns-9 c = rw c.before.before.f9.given.1 c.exponent.ensures
 
 returns-10 : tie.Need-returns-10
-unfolding nextFigure
+unfolding next_figure
 returns-10 c = rw c.before.before.f10.given.1 c.exponent-sign.ensures
 
 returns-11 : tie.Need-returns-11
-unfolding nextFigure
+unfolding next_figure
 returns-11 c = rw c.before.before.f11.given.1 c.exponent-digits.ensures
 
-pub figure-next-spec : {M : Type 1} → statement M
-figure-next-spec =
+pub figure_next_spec : {M : Type 1} → statement M
+figure_next_spec =
     tie.close
     (tie.spec
     enum-known-f

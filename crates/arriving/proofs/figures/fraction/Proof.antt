@@ -2,9 +2,9 @@
 use native.Mathlib.Omega.{arith}
 use Rattle.rules.proofs.TestsLaws.{held, failed}
 use mathlib.Core.Path.{◌∙◌}
-use Rattle.machine.proofs.Numeric.Rows.{num-digit}
+use Rattle.machine.proofs.Numeric.Rows.{num_digit}
 use borrow.Author.Rules.{rules}
-use Rattle.arriving.proofs.FiguresLaws.{fraction-else, as-fraction}
+use Rattle.arriving.proofs.FiguresLaws.{fraction_else, as_fraction}
 use Rattle.arriving.proofs.figures.fraction.Statement.{statement}
 use Rattle.arriving.proofs.figures.fraction.Tie as tie
 
@@ -18,8 +18,8 @@ goes-requires : tie.Need-goes-requires
 goes-requires c κs = search rules
 
 returns : tie.Need-returns
-returns c = rw (num-digit _ (held c.before.before.before.is_digit.ensures c.before.before.if1.true))
-    (as-fraction c.goes.ensures c.before.digited.ensures)
+returns c = rw (num_digit _ (held c.before.before.before.is_digit.ensures c.before.before.if1.true))
+    (as_fraction c.goes.ensures c.before.digited.ensures)
 
 goes-requires-2 : tie.Need-goes-requires-2
 goes-requires-2 c κs = search rules
@@ -37,11 +37,11 @@ settled-requires : tie.Need-settled-requires
 settled-requires c κs = search rules
 
 returns-4 : tie.Need-returns-4
-returns-4 c = c.settled.ensures ∙ fraction-else _ _ (failed c.before.before.before.before.is_digit.ensures c.before.before.before.if1.false)
+returns-4 c = c.settled.ensures ∙ fraction_else _ _ (failed c.before.before.before.before.is_digit.ensures c.before.before.before.if1.false)
     c.before.before.if2.false c.before.if3.false
 
-pub fraction-spec : {M : Type 1} → statement M
-fraction-spec =
+pub fraction_spec : {M : Type 1} → statement M
+fraction_spec =
     tie.close
     (tie.spec
     is-digit-requires

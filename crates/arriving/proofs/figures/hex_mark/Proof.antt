@@ -1,6 +1,6 @@
 -- A hexadecimal digit must come. Assumes nothing.
 use borrow.Author.Rules.{rules}
-use Rattle.arriving.proofs.FiguresLaws.{hex-some, hex-none}
+use Rattle.arriving.proofs.FiguresLaws.{hex_some, hex_none}
 use Rattle.arriving.proofs.figures.hex_mark.Statement.{statement}
 use Rattle.arriving.proofs.figures.hex_mark.Tie as tie
 
@@ -14,10 +14,10 @@ goes-requires : tie.Need-goes-requires
 goes-requires c κs = search rules
 
 returns : tie.Need-returns
-returns c = rw (hex-some _ _ c.before.before.hex.ensures c.before.if1.true) c.goes.ensures
+returns c = rw (hex_some _ _ c.before.before.hex.ensures c.before.if1.true) c.goes.ensures
 
 returns-2 : tie.Need-returns-2
-returns-2 c = rw (hex-none _ _ c.before.hex.ensures c.if1.false)
+returns-2 c = rw (hex_none _ _ c.before.hex.ensures c.if1.false)
 
-pub hex-mark-spec : {M : Type 1} → statement M
-hex-mark-spec = tie.close (tie.spec hex-requires cast-t6 goes-requires returns returns-2)
+pub hex_mark_spec : {M : Type 1} → statement M
+hex_mark_spec = tie.close (tie.spec hex-requires cast-t6 goes-requires returns returns-2)

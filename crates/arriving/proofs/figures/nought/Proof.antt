@@ -1,6 +1,6 @@
 -- A point, an exponent, a hexadecimal mark, or the end. Assumes nothing.
 use borrow.Author.Rules.{rules}
-use Rattle.arriving.proofs.FiguresLaws.{nought-else, as-fraction, as-exponent}
+use Rattle.arriving.proofs.FiguresLaws.{nought_else, as_fraction, as_exponent}
 use Rattle.arriving.proofs.figures.nought.Statement.{statement}
 use Rattle.arriving.proofs.figures.nought.Tie as tie
 
@@ -11,7 +11,7 @@ goes-requires : tie.Need-goes-requires
 goes-requires c κs = search rules
 
 returns : tie.Need-returns
-returns c = rw c.before.before.if1.true (as-fraction c.goes.ensures c.before.decimal.ensures)
+returns c = rw c.before.before.if1.true (as_fraction c.goes.ensures c.before.decimal.ensures)
 
 decimal-requires-2 : tie.Need-decimal-requires-2
 decimal-requires-2 c κs = search rules
@@ -20,7 +20,7 @@ goes-requires-2 : tie.Need-goes-requires-2
 goes-requires-2 c κs = search rules
 
 returns-2 : tie.Need-returns-2
-returns-2 c = rw c.before.before.if2.true (as-exponent c.goes2.ensures c.before.decimal2.ensures)
+returns-2 c = rw c.before.before.if2.true (as_exponent c.goes2.ensures c.before.decimal2.ensures)
 
 decimal-requires-3 : tie.Need-decimal-requires-3
 decimal-requires-3 c κs = search rules
@@ -29,7 +29,7 @@ goes-requires-3 : tie.Need-goes-requires-3
 goes-requires-3 c κs = search rules
 
 returns-3 : tie.Need-returns-3
-returns-3 c = rw c.before.before.if3.true (as-exponent c.goes3.ensures c.before.decimal3.ensures)
+returns-3 c = rw c.before.before.if3.true (as_exponent c.goes3.ensures c.before.decimal3.ensures)
 
 goes-requires-4 : tie.Need-goes-requires-4
 goes-requires-4 c κs = search rules
@@ -44,11 +44,11 @@ returns-5 : tie.Need-returns-5
 returns-5 c = rw c.before.if5.true c.goes5.ensures
 
 returns-6 : tie.Need-returns-6
-returns-6 c = nought-else _ _ c.before.before.before.before.if1.false c.before.before.before.if2.false c.before.before.if3.false
+returns-6 c = nought_else _ _ c.before.before.before.before.if1.false c.before.before.before.if2.false c.before.before.if3.false
     c.before.if4.false c.if5.false
 
-pub nought-spec : {M : Type 1} → statement M
-nought-spec =
+pub nought_spec : {M : Type 1} → statement M
+nought_spec =
     tie.close
     (tie.spec
     decimal-requires

@@ -2,7 +2,7 @@
 use mathlib.Core.Path.{◌∙◌}
 use Prim.Native.Nat.{◌-◌, ◌+◌, ◌*◌, ◌%◌}
 use borrow.Author.Rules.{rules}
-use Rattle.arriving.proofs.FiguresLaws.{digit-more, digit-full, as-open}
+use Rattle.arriving.proofs.FiguresLaws.{digit_more, digit_full, as_open}
 use Rattle.arriving.proofs.figures.open_digit.Statement.{statement}
 use Rattle.arriving.proofs.figures.open_digit.Tie as tie
 
@@ -28,9 +28,9 @@ goes-requires : tie.Need-goes-requires
 goes-requires c κs = search rules
 
 returns : tie.Need-returns
-returns c = as-open c.before.before.before.args.first (c.before.before.before.args.count + 1) c.before.before.before.args.zero
+returns c = as_open c.before.before.before.args.first (c.before.before.before.args.count + 1) c.before.before.before.args.zero
     (10 * (c.before.before.before.args.value % 1000) + (c.before.before.before.args.b - 48)) c.goes.ensures c.before.push.ensures.1.1
-    ∙ digit-more c.before.before.before.args.p c.before.before.before.args.first c.before.before.before.args.count
+    ∙ digit_more c.before.before.before.args.p c.before.before.before.args.first c.before.before.before.args.count
     c.before.before.before.args.zero c.before.before.before.args.value c.before.before.before.args.acc
     c.before.before.before.args.b c.before.before.if1.true
 
@@ -38,12 +38,12 @@ as-number-requires : tie.Need-as-number-requires
 as-number-requires c κs = search rules
 
 returns-2 : tie.Need-returns-2
-returns-2 c = c.as-number.ensures ∙ digit-full c.before.before.args.p c.before.before.args.first c.before.before.args.count
+returns-2 c = c.as_number_lem.ensures ∙ digit_full c.before.before.args.p c.before.before.args.first c.before.before.args.count
     c.before.before.args.zero c.before.before.args.value c.before.before.args.acc c.before.before.args.b c.before.before.requires.0
     c.before.if1.false
 
-pub open-digit-spec : {M : Type 1} → statement M
-open-digit-spec =
+pub open_digit_spec : {M : Type 1} → statement M
+open_digit_spec =
     tie.close
     (tie.spec
     push-requires

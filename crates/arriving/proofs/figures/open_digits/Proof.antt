@@ -1,9 +1,9 @@
 -- By the three bytes that a time may take, and any other. Assumes nothing.
 use Rattle.rules.proofs.TestsLaws.{held, failed}
 use mathlib.Core.Path.{◌∙◌}
-use Rattle.machine.proofs.Numeric.Rows.{num-digit}
+use Rattle.machine.proofs.Numeric.Rows.{num_digit}
 use borrow.Author.Rules.{rules}
-use Rattle.arriving.proofs.FiguresLaws.{open-else}
+use Rattle.arriving.proofs.FiguresLaws.{open_else}
 use Rattle.arriving.proofs.figures.open_digits.Statement.{statement}
 use Rattle.arriving.proofs.figures.open_digits.Tie as tie
 
@@ -14,7 +14,7 @@ open-digit-requires : tie.Need-open-digit-requires
 open-digit-requires c κs = (held c.before.is_digit.ensures c.if1.true, c.before.before.requires)
 
 returns : tie.Need-returns
-returns c = rw (num-digit _ (held c.before.before.is_digit.ensures c.before.if1.true)) c.open-digit.ensures
+returns c = rw (num_digit _ (held c.before.before.is_digit.ensures c.before.if1.true)) c.open-digit.ensures
 
 open-colon-requires : tie.Need-open-colon-requires
 open-colon-requires c κs = search rules
@@ -32,11 +32,11 @@ as-number-requires : tie.Need-as-number-requires
 as-number-requires c κs = search rules
 
 returns-4 : tie.Need-returns-4
-returns-4 c = c.as-number.ensures ∙ open-else _ _ _ _ _ _ _ (failed c.before.before.before.before.is_digit.ensures
+returns-4 c = c.as_number_lem.ensures ∙ open_else _ _ _ _ _ _ _ (failed c.before.before.before.before.is_digit.ensures
     c.before.before.before.if1.false) c.before.before.if2.false c.before.if3.false
 
-pub open-digits-spec : {M : Type 1} → statement M
-open-digits-spec =
+pub open_digits_spec : {M : Type 1} → statement M
+open_digits_spec =
     tie.close
     (tie.spec
     is-digit-requires

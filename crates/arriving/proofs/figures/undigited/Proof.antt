@@ -1,7 +1,7 @@
 -- A point, a word, or nothing that may stand here. Assumes nothing.
 use mathlib.Core.Path.{refl}
 use borrow.Author.Rules.{rules}
-use Rattle.arriving.proofs.FiguresLaws.{sign-else}
+use Rattle.arriving.proofs.FiguresLaws.{sign_else}
 use Rattle.arriving.proofs.figures.undigited.Statement.{statement}
 use Rattle.arriving.proofs.figures.undigited.Tie as tie
 
@@ -18,7 +18,7 @@ returns-3 : tie.Need-returns-3
 returns-3 c = rw c.if3.true refl
 
 returns-4 : tie.Need-returns-4
-returns-4 c = sign-else _ _ _ c.before.before.before.requires c.before.before.if1.false c.before.if2.false c.if3.false
+returns-4 c = sign_else _ _ _ c.before.before.before.requires c.before.before.if1.false c.before.if2.false c.if3.false
 
-pub undigited-spec : {M : Type 1} → statement M
-undigited-spec = tie.close (tie.spec goes-requires returns returns-2 returns-3 returns-4)
+pub undigited_spec : {M : Type 1} → statement M
+undigited_spec = tie.close (tie.spec goes-requires returns returns-2 returns-3 returns-4)

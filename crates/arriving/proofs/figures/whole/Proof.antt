@@ -2,9 +2,9 @@
 use native.Mathlib.Omega.{arith}
 use Rattle.rules.proofs.TestsLaws.{held, failed}
 use mathlib.Core.Path.{◌∙◌}
-use Rattle.machine.proofs.Numeric.Rows.{num-digit}
+use Rattle.machine.proofs.Numeric.Rows.{num_digit}
 use borrow.Author.Rules.{rules}
-use Rattle.arriving.proofs.FiguresLaws.{whole-else, as-whole}
+use Rattle.arriving.proofs.FiguresLaws.{whole_else, as_whole}
 use Rattle.arriving.proofs.figures.whole.Statement.{statement}
 use Rattle.arriving.proofs.figures.whole.Tie as tie
 
@@ -18,8 +18,8 @@ goes-requires : tie.Need-goes-requires
 goes-requires c κs = search rules
 
 returns : tie.Need-returns
-returns c = rw (num-digit _ (held c.before.before.before.is_digit.ensures c.before.before.if1.true))
-    (as-whole c.goes.ensures c.before.digited.ensures)
+returns c = rw (num_digit _ (held c.before.before.before.is_digit.ensures c.before.before.if1.true))
+    (as_whole c.goes.ensures c.before.digited.ensures)
 
 goes-requires-2 : tie.Need-goes-requires-2
 goes-requires-2 c κs = search rules
@@ -43,11 +43,11 @@ settled-requires : tie.Need-settled-requires
 settled-requires c κs = search rules
 
 returns-5 : tie.Need-returns-5
-returns-5 c = c.settled.ensures ∙ whole-else _ _ (failed c.before.before.before.before.before.is_digit.ensures
+returns-5 c = c.settled.ensures ∙ whole_else _ _ (failed c.before.before.before.before.before.is_digit.ensures
     c.before.before.before.before.if1.false) c.before.before.before.if2.false c.before.before.if3.false c.before.if4.false
 
-pub whole-spec : {M : Type 1} → statement M
-whole-spec =
+pub whole_spec : {M : Type 1} → statement M
+whole_spec =
     tie.close
     (tie.spec
     is-digit-requires

@@ -1,6 +1,6 @@
 -- By the mode. Assumes nothing.
 use borrow.Author.Rules.{rules}
-use Rattle.arriving.proofs.LeapsRunLaws.{line-run, block_run, failed-leaps}
+use Rattle.arriving.proofs.LeapsRunLaws.{line_run, block_run, failed_leaps}
 use Rattle.arriving.proofs.leaps.leap.Statement.{statement}
 use Rattle.arriving.proofs.leaps.leap.Tie as tie
 use Rattle.arriving.proofs.leaps.leap.Reads as reads
@@ -40,7 +40,7 @@ returns : tie.Need-returns
 returns c = search rules
 
 returns-2 : tie.Need-returns-2
-returns-2 c = line-run _ _ _ _ _ c.before.enum-told2.given.1 c.ran.ensures
+returns-2 c = line_run _ _ _ _ _ c.before.enum-told2.given.1 c.ran.ensures
 
 returns-3 : tie.Need-returns-3
 returns-3 c = block_run _ _ _ _ _ c.before.enum-told3.given.1 c.ran2.ensures
@@ -49,13 +49,13 @@ returns-4 : tie.Need-returns-4
 returns-4 c = c.quoting.ensures _
 
 returns-5 : tie.Need-returns-5
-returns-5 c = failed-leaps _ _ _ _ _ c.enum-told4.given.1 c.before.before.before.requires.within
+returns-5 c = failed_leaps _ _ _ _ _ c.enum-told4.given.1 c.before.before.before.requires.within
 
 returns-6 : tie.Need-returns-6
 returns-6 c = search rules
 
-pub leap-spec : {M : Type 1} → statement M
-leap-spec =
+pub leap_spec : {M : Type 1} → statement M
+leap_spec =
     tie.close
     (tie.spec
     enum_told

@@ -2,8 +2,8 @@
 use borrow.Author.Rules.{rules}
 use mathlib.Core.Logic.{inl, inr}
 use native.Mathlib.Omega.{arith}
-use Rattle.arriving.proofs.LeapsLaws.{leaps-none}
-use Rattle.arriving.proofs.LeapsRunLaws.{comment-skips}
+use Rattle.arriving.proofs.LeapsLaws.{leaps_none}
+use Rattle.arriving.proofs.LeapsRunLaws.{comment_skips}
 use Rattle.arriving.proofs.leaps.line_comment.Statement.{statement}
 use Rattle.arriving.proofs.leaps.line_comment.Tie as tie
 use Rattle.arriving.proofs.leaps.line_comment.Reads as reads
@@ -18,7 +18,7 @@ run-end-requires : tie.Need-run-end-requires
 run-end-requires c κs = search rules
 
 returns : tie.Need-returns
-returns c = λ ks. leaps-none _ _ _ (omega arith)
+returns c = λ ks. leaps_none _ _ _ (omega arith)
 
 shared-slice-read-b : tie.Need-shared-slice-read-b
 shared-slice-read-b c = search rules
@@ -30,7 +30,7 @@ passed-requires : tie.Need-passed-requires
 passed-requires c κs = search rules
 
 returns-2 : tie.Need-returns-2
-returns-2 c = λ ks. comment-skips _ _ ks _ _ c.before.before.before.before.before.before.before.requires.0.within
+returns-2 c = λ ks. comment_skips _ _ ks _ _ c.before.before.before.before.before.before.before.requires.0.within
     c.before.before.before.before.before.before.before.requires.1 c.before.before.before.before.run-end.ensures
     c.before.before.before.if1.false (inl c.before.if2.true) c.passed.ensures
 
@@ -41,15 +41,15 @@ passed-requires-2 : tie.Need-passed-requires-2
 passed-requires-2 c κs = search rules
 
 returns-3 : tie.Need-returns-3
-returns-3 c = λ ks. comment-skips _ _ ks _ _ c.before.before.before.before.before.before.before.before.requires.0.within
+returns-3 c = λ ks. comment_skips _ _ ks _ _ c.before.before.before.before.before.before.before.before.requires.0.within
     c.before.before.before.before.before.before.before.before.requires.1 c.before.before.before.before.before.run-end.ensures
     c.before.before.before.before.if1.false (inr c.before.if3.true) c.passed2.ensures
 
 returns-4 : tie.Need-returns-4
-returns-4 c = λ ks. leaps-none _ _ _ (omega arith)
+returns-4 c = λ ks. leaps_none _ _ _ (omega arith)
 
-pub line-comment-spec : {M : Type 1} → statement M
-line-comment-spec =
+pub line_comment_spec : {M : Type 1} → statement M
+line_comment_spec =
     tie.close
     (tie.spec
     add-run-end

@@ -19,5 +19,5 @@ add-t8 c = search rules
 returns : tie.Need-returns
 returns c = spot_is _ _ c.before.before.before.args.due _ _ _ c.before.before.due-number.ensures
 
-pub moved-spec : {M : Type 1} → statement M
-moved-spec = tie.close (tie.spec due-number-requires add-t7 add-t8 returns)
+pub moved_spec : {M : Type 1} → statement M
+moved_spec = tie.close (tie.spec due-number-requires add-t7 add-t8 returns)

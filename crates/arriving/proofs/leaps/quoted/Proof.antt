@@ -2,8 +2,8 @@
 use borrow.Author.Rules.{rules}
 use mathlib.Core.Path.{sym, ◌∙◌}
 use native.Mathlib.Omega.{arith}
-use Rattle.arriving.proofs.LeapsLaws.{leaps-none}
-use Rattle.arriving.proofs.LeapsReadLaws.{Quotes, string-skips}
+use Rattle.arriving.proofs.LeapsLaws.{leaps_none}
+use Rattle.arriving.proofs.LeapsReadLaws.{Quotes, string_skips}
 use Rattle.arriving.proofs.leaps.quoted.Statement.{statement}
 use Rattle.arriving.proofs.leaps.quoted.Tie as tie
 use Rattle.arriving.proofs.leaps.quoted.Reads as reads
@@ -46,7 +46,7 @@ add-end c = (let w = rw c.before.bytes.given.1 at c.before.before.before.before.
     ))
 
 returns : tie.Need-returns
-returns c = λ ks. leaps-none _ _ _ (omega arith)
+returns c = λ ks. leaps_none _ _ _ (omega arith)
 
 due-of-requires : tie.Need-due-of-requires
 due-of-requires c κs = search rules
@@ -96,14 +96,14 @@ moved-requires-4 c κs = let w = rw c.before.before.before.before.before.bytes.g
     )
 
 returns-2 : tie.Need-returns-2
-returns-2 c = λ ks. leaps-none _ _ _ (omega arith)
+returns-2 c = λ ks. leaps_none _ _ _ (omega arith)
 
 returns-3 : tie.Need-returns-3
-returns-3 c = λ ks. leaps-none _ _ _ (omega arith)
+returns-3 c = λ ks. leaps_none _ _ _ (omega arith)
 
 returns-4 : tie.Need-returns-4
 returns-4 c = λ ks.
-    string-skips _ _ ks _ _ _ _ _ _ 0 _ _ Quotes.value (sym c.before.before.before.due-of.ensures ∙ c.before.enum-told3.given.1)
+    string_skips _ _ ks _ _ _ _ _ _ 0 _ _ Quotes.value (sym c.before.before.before.due-of.ensures ∙ c.before.enum-told3.given.1)
     c.before.before.before.before.before.before.before.before.before.before.before.before.before.requires.0
     c.before.before.before.before.before.before.before.before.before.before.before.before.before.requires.1
     c.before.before.before.before.before.before.before.before.before.before.before.before.before.requires.2
@@ -113,7 +113,7 @@ returns-4 c = λ ks.
 
 returns-5 : tie.Need-returns-5
 returns-5 c = λ ks.
-    string-skips _ _ ks _ _ _ _ _ _ 0 _ _ Quotes.key (sym c.before.before.before.due-of.ensures ∙ c.before.enum-told4.given.1)
+    string_skips _ _ ks _ _ _ _ _ _ 0 _ _ Quotes.key (sym c.before.before.before.due-of.ensures ∙ c.before.enum-told4.given.1)
     c.before.before.before.before.before.before.before.before.before.before.before.before.before.requires.0
     c.before.before.before.before.before.before.before.before.before.before.before.before.before.requires.1
     c.before.before.before.before.before.before.before.before.before.before.before.before.before.requires.2
@@ -123,7 +123,7 @@ returns-5 c = λ ks.
 
 returns-6 : tie.Need-returns-6
 returns-6 c = λ ks.
-    string-skips _ _ ks _ _ _ _ _ _ 0 _ _ Quotes.part (sym c.before.before.before.due-of.ensures ∙ c.before.enum-told5.given.1)
+    string_skips _ _ ks _ _ _ _ _ _ 0 _ _ Quotes.part (sym c.before.before.before.due-of.ensures ∙ c.before.enum-told5.given.1)
     c.before.before.before.before.before.before.before.before.before.before.before.before.before.requires.0
     c.before.before.before.before.before.before.before.before.before.before.before.before.before.requires.1
     c.before.before.before.before.before.before.before.before.before.before.before.before.before.requires.2
@@ -133,7 +133,7 @@ returns-6 c = λ ks.
 
 returns-7 : tie.Need-returns-7
 returns-7 c = λ ks.
-    string-skips _ _ ks _ _ _ _ _ _ 0 _ _ Quotes.key-part (sym c.before.before.before.due-of.ensures ∙ c.before.enum-told6.given.1)
+    string_skips _ _ ks _ _ _ _ _ _ 0 _ _ Quotes.key_part (sym c.before.before.before.due-of.ensures ∙ c.before.enum-told6.given.1)
     c.before.before.before.before.before.before.before.before.before.before.before.before.before.requires.0
     c.before.before.before.before.before.before.before.before.before.before.before.before.before.requires.1
     c.before.before.before.before.before.before.before.before.before.before.before.before.before.requires.2
@@ -142,10 +142,10 @@ returns-7 c = λ ks.
     c.before.before.before.before.if1.false c.moved4.ensures
 
 returns-8 : tie.Need-returns-8
-returns-8 c = λ ks. leaps-none _ _ _ (omega arith)
+returns-8 c = λ ks. leaps_none _ _ _ (omega arith)
 
-pub quoted-spec : {M : Type 1} → statement M
-quoted-spec =
+pub quoted_spec : {M : Type 1} → statement M
+quoted_spec =
     tie.close
     (tie.spec
     sub-read-part

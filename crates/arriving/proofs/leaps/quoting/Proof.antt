@@ -1,7 +1,7 @@
 -- Bytes that stand for themselves. Assumes nothing.
 use borrow.Author.Rules.{rules}
 use native.Mathlib.Omega.{arith}
-use Rattle.arriving.proofs.LeapsRunLaws.{body_run, lines-run}
+use Rattle.arriving.proofs.LeapsRunLaws.{body_run, lines_run}
 use Rattle.arriving.proofs.leaps.quoting.Statement.{statement}
 use Rattle.arriving.proofs.leaps.quoting.Tie as tie
 use Rattle.arriving.proofs.leaps.quoting.Reads as reads
@@ -31,14 +31,14 @@ returns-3 c = λ ks. body_run _ _ ks _ _ _ _ c.before.before.before.before.befor
     (omega (arith, c.before.if1.false)) c.stored.ensures
 
 returns-4 : tie.Need-returns-4
-returns-4 c = λ ks. lines-run _ _ ks _ _ _ _ c.before.before.before.before.before.before.requires.1 _ c.before.before.before.s.given.1
+returns-4 c = λ ks. lines_run _ _ ks _ _ _ _ c.before.before.before.before.before.before.requires.1 _ c.before.before.before.s.given.1
     (omega (arith, c.before.if2.false)) c.stored2.ensures
 
 returns-5 : tie.Need-returns-5
 returns-5 c = search rules
 
-pub quoting-spec : {M : Type 1} → statement M
-quoting-spec =
+pub quoting_spec : {M : Type 1} → statement M
+quoting_spec =
     tie.close
     (tie.spec
     enum_told

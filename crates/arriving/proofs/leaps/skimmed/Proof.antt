@@ -1,6 +1,6 @@
 -- From a state between items. Assumes nothing.
 use borrow.Author.Rules.{rules}
-use Rattle.arriving.proofs.LeapsLaws.{stands_at, leaps-at}
+use Rattle.arriving.proofs.LeapsLaws.{stands_at, leaps_at}
 use Rattle.arriving.proofs.leaps.skimmed.Statement.{statement}
 use Rattle.arriving.proofs.leaps.skimmed.Tie as tie
 use Rattle.arriving.proofs.leaps.skimmed.Reads as reads
@@ -19,8 +19,8 @@ due-of-requires : tie.Need-due-of-requires
 due-of-requires c κs = search rules
 
 returns : tie.Need-returns
-returns c = leaps-at _ _ _ _ _ c.before.skim.result _ _ c.before.before.before.before.before.requires.1
+returns c = leaps_at _ _ _ _ _ c.before.skim.result _ _ c.before.before.before.before.before.requires.1
     c.before.before.before.due-number.ensures c.due-of.ensures c.before.skim.ensures
 
-pub skimmed-spec : {M : Type 1} → statement M
-skimmed-spec = tie.close (tie.spec due-number-requires skim-requires due-of-requires returns)
+pub skimmed_spec : {M : Type 1} → statement M
+skimmed_spec = tie.close (tie.spec due-number-requires skim-requires due-of-requires returns)

@@ -31,7 +31,7 @@ returns-3 : tie.Need-returns-3
 returns-3 c = (let w = rw c.before.before.before.end.given.1 at c.before.before.before.before.before.spell.ensures in
     passed c.moved.ensures w.0 c.before.if1.false)
 
-pub spelt-spec : {M : Type 1} → statement M
-spelt-spec =
+pub spelt_spec : {M : Type 1} → statement M
+spelt_spec =
     tie.close
     (tie.spec spell-requires enum_told enum-known-end returns moved-requires returns-2 returns-3)

@@ -2,7 +2,7 @@
 use borrow.Author.Rules.{rules}
 use mathlib.Core.Path.{refl}
 use mathlib.Core.Logic.{inl, inr}
-use Rattle.arriving.proofs.LeapsRunLaws.{blank-skips}
+use Rattle.arriving.proofs.LeapsRunLaws.{blank_skips}
 use Rattle.arriving.proofs.leaps.turn.Statement.{statement}
 use Rattle.arriving.proofs.leaps.turn.Tie as tie
 use Rattle.arriving.proofs.leaps.turn.Reads as reads
@@ -23,7 +23,7 @@ passed-requires : tie.Need-passed-requires
 passed-requires c κs = search rules
 
 returns : tie.Need-returns
-returns c = blank-skips _ _ _ _ _ c.before.run-end.ensures c.passed.ensures
+returns c = blank_skips _ _ _ _ _ c.before.run-end.ensures c.passed.ensures
 
 quoted-requires : tie.Need-quoted-requires
 quoted-requires c κs = (c.before.before.before.before.requires, (λ j. (c.before.before.before.shared-slice-known.given j).fits), inl c.match.keys1)

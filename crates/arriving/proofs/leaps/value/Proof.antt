@@ -2,9 +2,9 @@
 use borrow.Author.Rules.{rules}
 use mathlib.Core.Path.{refl, sym, ◌∙◌}
 use Rattle.machine.specs.Machine.{square, curly}
-use Rattle.arriving.proofs.SmallLaws.{null-spelt, true-spelt, false-spelt}
-use Rattle.arriving.proofs.LeapsStepLaws.{value-opens, value-closes, null-begins, true-begins, false-begins}
-use Rattle.arriving.proofs.LeapsReadLaws.{word-skips}
+use Rattle.arriving.proofs.SmallLaws.{null_spelt, true_spelt, false_spelt}
+use Rattle.arriving.proofs.LeapsStepLaws.{value_opens, value_closes, null_begins, true_begins, false_begins}
+use Rattle.arriving.proofs.LeapsReadLaws.{word_skips}
 use Rattle.arriving.proofs.leaps.value.Statement.{statement}
 use Rattle.arriving.proofs.leaps.value.Tie as tie
 use Rattle.arriving.proofs.leaps.value.Reads as reads
@@ -54,33 +54,33 @@ numeric-requires c κs = (
 )
 
 returns : tie.Need-returns
-returns c = value-opens _ _ _ _ _ c.before.before.before.before.requires.0.within square c.before.before.before.before.requires.2
+returns c = value_opens _ _ _ _ _ c.before.before.before.before.requires.0.within square c.before.before.before.before.requires.2
     (sym c.before.before.before.before.requires.3 ∙ c.before.before.match.keys1) (c.opened.ensures square refl refl)
 
 returns-2 : tie.Need-returns-2
-returns-2 c = value-opens _ _ _ _ _ c.before.before.before.before.requires.0.within curly c.before.before.before.before.requires.2
+returns-2 c = value_opens _ _ _ _ _ c.before.before.before.before.requires.0.within curly c.before.before.before.before.requires.2
     (sym c.before.before.before.before.requires.3 ∙ c.before.before.match.keys2) (c.opened2.ensures curly refl refl)
 
 returns-3 : tie.Need-returns-3
-returns-3 c = value-closes _ _ _ _ _ c.before.before.before.before.requires.0.within c.before.before.before.before.requires.2
+returns-3 c = value_closes _ _ _ _ _ c.before.before.before.before.requires.0.within c.before.before.before.before.requires.2
     (sym c.before.before.before.before.requires.3 ∙ c.before.before.match.keys3) (c.closed.ensures square refl)
 
 returns-4 : tie.Need-returns-4
-returns-4 c = word-skips _ _ _ _ _ _ _ c.before.before.before.before.requires.0 c.before.before.before.before.requires.1
-    (sym c.before.before.before.before.requires.3 ∙ c.before.before.match.keys4) null-spelt
-    (λ p. null-begins c.before.before.before.before.args.x _ p _ c.before.before.before.before.requires.2
+returns-4 c = word_skips _ _ _ _ _ _ _ c.before.before.before.before.requires.0 c.before.before.before.before.requires.1
+    (sym c.before.before.before.before.requires.3 ∙ c.before.before.match.keys4) null_spelt
+    (λ p. null_begins c.before.before.before.before.args.x _ p _ c.before.before.before.before.requires.2
     (sym c.before.before.before.before.requires.3 ∙ c.before.before.match.keys4)) c.spelt.ensures
 
 returns-5 : tie.Need-returns-5
-returns-5 c = word-skips _ _ _ _ _ _ _ c.before.before.before.before.requires.0 c.before.before.before.before.requires.1
-    (sym c.before.before.before.before.requires.3 ∙ c.before.before.match.keys5) true-spelt
-    (λ p. true-begins c.before.before.before.before.args.x _ p _ c.before.before.before.before.requires.2
+returns-5 c = word_skips _ _ _ _ _ _ _ c.before.before.before.before.requires.0 c.before.before.before.before.requires.1
+    (sym c.before.before.before.before.requires.3 ∙ c.before.before.match.keys5) true_spelt
+    (λ p. true_begins c.before.before.before.before.args.x _ p _ c.before.before.before.before.requires.2
     (sym c.before.before.before.before.requires.3 ∙ c.before.before.match.keys5)) c.spelt2.ensures
 
 returns-6 : tie.Need-returns-6
-returns-6 c = word-skips _ _ _ _ _ _ _ c.before.before.before.before.requires.0 c.before.before.before.before.requires.1
-    (sym c.before.before.before.before.requires.3 ∙ c.before.before.match.keys6) false-spelt
-    (λ p. false-begins c.before.before.before.before.args.x _ p _ c.before.before.before.before.requires.2
+returns-6 c = word_skips _ _ _ _ _ _ _ c.before.before.before.before.requires.0 c.before.before.before.before.requires.1
+    (sym c.before.before.before.before.requires.3 ∙ c.before.before.match.keys6) false_spelt
+    (λ p. false_begins c.before.before.before.before.args.x _ p _ c.before.before.before.before.requires.2
     (sym c.before.before.before.before.requires.3 ∙ c.before.before.match.keys6)) c.spelt3.ensures
 
 returns-7 : tie.Need-returns-7

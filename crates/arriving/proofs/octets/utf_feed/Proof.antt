@@ -4,7 +4,7 @@ use native.Mathlib.Omega.{arith}
 use lib.ListN.{length-take}
 use lib.Seq.{length-take-le}
 use Rattle.rules.specs.Rfc3629.{Judged}
-use Rattle.arriving.proofs.OctetsLaws.{feed-short, feed-broken, feed-done, feed-fault, fault-room}
+use Rattle.arriving.proofs.OctetsLaws.{feed_short, feed_broken, feed_done, feed_fault, fault_room}
 use borrow.Author.Rules.{rules}
 use Rattle.arriving.proofs.octets.utf_feed.Statement.{statement}
 use Rattle.arriving.proofs.octets.utf_feed.Tie as tie
@@ -19,10 +19,10 @@ bytes-requires : tie.Need-bytes-requires
 bytes-requires c κs = simp length-take (omega (arith, c.before.rest_of.ensures.within))
 
 returns : tie.Need-returns
-returns c = feed-short _ _ _ _ _ c.before.before.before.rest_of.ensures c.before.bytes.ensures c.if1.true
+returns c = feed_short _ _ _ _ _ c.before.before.before.rest_of.ensures c.before.bytes.ensures c.if1.true
 
 returns-2 : tie.Need-returns-2
-returns-2 c = feed-broken _ _ _ _ _ c.before.before.before.before.rest_of.ensures c.before.before.bytes.ensures c.if2.true
+returns-2 c = feed_broken _ _ _ _ _ c.before.before.before.before.rest_of.ensures c.before.before.bytes.ensures c.if2.true
 
 sub-utf8 : tie.Need-overflow-sub-utf8
 sub-utf8 c = search rules
@@ -45,7 +45,7 @@ whole-requires c κs = search rules
 returns-3 : tie.Need-returns-3
 returns-3 c =
     c.whole.ensures
-    ∙ feed-done _ _ _ _ _ c.before.before.before.before.before.before.before.before.before.rest_of.ensures
+    ∙ feed_done _ _ _ _ _ c.before.before.before.before.before.before.before.before.before.rest_of.ensures
     c.before.before.before.before.before.before.before.bytes.ensures c.before.before.before.before.before.before.if1.false
     c.before.before.before.before.before.if2.false
     (subst (Judged _) c.before.enum_told.given.1 c.before.before.before.utf8.ensures)
@@ -60,7 +60,7 @@ add-bytes : tie.Need-overflow-add-bytes
 add-bytes c =
     omega (
       arith,
-      fault-room _ _ _ _ _ c.before.before.before.before.before.before.before.before.before.before.rest_of.ensures
+      fault_room _ _ _ _ _ c.before.before.before.before.before.before.before.before.before.before.rest_of.ensures
           c.before.before.before.before.before.before.before.before.bytes.ensures
           c.before.before.before.before.before.before.before.if1.false c.before.before.before.before.before.before.if2.false _
           (subst (Judged _) c.before.before.k.given.1 c.before.before.before.before.utf8.ensures),
@@ -72,14 +72,14 @@ bytes-requires-2 c κs = search rules
 returns-4 : tie.Need-returns-4
 returns-4 c =
     c.bytes2.ensures
-    ∙ feed-fault _ _ _ _ _ c.before.before.before.before.before.before.before.before.before.before.before.rest_of.ensures
+    ∙ feed_fault _ _ _ _ _ c.before.before.before.before.before.before.before.before.before.before.before.rest_of.ensures
     c.before.before.before.before.before.before.before.before.before.bytes.ensures
     c.before.before.before.before.before.before.before.before.if1.false c.before.before.before.before.before.before.before.if2.false _
     _ c.before.whole2.ensures
     (subst (Judged _) c.before.before.before.k.given.1 c.before.before.before.before.before.utf8.ensures)
 
-pub utf-feed-spec : {M : Type 1} → statement M
-utf-feed-spec =
+pub utf_feed_spec : {M : Type 1} → statement M
+utf_feed_spec =
     tie.close
     (tie.spec
     rest-of-requires

@@ -1,6 +1,6 @@
 -- The kinds are copied, the rest is got. Assumes nothing.
 use native.Mathlib.Omega.{arith}
-use Rattle.arriving.proofs.PackingByteLaws.{check-is}
+use Rattle.arriving.proofs.PackingByteLaws.{check_is}
 use borrow.Author.Rules.{rules}
 use Rattle.arriving.proofs.packing.check_of.Statement.{statement}
 use Rattle.arriving.proofs.packing.check_of.Tie as tie
@@ -27,11 +27,11 @@ here-at-requires : tie.Need-here-at-requires
 here-at-requires c κs = search rules
 
 returns : tie.Need-returns
-returns c = check-is c.before.before.before.before.before.before.before.before.args.bytes.now _ _ _ _ (omega arith)
+returns c = check_is c.before.before.before.before.before.before.before.before.args.bytes.now _ _ _ _ (omega arith)
     c.before.before.before.before.before.copy.ensures c.before.before.load8.ensures c.before.utf-at.ensures c.here-at.ensures
 
-pub check-of-spec : {M : Type 1} → statement M
-check-of-spec =
+pub check_of_spec : {M : Type 1} → statement M
+check_of_spec =
     tie.close
     (tie.spec
     slice-aggregate-copy

@@ -38,8 +38,8 @@ returns-9 c = search rules
 returns-10 : tie.Need-returns-10
 returns-10 c = past dues Due.AfterBinary c.before.args.n c.match.rest
 
-pub due-of-spec : {M : Type 1} → statement M
-due-of-spec =
+pub due_of_spec : {M : Type 1} → statement M
+due_of_spec =
     tie.close
     (tie.spec
     returns

@@ -1,7 +1,7 @@
 -- A row of the table, or the last. Assumes nothing.
 use lib.Dec.{eqb}
 use Rattle.arriving.specs.declared.states.Figure.TheVariants as Figure
-use Rattle.arriving.specs.Between.Packing.{decimalOf, figures}
+use Rattle.arriving.specs.Between.Packing.{decimal_of, figures}
 use Rattle.arriving.proofs.PackingTableLaws.{past}
 use borrow.Author.Rules.{rules}
 use Rattle.arriving.proofs.packing.figure_of.Statement.{statement}
@@ -50,10 +50,10 @@ returns-10 c = rw (c.before.match.keys10, c.before.before.decimal-of.ensures)
 returns-11 : tie.Need-returns-11
 returns-11 c = let f = c.before.before.before.args.f in
     rw c.before.before.decimal-of.ensures
-    (past (figures f) (Figure.ExponentDigits (decimalOf f) (eqb f.y 1) f.e) f.sort c.before.match.rest)
+    (past (figures f) (Figure.ExponentDigits (decimal_of f) (eqb f.y 1) f.e) f.sort c.before.match.rest)
 
-pub figure-of-spec : {M : Type 1} → statement M
-figure-of-spec =
+pub figure_of_spec : {M : Type 1} → statement M
+figure_of_spec =
     tie.close
     (tie.spec
     decimal-of-requires

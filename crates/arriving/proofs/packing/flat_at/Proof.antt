@@ -44,8 +44,8 @@ returns c = rw (
   c.load85.ensures,
 )
 
-pub flat-at-spec : {M : Type 1} → statement M
-flat-at-spec =
+pub flat_at_spec : {M : Type 1} → statement M
+flat_at_spec =
     tie.close
     (tie.spec
     element-copy-out-t4

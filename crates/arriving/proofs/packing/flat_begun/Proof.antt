@@ -12,5 +12,5 @@ bit-requires c κs = search rules
 returns : tie.Need-returns
 returns c = rw c.bit.ensures
 
-pub flat-begun-spec : {M : Type 1} → statement M
-flat-begun-spec = tie.close (tie.spec bit-requires returns)
+pub flat_begun_spec : {M : Type 1} → statement M
+flat_begun_spec = tie.close (tie.spec bit-requires returns)

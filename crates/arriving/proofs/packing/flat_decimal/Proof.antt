@@ -15,5 +15,5 @@ bit-requires-2 c κs = search rules
 returns : tie.Need-returns
 returns c = rw (c.before.bit.ensures, c.bit2.ensures)
 
-pub flat-decimal-spec : {M : Type 1} → statement M
-flat-decimal-spec = tie.close (tie.spec bit-requires bit-requires-2 returns)
+pub flat_decimal_spec : {M : Type 1} → statement M
+flat_decimal_spec = tie.close (tie.spec bit-requires bit-requires-2 returns)

@@ -1,7 +1,7 @@
 -- By the cases. Assumes nothing.
 use native.Mathlib.Omega.{arith}
-use Rattle.arriving.specs.Between.Packing.{flatField, FitSlot}
-use Rattle.arriving.proofs.PackingTableLaws.{as-fit}
+use Rattle.arriving.specs.Between.Packing.{flat_field, FitSlot}
+use Rattle.arriving.proofs.PackingTableLaws.{as_fit}
 use borrow.Author.Rules.{rules}
 use Rattle.arriving.proofs.packing.flat_field.Statement.{statement}
 use Rattle.arriving.proofs.packing.flat_field.Tie as tie
@@ -54,42 +54,42 @@ flat-time-requires-7 c κs = search rules
 returns : tie.Need-returns
 returns c =
     let a = c.before.before.before.before.args in
-    as-fit (flatField a.stamp a.left a.value) FitSlot c.before.before.slot.given.1 c.flat-time.ensures
+    as_fit (flat_field a.stamp a.left a.value) FitSlot c.before.before.slot.given.1 c.flat-time.ensures
     (omega (arith, c.before.known-told.given))
 
 returns-2 : tie.Need-returns-2
 returns-2 c =
     let a = c.before.before.before.before.args in
-    as-fit (flatField a.stamp a.left a.value) FitSlot c.before.before.slot2.given.1 c.flat-time2.ensures
+    as_fit (flat_field a.stamp a.left a.value) FitSlot c.before.before.slot2.given.1 c.flat-time2.ensures
     (omega (arith, c.before.known-told2.given))
 
 returns-3 : tie.Need-returns-3
 returns-3 c =
     let a = c.before.before.before.args in
-    as-fit (flatField a.stamp a.left a.value) FitSlot c.before.enum_told.given.1 c.flat-time3.ensures tt
+    as_fit (flat_field a.stamp a.left a.value) FitSlot c.before.enum_told.given.1 c.flat-time3.ensures tt
 
 returns-4 : tie.Need-returns-4
 returns-4 c =
     let a = c.before.before.before.args in
-    as-fit (flatField a.stamp a.left a.value) FitSlot c.before.enum-told2.given.1 c.flat-time4.ensures tt
+    as_fit (flat_field a.stamp a.left a.value) FitSlot c.before.enum-told2.given.1 c.flat-time4.ensures tt
 
 returns-5 : tie.Need-returns-5
 returns-5 c =
     let a = c.before.before.before.args in
-    as-fit (flatField a.stamp a.left a.value) FitSlot c.before.enum-told3.given.1 c.flat-time5.ensures tt
+    as_fit (flat_field a.stamp a.left a.value) FitSlot c.before.enum-told3.given.1 c.flat-time5.ensures tt
 
 returns-6 : tie.Need-returns-6
 returns-6 c =
     let a = c.before.before.before.args in
-    as-fit (flatField a.stamp a.left a.value) FitSlot c.before.enum-told4.given.1 c.flat-time6.ensures tt
+    as_fit (flat_field a.stamp a.left a.value) FitSlot c.before.enum-told4.given.1 c.flat-time6.ensures tt
 
 returns-7 : tie.Need-returns-7
 returns-7 c =
     let a = c.before.before.before.args in
-    as-fit (flatField a.stamp a.left a.value) FitSlot c.before.enum-told5.given.1 c.flat-time7.ensures tt
+    as_fit (flat_field a.stamp a.left a.value) FitSlot c.before.enum-told5.given.1 c.flat-time7.ensures tt
 
-pub flat-field-spec : {M : Type 1} → statement M
-flat-field-spec =
+pub flat_field_spec : {M : Type 1} → statement M
+flat_field_spec =
     tie.close
     (tie.spec
     enum-known-slot

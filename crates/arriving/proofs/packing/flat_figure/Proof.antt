@@ -1,7 +1,7 @@
 -- By the cases. Assumes nothing.
 use native.Mathlib.Omega.{arith}
-use Rattle.arriving.specs.Between.Packing.{flatFigure, FitFigure}
-use Rattle.arriving.proofs.PackingTableLaws.{as-fit}
+use Rattle.arriving.specs.Between.Packing.{flat_figure, FitFigure}
+use Rattle.arriving.proofs.PackingTableLaws.{as_fit}
 use borrow.Author.Rules.{rules}
 use Rattle.arriving.proofs.packing.flat_figure.Statement.{statement}
 use Rattle.arriving.proofs.packing.flat_figure.Tie as tie
@@ -78,40 +78,40 @@ flat-decimal-requires-5 : tie.Need-flat-decimal-requires-5
 flat-decimal-requires-5 c κs = search rules
 
 returns : tie.Need-returns
-returns c = as-fit flatFigure FitFigure c.before.before.figure.given.1 c.flat-begun.ensures tt
+returns c = as_fit flat_figure FitFigure c.before.before.figure.given.1 c.flat-begun.ensures tt
 
 returns-2 : tie.Need-returns-2
-returns-2 c = as-fit flatFigure FitFigure c.before.before.figure2.given.1 c.flat-begun2.ensures tt
+returns-2 c = as_fit flat_figure FitFigure c.before.before.figure2.given.1 c.flat-begun2.ensures tt
 
 returns-3 : tie.Need-returns-3
-returns-3 c = as-fit flatFigure FitFigure c.before.before.figure3.given.1 c.flat-begun3.ensures tt
+returns-3 c = as_fit flat_figure FitFigure c.before.before.figure3.given.1 c.flat-begun3.ensures tt
 
 returns-4 : tie.Need-returns-4
-returns-4 c = as-fit flatFigure FitFigure c.before.before.figure4.given.1 c.flat-begun4.ensures tt
+returns-4 c = as_fit flat_figure FitFigure c.before.before.figure4.given.1 c.flat-begun4.ensures tt
 
 returns-5 : tie.Need-returns-5
-returns-5 c = as-fit flatFigure FitFigure c.before.before.figure5.given.1 c.flat-begun5.ensures tt
+returns-5 c = as_fit flat_figure FitFigure c.before.before.figure5.given.1 c.flat-begun5.ensures tt
 
 returns-6 : tie.Need-returns-6
-returns-6 c = as-fit flatFigure FitFigure c.before.before.figure6.given.1 c.flat-open.ensures (omega (arith, c.before.known-told6.given))
+returns-6 c = as_fit flat_figure FitFigure c.before.before.figure6.given.1 c.flat-open.ensures (omega (arith, c.before.known-told6.given))
 
 returns-7 : tie.Need-returns-7
-returns-7 c = as-fit flatFigure FitFigure c.before.before.figure7.given.1 c.flat-decimal.ensures tt
+returns-7 c = as_fit flat_figure FitFigure c.before.before.figure7.given.1 c.flat-decimal.ensures tt
 
 returns-8 : tie.Need-returns-8
-returns-8 c = as-fit flatFigure FitFigure c.before.before.figure8.given.1 c.flat-decimal2.ensures tt
+returns-8 c = as_fit flat_figure FitFigure c.before.before.figure8.given.1 c.flat-decimal2.ensures tt
 
 returns-9 : tie.Need-returns-9
-returns-9 c = as-fit flatFigure FitFigure c.before.before.figure9.given.1 c.flat-decimal3.ensures tt
+returns-9 c = as_fit flat_figure FitFigure c.before.before.figure9.given.1 c.flat-decimal3.ensures tt
 
 returns-10 : tie.Need-returns-10
-returns-10 c = as-fit flatFigure FitFigure c.before.before.figure10.given.1 c.flat-decimal4.ensures tt
+returns-10 c = as_fit flat_figure FitFigure c.before.before.figure10.given.1 c.flat-decimal4.ensures tt
 
 returns-11 : tie.Need-returns-11
-returns-11 c = as-fit flatFigure FitFigure c.before.before.figure11.given.1 c.flat-decimal5.ensures tt
+returns-11 c = as_fit flat_figure FitFigure c.before.before.figure11.given.1 c.flat-decimal5.ensures tt
 
-pub flat-figure-spec : {M : Type 1} → statement M
-flat-figure-spec =
+pub flat_figure_spec : {M : Type 1} → statement M
+flat_figure_spec =
     tie.close
     (tie.spec
     enum-known-figure

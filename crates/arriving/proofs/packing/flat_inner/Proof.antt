@@ -1,7 +1,7 @@
 -- By the cases. Assumes nothing.
 use native.Mathlib.Omega.{arith}
-use Rattle.arriving.specs.Between.Packing.{flatInner, FitInner}
-use Rattle.arriving.proofs.PackingTableLaws.{as-fit}
+use Rattle.arriving.specs.Between.Packing.{flat_inner, FitInner}
+use Rattle.arriving.proofs.PackingTableLaws.{as_fit}
 use borrow.Author.Rules.{rules}
 use Rattle.arriving.proofs.packing.flat_inner.Statement.{statement}
 use Rattle.arriving.proofs.packing.flat_inner.Tie as tie
@@ -82,46 +82,46 @@ flat-quoted-requires-12 : tie.Need-flat-quoted-requires-12
 flat-quoted-requires-12 c κs = search rules
 
 returns : tie.Need-returns
-returns c = as-fit (flatInner c.before.before.before.args.quoted) FitInner c.before.enum_told.given.1 c.flat-quoted.ensures tt
+returns c = as_fit (flat_inner c.before.before.before.args.quoted) FitInner c.before.enum_told.given.1 c.flat-quoted.ensures tt
 
 returns-2 : tie.Need-returns-2
-returns-2 c = as-fit (flatInner c.before.before.before.args.quoted) FitInner c.before.enum-told2.given.1 c.flat-quoted2.ensures tt
+returns-2 c = as_fit (flat_inner c.before.before.before.args.quoted) FitInner c.before.enum-told2.given.1 c.flat-quoted2.ensures tt
 
 returns-3 : tie.Need-returns-3
-returns-3 c = as-fit (flatInner c.before.before.before.args.quoted) FitInner c.before.enum-told3.given.1 c.flat-quoted3.ensures tt
+returns-3 c = as_fit (flat_inner c.before.before.before.args.quoted) FitInner c.before.enum-told3.given.1 c.flat-quoted3.ensures tt
 
 returns-4 : tie.Need-returns-4
-returns-4 c = as-fit (flatInner c.before.before.before.args.quoted) FitInner c.before.enum-told4.given.1 c.flat-quoted4.ensures tt
+returns-4 c = as_fit (flat_inner c.before.before.before.args.quoted) FitInner c.before.enum-told4.given.1 c.flat-quoted4.ensures tt
 
 returns-5 : tie.Need-returns-5
-returns-5 c = as-fit (flatInner c.before.before.before.before.args.quoted) FitInner c.before.before.inner.given.1 c.flat-quoted5.ensures tt
+returns-5 c = as_fit (flat_inner c.before.before.before.before.args.quoted) FitInner c.before.before.inner.given.1 c.flat-quoted5.ensures tt
 
 returns-6 : tie.Need-returns-6
-returns-6 c = as-fit (flatInner c.before.before.before.args.quoted) FitInner c.before.enum-told5.given.1 c.flat-quoted6.ensures tt
+returns-6 c = as_fit (flat_inner c.before.before.before.args.quoted) FitInner c.before.enum-told5.given.1 c.flat-quoted6.ensures tt
 
 returns-7 : tie.Need-returns-7
-returns-7 c = as-fit (flatInner c.before.before.before.before.args.quoted) FitInner c.before.before.inner2.given.1 c.flat-quoted7.ensures tt
+returns-7 c = as_fit (flat_inner c.before.before.before.before.args.quoted) FitInner c.before.before.inner2.given.1 c.flat-quoted7.ensures tt
 
 returns-8 : tie.Need-returns-8
-returns-8 c = as-fit (flatInner c.before.before.before.before.args.quoted) FitInner c.before.before.inner3.given.1 c.flat-quoted8.ensures tt
+returns-8 c = as_fit (flat_inner c.before.before.before.before.args.quoted) FitInner c.before.before.inner3.given.1 c.flat-quoted8.ensures tt
 
 returns-9 : tie.Need-returns-9
-returns-9 c = as-fit (flatInner c.before.before.before.before.args.quoted) FitInner c.before.before.inner4.given.1 c.flat-quoted9.ensures
+returns-9 c = as_fit (flat_inner c.before.before.before.before.args.quoted) FitInner c.before.before.inner4.given.1 c.flat-quoted9.ensures
     (omega (arith, c.before.known-told4.given))
 
 returns-10 : tie.Need-returns-10
-returns-10 c = as-fit (flatInner c.before.before.before.before.args.quoted) FitInner c.before.before.inner5.given.1 c.flat-quoted10.ensures
+returns-10 c = as_fit (flat_inner c.before.before.before.before.args.quoted) FitInner c.before.before.inner5.given.1 c.flat-quoted10.ensures
     tt
 
 returns-11 : tie.Need-returns-11
-returns-11 c = as-fit (flatInner c.before.before.before.before.args.quoted) FitInner c.before.before.inner6.given.1 c.flat-quoted11.ensures
+returns-11 c = as_fit (flat_inner c.before.before.before.before.args.quoted) FitInner c.before.before.inner6.given.1 c.flat-quoted11.ensures
     (omega (arith, c.before.known-told6.given))
 
 returns-12 : tie.Need-returns-12
-returns-12 c = as-fit (flatInner c.before.before.before.args.quoted) FitInner c.before.enum-told6.given.1 c.flat-quoted12.ensures tt
+returns-12 c = as_fit (flat_inner c.before.before.before.args.quoted) FitInner c.before.enum-told6.given.1 c.flat-quoted12.ensures tt
 
-pub flat-inner-spec : {M : Type 1} → statement M
-flat-inner-spec =
+pub flat_inner_spec : {M : Type 1} → statement M
+flat_inner_spec =
     tie.close
     (tie.spec
     enum_told

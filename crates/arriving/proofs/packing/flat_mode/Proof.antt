@@ -1,6 +1,6 @@
 -- By the cases. Assumes nothing.
-use Rattle.arriving.specs.Between.Packing.{flatMode, FitMode}
-use Rattle.arriving.proofs.PackingTableLaws.{as-fit}
+use Rattle.arriving.specs.Between.Packing.{flat_mode, FitMode}
+use Rattle.arriving.proofs.PackingTableLaws.{as_fit}
 use borrow.Author.Rules.{rules}
 use Rattle.arriving.proofs.packing.flat_mode.Statement.{statement}
 use Rattle.arriving.proofs.packing.flat_mode.Tie as tie
@@ -86,43 +86,43 @@ flat-refusal-requires : tie.Need-flat-refusal-requires
 flat-refusal-requires c κs = search rules
 
 returns : tie.Need-returns
-returns c = as-fit flatMode FitMode c.before.enum_told.given.1 c.flat-plain.ensures tt
+returns c = as_fit flat_mode FitMode c.before.enum_told.given.1 c.flat-plain.ensures tt
 
 returns-2 : tie.Need-returns-2
-returns-2 c = as-fit flatMode FitMode c.before.enum-told2.given.1 c.flat-plain2.ensures tt
+returns-2 c = as_fit flat_mode FitMode c.before.enum-told2.given.1 c.flat-plain2.ensures tt
 
 returns-3 : tie.Need-returns-3
-returns-3 c = as-fit flatMode FitMode c.before.enum-told3.given.1 c.flat-plain3.ensures tt
+returns-3 c = as_fit flat_mode FitMode c.before.enum-told3.given.1 c.flat-plain3.ensures tt
 
 returns-4 : tie.Need-returns-4
-returns-4 c = as-fit flatMode FitMode c.before.enum-told4.given.1 c.flat-plain4.ensures tt
+returns-4 c = as_fit flat_mode FitMode c.before.enum-told4.given.1 c.flat-plain4.ensures tt
 
 returns-5 : tie.Need-returns-5
-returns-5 c = as-fit flatMode FitMode c.before.enum-told5.given.1 c.flat-plain5.ensures tt
+returns-5 c = as_fit flat_mode FitMode c.before.enum-told5.given.1 c.flat-plain5.ensures tt
 
 returns-6 : tie.Need-returns-6
-returns-6 c = as-fit flatMode FitMode c.before.before.mode.given.1 c.flat-plain6.ensures tt
+returns-6 c = as_fit flat_mode FitMode c.before.before.mode.given.1 c.flat-plain6.ensures tt
 
 returns-7 : tie.Need-returns-7
-returns-7 c = as-fit flatMode FitMode c.before.before.mode2.given.1 c.flat-figure.ensures.0 c.flat-figure.ensures.1
+returns-7 c = as_fit flat_mode FitMode c.before.before.mode2.given.1 c.flat-figure.ensures.0 c.flat-figure.ensures.1
 
 returns-8 : tie.Need-returns-8
-returns-8 c = as-fit flatMode FitMode c.before.before.mode3.given.1 c.flat-moment.ensures.0 c.flat-moment.ensures.1
+returns-8 c = as_fit flat_mode FitMode c.before.before.mode3.given.1 c.flat-moment.ensures.0 c.flat-moment.ensures.1
 
 returns-9 : tie.Need-returns-9
-returns-9 c = as-fit flatMode FitMode c.before.before.mode4.given.1 c.flat-inner.ensures.0 c.flat-inner.ensures.1
+returns-9 c = as_fit flat_mode FitMode c.before.before.mode4.given.1 c.flat-inner.ensures.0 c.flat-inner.ensures.1
 
 returns-10 : tie.Need-returns-10
-returns-10 c = as-fit flatMode FitMode c.before.before.mode5.given.1 c.flat-octets.ensures tt
+returns-10 c = as_fit flat_mode FitMode c.before.before.mode5.given.1 c.flat-octets.ensures tt
 
 returns-11 : tie.Need-returns-11
-returns-11 c = as-fit flatMode FitMode c.before.enum-told6.given.1 c.flat-plain7.ensures tt
+returns-11 c = as_fit flat_mode FitMode c.before.enum-told6.given.1 c.flat-plain7.ensures tt
 
 returns-12 : tie.Need-returns-12
-returns-12 c = as-fit flatMode FitMode c.before.before.mode6.given.1 c.flat-refusal.ensures tt
+returns-12 c = as_fit flat_mode FitMode c.before.before.mode6.given.1 c.flat-refusal.ensures tt
 
-pub flat-mode-spec : {M : Type 1} → statement M
-flat-mode-spec =
+pub flat_mode_spec : {M : Type 1} → statement M
+flat_mode_spec =
     tie.close
     (tie.spec
     enum_told

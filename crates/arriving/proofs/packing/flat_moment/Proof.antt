@@ -1,6 +1,6 @@
 -- By the cases. Assumes nothing.
-use Rattle.arriving.specs.Between.Packing.{flatMoment, FitMoment}
-use Rattle.arriving.proofs.PackingTableLaws.{as-fit}
+use Rattle.arriving.specs.Between.Packing.{flat_moment, FitMoment}
+use Rattle.arriving.proofs.PackingTableLaws.{as_fit}
 use borrow.Author.Rules.{rules}
 use Rattle.arriving.proofs.packing.flat_moment.Statement.{statement}
 use Rattle.arriving.proofs.packing.flat_moment.Tie as tie
@@ -40,23 +40,23 @@ flat-time-requires-4 : tie.Need-flat-time-requires-4
 flat-time-requires-4 c κs = search rules
 
 returns : tie.Need-returns
-returns c = as-fit (flatMoment c.before.before.before.before.args.stamp) FitMoment c.before.before.moment.given.1 c.flat-field.ensures.0
+returns c = as_fit (flat_moment c.before.before.before.before.args.stamp) FitMoment c.before.before.moment.given.1 c.flat-field.ensures.0
     c.flat-field.ensures.1
 
 returns-2 : tie.Need-returns-2
-returns-2 c = as-fit (flatMoment c.before.before.before.args.stamp) FitMoment c.before.enum_told.given.1 c.flat-time.ensures tt
+returns-2 c = as_fit (flat_moment c.before.before.before.args.stamp) FitMoment c.before.enum_told.given.1 c.flat-time.ensures tt
 
 returns-3 : tie.Need-returns-3
-returns-3 c = as-fit (flatMoment c.before.before.before.args.stamp) FitMoment c.before.enum-told2.given.1 c.flat-time2.ensures tt
+returns-3 c = as_fit (flat_moment c.before.before.before.args.stamp) FitMoment c.before.enum-told2.given.1 c.flat-time2.ensures tt
 
 returns-4 : tie.Need-returns-4
-returns-4 c = as-fit (flatMoment c.before.before.before.args.stamp) FitMoment c.before.enum-told3.given.1 c.flat-time3.ensures tt
+returns-4 c = as_fit (flat_moment c.before.before.before.args.stamp) FitMoment c.before.enum-told3.given.1 c.flat-time3.ensures tt
 
 returns-5 : tie.Need-returns-5
-returns-5 c = as-fit (flatMoment c.before.before.before.args.stamp) FitMoment c.before.enum-told4.given.1 c.flat-time4.ensures tt
+returns-5 c = as_fit (flat_moment c.before.before.before.args.stamp) FitMoment c.before.enum-told4.given.1 c.flat-time4.ensures tt
 
-pub flat-moment-spec : {M : Type 1} → statement M
-flat-moment-spec =
+pub flat_moment_spec : {M : Type 1} → statement M
+flat_moment_spec =
     tie.close
     (tie.spec
     enum-known-moment

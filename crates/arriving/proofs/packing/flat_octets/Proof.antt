@@ -1,5 +1,5 @@
 -- By the cases. Assumes nothing.
-use Rattle.arriving.specs.Between.Packing.{flatOctets}
+use Rattle.arriving.specs.Between.Packing.{flat_octets}
 use Rattle.arriving.proofs.PackingTableLaws.{as_is}
 use borrow.Author.Rules.{rules}
 use Rattle.arriving.proofs.packing.flat_octets.Statement.{statement}
@@ -63,34 +63,34 @@ flat-plain-requires-9 : tie.Need-flat-plain-requires-9
 flat-plain-requires-9 c κs = search rules
 
 returns : tie.Need-returns
-returns c = as_is flatOctets c.before.enum_told.given.1 c.flat-plain.ensures
+returns c = as_is flat_octets c.before.enum_told.given.1 c.flat-plain.ensures
 
 returns-2 : tie.Need-returns-2
-returns-2 c = as_is flatOctets c.before.before.octets.given.1 c.flat-plain2.ensures
+returns-2 c = as_is flat_octets c.before.before.octets.given.1 c.flat-plain2.ensures
 
 returns-3 : tie.Need-returns-3
-returns-3 c = as_is flatOctets c.before.before.octets2.given.1 c.flat-plain3.ensures
+returns-3 c = as_is flat_octets c.before.before.octets2.given.1 c.flat-plain3.ensures
 
 returns-4 : tie.Need-returns-4
-returns-4 c = as_is flatOctets c.before.before.octets3.given.1 c.flat-plain4.ensures
+returns-4 c = as_is flat_octets c.before.before.octets3.given.1 c.flat-plain4.ensures
 
 returns-5 : tie.Need-returns-5
-returns-5 c = as_is flatOctets c.before.before.octets4.given.1 c.flat-plain5.ensures
+returns-5 c = as_is flat_octets c.before.before.octets4.given.1 c.flat-plain5.ensures
 
 returns-6 : tie.Need-returns-6
-returns-6 c = as_is flatOctets c.before.enum-told2.given.1 c.flat-plain6.ensures
+returns-6 c = as_is flat_octets c.before.enum-told2.given.1 c.flat-plain6.ensures
 
 returns-7 : tie.Need-returns-7
-returns-7 c = as_is flatOctets c.before.enum-told3.given.1 c.flat-plain7.ensures
+returns-7 c = as_is flat_octets c.before.enum-told3.given.1 c.flat-plain7.ensures
 
 returns-8 : tie.Need-returns-8
-returns-8 c = as_is flatOctets c.before.enum-told4.given.1 c.flat-plain8.ensures
+returns-8 c = as_is flat_octets c.before.enum-told4.given.1 c.flat-plain8.ensures
 
 returns-9 : tie.Need-returns-9
-returns-9 c = as_is flatOctets c.before.enum-told5.given.1 c.flat-plain9.ensures
+returns-9 c = as_is flat_octets c.before.enum-told5.given.1 c.flat-plain9.ensures
 
-pub flat-octets-spec : {M : Type 1} → statement M
-flat-octets-spec =
+pub flat_octets_spec : {M : Type 1} → statement M
+flat_octets_spec =
     tie.close
     (tie.spec
     enum_told

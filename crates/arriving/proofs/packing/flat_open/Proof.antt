@@ -18,5 +18,5 @@ cast-t11 c = search rules
 returns : tie.Need-returns
 returns c = rw (c.before.bit.ensures, c.bit2.ensures)
 
-pub flat-open-spec : {M : Type 1} → statement M
-flat-open-spec = tie.close (tie.spec bit-requires bit-requires-2 cast-t11 returns)
+pub flat_open_spec : {M : Type 1} → statement M
+flat_open_spec = tie.close (tie.spec bit-requires bit-requires-2 cast-t11 returns)

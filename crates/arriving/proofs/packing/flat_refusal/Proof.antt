@@ -1,5 +1,5 @@
 -- By the cases. Assumes nothing.
-use Rattle.arriving.specs.Between.Packing.{flatRefusal}
+use Rattle.arriving.specs.Between.Packing.{flat_refusal}
 use Rattle.arriving.proofs.PackingTableLaws.{as_is}
 use borrow.Author.Rules.{rules}
 use Rattle.arriving.proofs.packing.flat_refusal.Statement.{statement}
@@ -99,52 +99,52 @@ flat-plain-requires-15 : tie.Need-flat-plain-requires-15
 flat-plain-requires-15 c κs = search rules
 
 returns : tie.Need-returns
-returns c = as_is flatRefusal c.before.enum_told.given.1 c.flat-plain.ensures
+returns c = as_is flat_refusal c.before.enum_told.given.1 c.flat-plain.ensures
 
 returns-2 : tie.Need-returns-2
-returns-2 c = as_is flatRefusal c.before.before.why.given.1 c.flat-plain2.ensures
+returns-2 c = as_is flat_refusal c.before.before.why.given.1 c.flat-plain2.ensures
 
 returns-3 : tie.Need-returns-3
-returns-3 c = as_is flatRefusal c.before.before.why2.given.1 c.flat-plain3.ensures
+returns-3 c = as_is flat_refusal c.before.before.why2.given.1 c.flat-plain3.ensures
 
 returns-4 : tie.Need-returns-4
-returns-4 c = as_is flatRefusal c.before.before.why3.given.1 c.flat-plain4.ensures
+returns-4 c = as_is flat_refusal c.before.before.why3.given.1 c.flat-plain4.ensures
 
 returns-5 : tie.Need-returns-5
-returns-5 c = as_is flatRefusal c.before.before.why4.given.1 c.flat-plain5.ensures
+returns-5 c = as_is flat_refusal c.before.before.why4.given.1 c.flat-plain5.ensures
 
 returns-6 : tie.Need-returns-6
-returns-6 c = as_is flatRefusal c.before.before.why5.given.1 c.flat-plain6.ensures
+returns-6 c = as_is flat_refusal c.before.before.why5.given.1 c.flat-plain6.ensures
 
 returns-7 : tie.Need-returns-7
-returns-7 c = as_is flatRefusal c.before.before.why6.given.1 c.flat-plain7.ensures
+returns-7 c = as_is flat_refusal c.before.before.why6.given.1 c.flat-plain7.ensures
 
 returns-8 : tie.Need-returns-8
-returns-8 c = as_is flatRefusal c.before.before.why7.given.1 c.flat-plain8.ensures
+returns-8 c = as_is flat_refusal c.before.before.why7.given.1 c.flat-plain8.ensures
 
 returns-9 : tie.Need-returns-9
-returns-9 c = as_is flatRefusal c.before.before.why8.given.1 c.flat-plain9.ensures
+returns-9 c = as_is flat_refusal c.before.before.why8.given.1 c.flat-plain9.ensures
 
 returns-10 : tie.Need-returns-10
-returns-10 c = as_is flatRefusal c.before.before.why9.given.1 c.flat-plain10.ensures
+returns-10 c = as_is flat_refusal c.before.before.why9.given.1 c.flat-plain10.ensures
 
 returns-11 : tie.Need-returns-11
-returns-11 c = as_is flatRefusal c.before.before.why10.given.1 c.flat-plain11.ensures
+returns-11 c = as_is flat_refusal c.before.before.why10.given.1 c.flat-plain11.ensures
 
 returns-12 : tie.Need-returns-12
-returns-12 c = as_is flatRefusal c.before.before.why11.given.1 c.flat-plain12.ensures
+returns-12 c = as_is flat_refusal c.before.before.why11.given.1 c.flat-plain12.ensures
 
 returns-13 : tie.Need-returns-13
-returns-13 c = as_is flatRefusal c.before.before.why12.given.1 c.flat-plain13.ensures
+returns-13 c = as_is flat_refusal c.before.before.why12.given.1 c.flat-plain13.ensures
 
 returns-14 : tie.Need-returns-14
-returns-14 c = as_is flatRefusal c.before.before.why13.given.1 c.flat-plain14.ensures
+returns-14 c = as_is flat_refusal c.before.before.why13.given.1 c.flat-plain14.ensures
 
 returns-15 : tie.Need-returns-15
-returns-15 c = as_is flatRefusal c.before.before.why14.given.1 c.flat-plain15.ensures
+returns-15 c = as_is flat_refusal c.before.before.why14.given.1 c.flat-plain15.ensures
 
-pub flat-refusal-spec : {M : Type 1} → statement M
-flat-refusal-spec =
+pub flat_refusal_spec : {M : Type 1} → statement M
+flat_refusal_spec =
     tie.close
     (tie.spec
     enum_told

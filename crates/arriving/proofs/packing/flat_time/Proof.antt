@@ -21,5 +21,5 @@ cast-t13 c = search rules
 returns : tie.Need-returns
 returns c = rw (c.before.bit.ensures, c.bit2.ensures)
 
-pub flat-time-spec : {M : Type 1} → statement M
-flat-time-spec = tie.close (tie.spec bit-requires cast-t11 bit-requires-2 cast-t13 returns)
+pub flat_time_spec : {M : Type 1} → statement M
+flat_time_spec = tie.close (tie.spec bit-requires cast-t11 bit-requires-2 cast-t13 returns)

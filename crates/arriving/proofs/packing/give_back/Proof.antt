@@ -21,5 +21,5 @@ returns c =
     c.before.before.copy.ensures ∙ ap (sets c.before.before.before.before.before.before.args.state.now 0)
     (whole_of 640 c.before.before.before.before.before.before.args.bytes.now (omega arith))
 
-pub give-back-spec : {M : Type 1} → statement M
-give-back-spec = tie.close (tie.spec copy-requires same_length returns)
+pub give_back_spec : {M : Type 1} → statement M
+give_back_spec = tie.close (tie.spec copy-requires same_length returns)

@@ -1,5 +1,5 @@
 -- Field by field. Assumes nothing.
-use Rattle.arriving.proofs.PackingByteLaws.{here-is}
+use Rattle.arriving.proofs.PackingByteLaws.{here_is}
 use borrow.Author.Rules.{rules}
 use Rattle.arriving.proofs.packing.here_at.Statement.{statement}
 use Rattle.arriving.proofs.packing.here_at.Tie as tie
@@ -33,14 +33,14 @@ load8-requires-3 c κs = search rules
 
 returns : tie.Need-returns
 returns c =
-    here-is c.before.before.before.before.before.before.before.before.before.before.args.bytes.now _ _ _ _ _ _
+    here_is c.before.before.before.before.before.before.before.before.before.before.args.bytes.now _ _ _ _ _ _
     c.before.before.before.before.before.before.before.before.mode_of.ensures
     c.before.before.before.before.before.before.before.before.before.flat-at.ensures
     c.before.before.before.before.before.before.due-of.ensures
     c.before.before.before.before.load8.ensures c.before.before.load82.ensures c.load83.ensures
 
-pub here-at-spec : {M : Type 1} → statement M
-here-at-spec =
+pub here_at_spec : {M : Type 1} → statement M
+here_at_spec =
     tie.close
     (tie.spec
     flat-at-requires

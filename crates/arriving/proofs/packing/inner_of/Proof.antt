@@ -47,8 +47,8 @@ returns-11 c = rw c.match.keys11
 returns-12 : tie.Need-returns-12
 returns-12 c = let f = c.before.before.args.f in past (inners f) Inner.Done f.sort c.match.rest
 
-pub inner-of-spec : {M : Type 1} → statement M
-inner-of-spec =
+pub inner_of_spec : {M : Type 1} → statement M
+inner_of_spec =
     tie.close
     (tie.spec
     cast-value

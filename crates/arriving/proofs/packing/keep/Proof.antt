@@ -1,6 +1,6 @@
 -- The numbers, the kinds and zeros; each comes back. Assumes nothing.
-use Rattle.arriving.proofs.PackingByteLaws.{all-put}
-use Rattle.arriving.proofs.PackingLaws.{check-back}
+use Rattle.arriving.proofs.PackingByteLaws.{all_put}
+use Rattle.arriving.proofs.PackingLaws.{check_back}
 use borrow.Author.Rules.{rules}
 use Rattle.arriving.proofs.packing.keep.Statement.{statement}
 use Rattle.arriving.proofs.packing.keep.Tie as tie
@@ -27,9 +27,9 @@ returns c =
     let x = c.before.before.before.before.before.before.before.before.before.before.before.before.before.args.check in
     let k = c.before.before.before.before.before.before.before.before.put-core.ensures in
     let p = c.before.before.before.before.before.put-kinds.ensures in (
-      all-put x _ _ c.before.before.before.before.before.before.before.before.before.before.before.before.before.args.state.now _ p.1 k
+      all_put x _ _ c.before.before.before.before.before.before.before.before.before.before.before.before.before.args.state.now _ p.1 k
           p.0 c.before.before.give-back.ensures,
-      check-back x k.fit k.narrow p.1,
+      check_back x k.fit k.narrow p.1,
     )
 
 pub keep_spec : {M : Type 1} → statement M

@@ -28,5 +28,5 @@ returns c =
     ∙ ap unpacked (c.before.before.before.copy.ensures ∙ ap (sets (replicate 640 0) 0)
     (whole_of _ c.before.before.before.before.before.before.args.state.now refl))
 
-pub kept-spec : {M : Type 1} → statement M
-kept-spec = tie.close (tie.spec slice-aggregate-copy copy-requires check-of-requires returns)
+pub kept_spec : {M : Type 1} → statement M
+kept_spec = tie.close (tie.spec slice-aggregate-copy copy-requires check-of-requires returns)

@@ -1,6 +1,6 @@
 -- A row of the table, or the last. Assumes nothing.
 use Rattle.arriving.specs.declared.states.Mode.TheVariants as Mode
-use Rattle.arriving.specs.Between.Packing.{modes, refusalOf}
+use Rattle.arriving.specs.Between.Packing.{modes, refusal_of}
 use Rattle.arriving.proofs.PackingTableLaws.{past}
 use borrow.Author.Rules.{rules}
 use Rattle.arriving.proofs.packing.mode_of.Statement.{statement}
@@ -55,7 +55,7 @@ returns-6 : tie.Need-returns-6
 returns-6 c = rw c.match.keys6
 
 returns-7 : tie.Need-returns-7
-returns-7 c = rw (c.before.match.keys7, c.figure-of.ensures)
+returns-7 c = rw (c.before.match.keys7, c.figure_of_lem.ensures)
 
 returns-8 : tie.Need-returns-8
 returns-8 c = rw (c.before.before.match.keys8, c.moment-of.ensures, c.before.stamp-of.ensures)
@@ -71,10 +71,10 @@ returns-11 c = search rules
 
 returns-12 : tie.Need-returns-12
 returns-12 c = let f = c.before.before.args.f in
-    rw c.refusal-of.ensures (past (modes f) (Mode.Failed (refusalOf f)) f.kind c.before.match.rest)
+    rw c.refusal_of_lem.ensures (past (modes f) (Mode.Failed (refusal_of f)) f.kind c.before.match.rest)
 
-pub mode-of-spec : {M : Type 1} → statement M
-mode-of-spec =
+pub mode_of_spec : {M : Type 1} → statement M
+mode_of_spec =
     tie.close
     (tie.spec
     figure-of-requires

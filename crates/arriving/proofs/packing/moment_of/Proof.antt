@@ -3,7 +3,7 @@ use native.Mathlib.Omega.{arith}
 use mathlib.Core.List.{[], ◌∷◌}
 use Rattle.arriving.specs.declared.states.Moment.TheVariants as Moment
 use Rattle.arriving.specs.Between.Packing.{field_of, moments}
-use Rattle.arriving.proofs.PackingTableLaws.{past-at, among}
+use Rattle.arriving.proofs.PackingTableLaws.{past_at, among}
 use borrow.Author.Rules.{rules}
 use Rattle.arriving.proofs.packing.moment_of.Statement.{statement}
 use Rattle.arriving.proofs.packing.moment_of.Tie as tie
@@ -29,8 +29,8 @@ returns-4 : tie.Need-returns-4
 returns-4 c = search rules
 
 returns-5 : tie.Need-returns-5
-returns-5 c = let f = c.before.before.args.f in past-at (moments f) Moment.Zulu f.sort (omega arith)
+returns-5 c = let f = c.before.before.args.f in past_at (moments f) Moment.Zulu f.sort (omega arith)
 
-pub moment-of-spec : {M : Type 1} → statement M
-moment-of-spec =
+pub moment_of_spec : {M : Type 1} → statement M
+moment_of_spec =
     tie.close (tie.spec slot-of-requires returns returns-2 returns-3 returns-4 returns-5)

@@ -35,8 +35,8 @@ returns-8 c = search rules
 returns-9 : tie.Need-returns-9
 returns-9 c = past (octetses c.before.args.f.x) Octets.Done c.before.args.f.sort c.match.rest
 
-pub octets-of-spec : {M : Type 1} → statement M
-octets-of-spec =
+pub octets_of_spec : {M : Type 1} → statement M
+octets_of_spec =
     tie.close
     (tie.spec
     returns

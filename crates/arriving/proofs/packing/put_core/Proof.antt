@@ -1,5 +1,5 @@
 -- Those of one byte, then those of eight. Assumes nothing.
-use Rattle.arriving.proofs.PackingByteLaws.{core-kept}
+use Rattle.arriving.proofs.PackingByteLaws.{core_kept}
 use borrow.Author.Rules.{rules}
 use Rattle.arriving.proofs.packing.put_core.Statement.{statement}
 use Rattle.arriving.proofs.packing.put_core.Tie as tie
@@ -22,9 +22,9 @@ returns : tie.Need-returns
 returns c =
     let a = c.before.before.before.before.before.before.before.args in
     let m = c.before.before.before.before.flat-mode.ensures in
-    core-kept a.core a.bytes.now _ _ _ m.0 m.1 c.before.before.put_small.ensures c.put-large.ensures.0
+    core_kept a.core a.bytes.now _ _ _ m.0 m.1 c.before.before.put_small.ensures c.put-large.ensures.0
     c.put-large.ensures.1
 
-pub put-core-spec : {M : Type 1} → statement M
-put-core-spec =
+pub put_core_spec : {M : Type 1} → statement M
+put_core_spec =
     tie.close (tie.spec flat-mode-requires put-small-requires put-large-requires returns)

@@ -20,5 +20,5 @@ returns c =
     let n : length k ≡ 64 = omega arith in
     (c.copy.ensures ∙ ap (sets c.before.before.before.args.bytes.now 128) (whole_of 64 k n), n)
 
-pub put-kinds-spec : {M : Type 1} → statement M
-put-kinds-spec = tie.close (tie.spec copy-requires returns)
+pub put_kinds_spec : {M : Type 1} → statement M
+put_kinds_spec = tie.close (tie.spec copy-requires returns)

@@ -15,7 +15,7 @@ put-words-requires c κs = search rules
 
 returns : tie.Need-returns
 unfolding larges
-returns c = (c.put-words.ensures.0, c.put-words.ensures.1)
+returns c = (c.put_words.ensures.0, c.put_words.ensures.1)
 
-pub put-large-spec : {M : Type 1} → statement M
-put-large-spec = tie.close (tie.spec slice-aggregate-put-words put-words-requires returns)
+pub put_large_spec : {M : Type 1} → statement M
+put_large_spec = tie.close (tie.spec slice-aggregate-put-words put-words-requires returns)

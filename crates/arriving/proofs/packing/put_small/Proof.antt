@@ -28,7 +28,7 @@ returns c =
     c.copy.ensures ∙ small_is a.bytes.now a.utf a.due a.f _ _ c.before.before.before.before.bit.ensures
     c.before.before.before.due-number.ensures
 
-pub put-small-spec : {M : Type 1} → statement M
-put-small-spec =
+pub put_small_spec : {M : Type 1} → statement M
+put_small_spec =
     tie.close
     (tie.spec bit-requires due-number-requires slice-aggregate-copy copy-requires returns)

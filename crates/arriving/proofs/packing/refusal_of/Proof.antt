@@ -53,8 +53,8 @@ returns-14 c = rw c.match.keys14
 returns-15 : tie.Need-returns-15
 returns-15 c = let f = c.before.args.f in past (refusals f.a) (Refusal.RepeatedKey f.a) f.sort c.match.rest
 
-pub refusal-of-spec : {M : Type 1} → statement M
-refusal-of-spec =
+pub refusal_of_spec : {M : Type 1} → statement M
+refusal_of_spec =
     tie.close
     (tie.spec
     returns

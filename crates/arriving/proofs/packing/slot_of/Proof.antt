@@ -35,8 +35,8 @@ returns-6 c = search rules
 returns-7 : tie.Need-returns-7
 returns-7 c = let f = c.before.before.before.args.f in past (slots f) Slot.OffsetMinute f.sort c.match.rest
 
-pub slot-of-spec : {M : Type 1} → statement M
-slot-of-spec =
+pub slot_of_spec : {M : Type 1} → statement M
+slot_of_spec =
     tie.close
     (tie.spec
     cast-year

@@ -1,5 +1,5 @@
 -- Field by field. Assumes nothing.
-use Rattle.arriving.specs.Between.Packing.{utfAt}
+use Rattle.arriving.specs.Between.Packing.{utf_at}
 use borrow.Author.Rules.{rules}
 use Rattle.arriving.proofs.packing.utf_at.Statement.{statement}
 use Rattle.arriving.proofs.packing.utf_at.Tie as tie
@@ -23,11 +23,11 @@ element-copy-out-t17 : tie.Need-element-copy-out-t17
 element-copy-out-t17 c = search rules
 
 returns : tie.Need-returns
-unfolding utfAt
+unfolding utf_at
 returns c = rw c.before.load8.ensures
 
-pub utf-at-spec : {M : Type 1} → statement M
-utf-at-spec =
+pub utf_at_spec : {M : Type 1} → statement M
+utf_at_spec =
     tie.close
     (tie.spec
     element-copy-out-t4

@@ -1,4 +1,4 @@
-use Rattle.arriving.specs.Between.Small.{letterAt}
+use Rattle.arriving.specs.Between.Small.{letter_at}
 use borrow.Author.Rules.{rules}
 use Rattle.arriving.proofs.small.letter_at.Statement.{statement}
 use Rattle.arriving.proofs.small.letter_at.Tie as tie
@@ -13,8 +13,8 @@ byte-at-requires : tie.Need-byte-at-requires
 byte-at-requires c κs = search rules
 
 returns : tie.Need-returns
-unfolding letterAt
+unfolding letter_at
 returns c = c.byte_at.ensures
 
-pub letter-at-spec : {M : Type 1} → statement M
-letter-at-spec = tie.close (tie.spec slice-aggregate-byte-at byte-at-requires returns)
+pub letter_at_spec : {M : Type 1} → statement M
+letter_at_spec = tie.close (tie.spec slice-aggregate-byte-at byte-at-requires returns)

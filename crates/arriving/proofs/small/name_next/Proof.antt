@@ -1,4 +1,4 @@
-use Rattle.arriving.specs.Between.Small.{nextName}
+use Rattle.arriving.specs.Between.Small.{next_name}
 use borrow.Author.Rules.{rules}
 use Rattle.arriving.proofs.small.name_next.Statement.{statement}
 use Rattle.arriving.proofs.small.name_next.Tie as tie
@@ -19,18 +19,18 @@ enum-told-3 : tie.Need-enum-told-3
 enum-told-3 c = search rules
 
 returns : tie.Need-returns
-unfolding nextName
+unfolding next_name
 returns c = rw (rw c.enum_told.given.1 at c.before.before.sort-of.ensures)
 
 returns-2 : tie.Need-returns-2
-unfolding nextName
+unfolding next_name
 returns-2 c = rw (rw c.enum-told2.given.1 at c.before.before.sort-of.ensures)
 
 returns-3 : tie.Need-returns-3
-unfolding nextName
+unfolding next_name
 returns-3 c = rw (rw c.enum-told3.given.1 at c.before.before.sort-of.ensures)
 
-pub name-next-spec : {M : Type 1} → statement M
-name-next-spec =
+pub name_next_spec : {M : Type 1} → statement M
+name_next_spec =
     tie.close
     (tie.spec sort-of-requires enum_told enum-told-2 enum-told-3 returns returns-2 returns-3)

@@ -1,4 +1,4 @@
-use Rattle.arriving.specs.Between.Small.{nextOctets}
+use Rattle.arriving.specs.Between.Small.{next_octets}
 use borrow.Author.Rules.{rules}
 use Rattle.arriving.proofs.small.octets_next.Statement.{statement}
 use Rattle.arriving.proofs.small.octets_next.Tie as tie
@@ -62,43 +62,43 @@ enum-told-5 : tie.Need-enum-told-5
 enum-told-5 c = search rules
 
 returns : tie.Need-returns
-unfolding nextOctets
+unfolding next_octets
 returns c = rw c.before.enum_told.given.1 c.dollar.ensures
 
 returns-2 : tie.Need-returns-2
-unfolding nextOctets
+unfolding next_octets
 returns-2 c = rw c.before.before.o.given.1 c.quoted.ensures
 
 returns-3 : tie.Need-returns-3
-unfolding nextOctets
+unfolding next_octets
 returns-3 c = rw c.before.before.o2.given.1 c.escaped.ensures
 
 returns-4 : tie.Need-returns-4
-unfolding nextOctets
+unfolding next_octets
 returns-4 c = rw c.before.before.o3.given.1 c.on-digit.ensures
 
 returns-5 : tie.Need-returns-5
-unfolding nextOctets
+unfolding next_octets
 returns-5 c = rw c.before.before.o4.given.1 c.on-digit2.ensures
 
 returns-6 : tie.Need-returns-6
-unfolding nextOctets
+unfolding next_octets
 returns-6 c = rw c.before.enum-told2.given.1 c.on-digit3.ensures
 
 returns-7 : tie.Need-returns-7
-unfolding nextOctets
+unfolding next_octets
 returns-7 c = rw c.before.enum-told3.given.1 c.after-pair.ensures
 
 returns-8 : tie.Need-returns-8
-unfolding nextOctets
+unfolding next_octets
 returns-8 c = rw c.before.enum-told4.given.1 c.on-digit4.ensures
 
 returns-9 : tie.Need-returns-9
-unfolding nextOctets
+unfolding next_octets
 returns-9 c = rw c.enum-told5.given.1
 
-pub octets-next-spec : {M : Type 1} → statement M
-octets-next-spec =
+pub octets_next_spec : {M : Type 1} → statement M
+octets_next_spec =
     tie.close
     (tie.spec
     enum_told

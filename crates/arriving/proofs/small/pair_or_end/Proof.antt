@@ -1,7 +1,7 @@
 use native.Mathlib.Omega.{arith}
 use borrow.Author.Tests.{lt-ltb, le-ltb}
-use Rattle.machine.specs.Strings.{hexOf, noDigit}
-use Rattle.arriving.specs.Between.Small.{onDigit}
+use Rattle.machine.specs.Strings.{hex_of, no_digit}
+use Rattle.arriving.specs.Between.Small.{on_digit}
 use borrow.Author.Rules.{rules}
 use Rattle.arriving.proofs.small.pair_or_end.Statement.{statement}
 use Rattle.arriving.proofs.small.pair_or_end.Tie as tie
@@ -13,12 +13,12 @@ hex-requires : tie.Need-hex-requires
 hex-requires c κs = search rules
 
 returns : tie.Need-returns
-unfolding onDigit
-returns c = simp (lt-ltb (hexOf c.before.before.args.b) noDigit (omega arith))
+unfolding on_digit
+returns c = simp (lt-ltb (hex_of c.before.before.args.b) no_digit (omega arith))
 
 returns-2 : tie.Need-returns-2
-unfolding onDigit
-returns-2 c = simp (le-ltb (hexOf c.before.before.args.b) noDigit (omega arith))
+unfolding on_digit
+returns-2 c = simp (le-ltb (hex_of c.before.before.args.b) no_digit (omega arith))
 
-pub pair-or-end-spec : {M : Type 1} → statement M
-pair-or-end-spec = tie.close (tie.spec hex-requires returns returns-2)
+pub pair_or_end_spec : {M : Type 1} → statement M
+pair_or_end_spec = tie.close (tie.spec hex-requires returns returns-2)

@@ -1,8 +1,8 @@
 use Prim.Native.Nat.{suc}
 use mathlib.Core.Path.{sym, ◌∙◌}
-use Rattle.arriving.specs.Between.Steps.{begunFigure}
-use Rattle.arriving.proofs.FiguresBounds.{begin-bounded}
-use Rattle.arriving.proofs.StepsLaws.{by, few-takes, few-by}
+use Rattle.arriving.specs.Between.Steps.{begun_figure}
+use Rattle.arriving.proofs.FiguresBounds.{begin_bounded}
+use Rattle.arriving.proofs.StepsLaws.{by, few_takes, few_by}
 use borrow.Author.Rules.{rules}
 use Rattle.arriving.proofs.steps.begun_figure.Statement.{statement}
 use Rattle.arriving.proofs.steps.begun_figure.Tie as tie
@@ -22,8 +22,8 @@ enum-known-mode c = search rules
 begun-requires : tie.Need-begun-requires
 begun-requires c κs = (
   c.before.before.before.before.requires,
-  few-takes _ _ _ (few-by (suc c.before.before.before.before.args.p)
-      c.before.before.before.begin.ensures (begin-bounded c.before.before.before.before.args.p c.before.before.before.before.args.b))
+  few_takes _ _ _ (few_by (suc c.before.before.before.before.args.p)
+      c.before.before.before.begin.ensures (begin_bounded c.before.before.before.before.args.p c.before.before.before.before.args.b))
       c.before.mode.given.1,
 )
 
@@ -40,22 +40,22 @@ moded-requires : tie.Need-moded-requires
 moded-requires c κs = search rules
 
 returns : tie.Need-returns
-unfolding begunFigure
-returns c = λ ks. by (begunFigure (c.before.before.before.before.before.args.here, ks) c.before.before.before.before.before.args.p)
+unfolding begun_figure
+returns c = λ ks. by (begun_figure (c.before.before.before.before.before.args.here, ks) c.before.before.before.before.before.args.p)
     (sym c.before.before.before.before.begin.ensures ∙ c.before.before.mode.given.1) (c.begun.ensures ks)
 
 returns-2 : tie.Need-returns-2
-unfolding begunFigure
-returns-2 c = λ ks. by (begunFigure (c.before.before.before.before.args.here, ks) c.before.before.before.before.args.p)
+unfolding begun_figure
+returns-2 c = λ ks. by (begun_figure (c.before.before.before.before.args.here, ks) c.before.before.before.before.args.p)
     (sym c.before.before.before.begin.ensures ∙ c.before.enum_told.given.1) (c.odd.ensures ks)
 
 returns-3 : tie.Need-returns-3
-unfolding begunFigure
-returns-3 c = λ ks. by (begunFigure (c.before.before.before.before.before.args.here, ks) c.before.before.before.before.before.args.p)
+unfolding begun_figure
+returns-3 c = λ ks. by (begun_figure (c.before.before.before.before.before.args.here, ks) c.before.before.before.before.before.args.p)
     (sym c.before.before.before.before.begin.ensures ∙ c.before.before.why.given.1) (c.moded.ensures ks)
 
-pub begun-figure-spec : {M : Type 1} → statement M
-begun-figure-spec =
+pub begun_figure_spec : {M : Type 1} → statement M
+begun_figure_spec =
     tie.close
     (tie.spec
     begin-requires

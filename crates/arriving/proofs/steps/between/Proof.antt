@@ -1,5 +1,5 @@
 use mathlib.Core.Path.{refl}
-use Rattle.arriving.specs.Between.Steps.{onDue, onValue, onKey, on_after, between}
+use Rattle.arriving.specs.Between.Steps.{on_due, on_value, on_key, on_after, between}
 use Rattle.arriving.proofs.StepsLaws.{by, part_by}
 use borrow.Author.Rules.{rules}
 use Rattle.arriving.proofs.steps.between.Statement.{statement}
@@ -78,78 +78,78 @@ on-after-requires-5 c κs = search rules
 
 returns : tie.Need-returns
 unfolding between
-returns c = by (onDue (c.before.before.before.before.before.args.here, c.before.before.before.before.before.args.kinds.now)
+returns c = by (on_due (c.before.before.before.before.before.args.here, c.before.before.before.before.before.args.kinds.now)
     c.before.before.before.before.before.args.p c.before.before.before.before.before.args.b) c.before.before.enum_told.given.1
-    (by (onValue (c.before.before.before.before.before.args.here, c.before.before.before.before.before.args.kinds.now)
+    (by (on_value (c.before.before.before.before.before.args.here, c.before.before.before.before.before.args.kinds.now)
     c.before.before.before.before.before.args.p c.before.before.before.before.before.args.b)
     c.before.before.before.before.class_of.ensures c.on_value.ensures)
 
 returns-2 : tie.Need-returns-2
 unfolding between
-returns-2 c = by (onDue (c.before.before.before.before.before.args.here, c.before.before.before.before.before.args.kinds.now)
+returns-2 c = by (on_due (c.before.before.before.before.before.args.here, c.before.before.before.before.before.args.kinds.now)
     c.before.before.before.before.before.args.p c.before.before.before.before.before.args.b) c.before.before.enum-told2.given.1
-    (by (onKey (c.before.before.before.before.before.args.here, c.before.before.before.before.before.args.kinds.now)
+    (by (on_key (c.before.before.before.before.before.args.here, c.before.before.before.before.before.args.kinds.now)
     c.before.before.before.before.before.args.p c.before.before.before.before.before.args.b)
     c.before.before.before.before.class_of.ensures c.on-key.ensures)
 
 returns-3 : tie.Need-returns-3
 unfolding between
-returns-3 c = by (onDue (c.before.before.before.before.args.here, c.before.before.before.before.args.kinds.now)
+returns-3 c = by (on_due (c.before.before.before.before.args.here, c.before.before.before.before.args.kinds.now)
     c.before.before.before.before.args.p c.before.before.before.before.args.b) c.before.enum-told3.given.1
     (part_by (c.before.before.before.before.args.here, c.before.before.before.before.args.kinds.now) c.before.before.before.before.args.p
     c.before.before.before.class_of.ensures (c.on-string-part.ensures _) refl refl)
 
 returns-4 : tie.Need-returns-4
 unfolding between
-returns-4 c = by (onDue (c.before.before.before.before.args.here, c.before.before.before.before.args.kinds.now)
+returns-4 c = by (on_due (c.before.before.before.before.args.here, c.before.before.before.before.args.kinds.now)
     c.before.before.before.before.args.p c.before.before.before.before.args.b) c.before.enum-told4.given.1
     (part_by (c.before.before.before.before.args.here, c.before.before.before.before.args.kinds.now) c.before.before.before.before.args.p
     c.before.before.before.class_of.ensures (c.on-string-part2.ensures _) refl refl)
 
 returns-5 : tie.Need-returns-5
 unfolding between
-returns-5 c = by (onDue (c.before.before.before.before.args.here, c.before.before.before.before.args.kinds.now)
+returns-5 c = by (on_due (c.before.before.before.before.args.here, c.before.before.before.before.args.kinds.now)
     c.before.before.before.before.args.p c.before.before.before.before.args.b) c.before.enum-told5.given.1
     (part_by (c.before.before.before.before.args.here, c.before.before.before.before.args.kinds.now) c.before.before.before.before.args.p
     c.before.before.before.class_of.ensures (c.on-binary-part.ensures _) refl refl)
 
 returns-6 : tie.Need-returns-6
 unfolding between
-returns-6 c = by (onDue (c.before.before.before.before.before.args.here, c.before.before.before.before.before.args.kinds.now)
+returns-6 c = by (on_due (c.before.before.before.before.before.args.here, c.before.before.before.before.before.args.kinds.now)
     c.before.before.before.before.before.args.p c.before.before.before.before.before.args.b) c.before.before.enum-told6.given.1
     (by (on_after (c.before.before.before.before.before.args.here, c.before.before.before.before.before.args.kinds.now)
     c.before.before.before.before.before.args.p) c.before.before.before.before.class_of.ensures c.on-after.ensures)
 
 returns-7 : tie.Need-returns-7
 unfolding between
-returns-7 c = by (onDue (c.before.before.before.before.before.args.here, c.before.before.before.before.before.args.kinds.now)
+returns-7 c = by (on_due (c.before.before.before.before.before.args.here, c.before.before.before.before.before.args.kinds.now)
     c.before.before.before.before.before.args.p c.before.before.before.before.before.args.b) c.before.before.enum-told7.given.1
     (by (on_after (c.before.before.before.before.before.args.here, c.before.before.before.before.before.args.kinds.now)
     c.before.before.before.before.before.args.p) c.before.before.before.before.class_of.ensures c.on-after2.ensures)
 
 returns-8 : tie.Need-returns-8
 unfolding between
-returns-8 c = by (onDue (c.before.before.before.before.before.args.here, c.before.before.before.before.before.args.kinds.now)
+returns-8 c = by (on_due (c.before.before.before.before.before.args.here, c.before.before.before.before.before.args.kinds.now)
     c.before.before.before.before.before.args.p c.before.before.before.before.before.args.b) c.before.before.enum-told8.given.1
     (by (on_after (c.before.before.before.before.before.args.here, c.before.before.before.before.before.args.kinds.now)
     c.before.before.before.before.before.args.p) c.before.before.before.before.class_of.ensures c.on-after3.ensures)
 
 returns-9 : tie.Need-returns-9
 unfolding between
-returns-9 c = by (onDue (c.before.before.before.before.before.args.here, c.before.before.before.before.before.args.kinds.now)
+returns-9 c = by (on_due (c.before.before.before.before.before.args.here, c.before.before.before.before.before.args.kinds.now)
     c.before.before.before.before.before.args.p c.before.before.before.before.before.args.b) c.before.before.enum-told9.given.1
     (by (on_after (c.before.before.before.before.before.args.here, c.before.before.before.before.before.args.kinds.now)
     c.before.before.before.before.before.args.p) c.before.before.before.before.class_of.ensures c.on-after4.ensures)
 
 returns-10 : tie.Need-returns-10
 unfolding between
-returns-10 c = by (onDue (c.before.before.before.before.before.args.here, c.before.before.before.before.before.args.kinds.now)
+returns-10 c = by (on_due (c.before.before.before.before.before.args.here, c.before.before.before.before.before.args.kinds.now)
     c.before.before.before.before.before.args.p c.before.before.before.before.before.args.b) c.before.before.enum-told10.given.1
     (by (on_after (c.before.before.before.before.before.args.here, c.before.before.before.before.before.args.kinds.now)
     c.before.before.before.before.before.args.p) c.before.before.before.before.class_of.ensures c.on-after5.ensures)
 
-pub between-spec : {M : Type 1} → statement M
-between-spec =
+pub between_spec : {M : Type 1} → statement M
+between_spec =
     tie.close
     (tie.spec
     class-of-requires

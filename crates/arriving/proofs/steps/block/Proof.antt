@@ -1,6 +1,6 @@
 use mathlib.Core.Path.{ap, ◌∙◌}
-use Rattle.arriving.specs.Between.Steps.{onBlock}
-use Rattle.arriving.specs.Between.Classes.{noteIs}
+use Rattle.arriving.specs.Between.Steps.{on_block}
+use Rattle.arriving.specs.Between.Classes.{note_is}
 use Rattle.arriving.proofs.StepsLaws.{by}
 use borrow.Author.Rules.{rules}
 use Rattle.arriving.proofs.steps.block.Statement.{statement}
@@ -45,24 +45,24 @@ moded-requires-4 : tie.Need-moded-requires-4
 moded-requires-4 c κs = search rules
 
 returns : tie.Need-returns
-returns c = λ ks. by (onBlock (c.before.before.before.before.args.here, ks) c.before.before.before.before.args.p)
-    (c.before.before.before.note-of.ensures ∙ ap noteIs c.before.enum_told.given.1) (c.moded.ensures ks)
+returns c = λ ks. by (on_block (c.before.before.before.before.args.here, ks) c.before.before.before.before.args.p)
+    (c.before.before.before.note-of.ensures ∙ ap note_is c.before.enum_told.given.1) (c.moded.ensures ks)
 
 returns-2 : tie.Need-returns-2
-returns-2 c = λ ks. by (onBlock (c.before.before.before.before.args.here, ks) c.before.before.before.before.args.p)
-    (c.before.before.before.note-of.ensures ∙ ap noteIs c.before.enum-told2.given.1) (c.odd.ensures ks)
+returns-2 c = λ ks. by (on_block (c.before.before.before.before.args.here, ks) c.before.before.before.before.args.p)
+    (c.before.before.before.note-of.ensures ∙ ap note_is c.before.enum-told2.given.1) (c.odd.ensures ks)
 
 returns-3 : tie.Need-returns-3
-returns-3 c = λ ks. by (onBlock (c.before.before.before.before.args.here, ks) c.before.before.before.before.args.p)
-    (c.before.before.before.note-of.ensures ∙ ap noteIs c.before.enum-told3.given.1) (c.moded2.ensures ks)
+returns-3 c = λ ks. by (on_block (c.before.before.before.before.args.here, ks) c.before.before.before.before.args.p)
+    (c.before.before.before.note-of.ensures ∙ ap note_is c.before.enum-told3.given.1) (c.moded2.ensures ks)
 
 returns-4 : tie.Need-returns-4
-returns-4 c = λ ks. by (onBlock (c.before.before.before.before.args.here, ks) c.before.before.before.before.args.p)
-    (c.before.before.before.note-of.ensures ∙ ap noteIs c.before.enum-told4.given.1) (c.moded3.ensures ks)
+returns-4 c = λ ks. by (on_block (c.before.before.before.before.args.here, ks) c.before.before.before.before.args.p)
+    (c.before.before.before.note-of.ensures ∙ ap note_is c.before.enum-told4.given.1) (c.moded3.ensures ks)
 
 returns-5 : tie.Need-returns-5
-returns-5 c = λ ks. by (onBlock (c.before.before.before.before.args.here, ks) c.before.before.before.before.args.p)
-    (c.before.before.before.note-of.ensures ∙ ap noteIs c.before.enum-told5.given.1) (c.moded4.ensures ks)
+returns-5 c = λ ks. by (on_block (c.before.before.before.before.args.here, ks) c.before.before.before.before.args.p)
+    (c.before.before.before.note-of.ensures ∙ ap note_is c.before.enum-told5.given.1) (c.moded4.ensures ks)
 
 pub block_spec : {M : Type 1} → statement M
 block_spec =

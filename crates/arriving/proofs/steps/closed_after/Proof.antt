@@ -30,6 +30,6 @@ returns-2 c = λ k e. by (λ t. cond t (closed (c.before.before.before.args.here
     c.before.before.before.args.p k) (odd (c.before.before.before.args.here, c.before.before.before.args.kinds.now)
     c.before.before.before.args.p)) (sym c.before.before.after-value.ensures ∙ c.before.if1.false) (c.odd.ensures _)
 
-pub closed-after-spec : {M : Type 1} → statement M
-closed-after-spec =
+pub closed_after_spec : {M : Type 1} → statement M
+closed_after_spec =
     tie.close (tie.spec after-value-requires closed-requires returns odd-requires returns-2)

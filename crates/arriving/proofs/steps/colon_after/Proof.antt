@@ -1,6 +1,6 @@
 use mathlib.Core.Bool.{cond}
 use Rattle.arriving.specs.declared.states.Due.TheVariants as Due
-use Rattle.arriving.specs.Between.Steps.{afterKey, dueNow, odd}
+use Rattle.arriving.specs.Between.Steps.{after_key, due_now, odd}
 use Rattle.arriving.proofs.StepsLaws.{by}
 use borrow.Author.Rules.{rules}
 use Rattle.arriving.proofs.steps.colon_after.Statement.{statement}
@@ -71,47 +71,47 @@ odd-requires-8 : tie.Need-odd-requires-8
 odd-requires-8 c κs = search rules
 
 returns : tie.Need-returns
-returns c = λ ks. by (λ u. cond (afterKey u) (dueNow (c.before.before.before.args.here, ks) Due.Value)
+returns c = λ ks. by (λ u. cond (after_key u) (due_now (c.before.before.before.args.here, ks) Due.Value)
     (odd (c.before.before.before.args.here, ks) c.before.before.before.args.p)) c.before.enum_told.given.1 (c.odd.ensures ks)
 
 returns-2 : tie.Need-returns-2
-returns-2 c = λ ks. by (λ u. cond (afterKey u) (dueNow (c.before.before.before.args.here, ks) Due.Value)
+returns-2 c = λ ks. by (λ u. cond (after_key u) (due_now (c.before.before.before.args.here, ks) Due.Value)
     (odd (c.before.before.before.args.here, ks) c.before.before.before.args.p)) c.before.enum-told2.given.1 (c.odd2.ensures ks)
 
 returns-3 : tie.Need-returns-3
-returns-3 c = λ ks. by (λ u. cond (afterKey u) (dueNow (c.before.before.before.args.here, ks) Due.Value)
+returns-3 c = λ ks. by (λ u. cond (after_key u) (due_now (c.before.before.before.args.here, ks) Due.Value)
     (odd (c.before.before.before.args.here, ks) c.before.before.before.args.p)) c.before.enum-told3.given.1 (c.odd3.ensures ks)
 
 returns-4 : tie.Need-returns-4
-returns-4 c = λ ks. by (λ u. cond (afterKey u) (dueNow (c.before.before.before.args.here, ks) Due.Value)
+returns-4 c = λ ks. by (λ u. cond (after_key u) (due_now (c.before.before.before.args.here, ks) Due.Value)
     (odd (c.before.before.before.args.here, ks) c.before.before.before.args.p)) c.before.enum-told4.given.1 (c.odd4.ensures ks)
 
 returns-5 : tie.Need-returns-5
-returns-5 c = λ ks. by (λ u. cond (afterKey u) (dueNow (c.before.before.before.args.here, ks) Due.Value)
+returns-5 c = λ ks. by (λ u. cond (after_key u) (due_now (c.before.before.before.args.here, ks) Due.Value)
     (odd (c.before.before.before.args.here, ks) c.before.before.before.args.p)) c.before.enum-told5.given.1 (c.odd5.ensures ks)
 
 returns-6 : tie.Need-returns-6
-returns-6 c = λ ks. by (λ u. cond (afterKey u) (dueNow (c.before.before.before.args.here, ks) Due.Value)
+returns-6 c = λ ks. by (λ u. cond (after_key u) (due_now (c.before.before.before.args.here, ks) Due.Value)
     (odd (c.before.before.before.args.here, ks) c.before.before.before.args.p)) c.before.enum-told6.given.1 (c.odd6.ensures ks)
 
 returns-7 : tie.Need-returns-7
-returns-7 c = λ ks. by (λ u. cond (afterKey u) (dueNow (c.before.before.before.args.here, ks) Due.Value)
+returns-7 c = λ ks. by (λ u. cond (after_key u) (due_now (c.before.before.before.args.here, ks) Due.Value)
     (odd (c.before.before.before.args.here, ks) c.before.before.before.args.p)) c.before.enum-told7.given.1 (c.resumed.ensures ks)
 
 returns-8 : tie.Need-returns-8
-returns-8 c = λ ks. by (λ u. cond (afterKey u) (dueNow (c.before.before.before.args.here, ks) Due.Value)
+returns-8 c = λ ks. by (λ u. cond (after_key u) (due_now (c.before.before.before.args.here, ks) Due.Value)
     (odd (c.before.before.before.args.here, ks) c.before.before.before.args.p)) c.before.enum-told8.given.1 (c.odd7.ensures ks)
 
 returns-9 : tie.Need-returns-9
-returns-9 c = λ ks. by (λ u. cond (afterKey u) (dueNow (c.before.before.before.args.here, ks) Due.Value)
+returns-9 c = λ ks. by (λ u. cond (after_key u) (due_now (c.before.before.before.args.here, ks) Due.Value)
     (odd (c.before.before.before.args.here, ks) c.before.before.before.args.p)) c.before.enum-told9.given.1 (c.resumed2.ensures ks)
 
 returns-10 : tie.Need-returns-10
-returns-10 c = λ ks. by (λ u. cond (afterKey u) (dueNow (c.before.before.before.args.here, ks) Due.Value)
+returns-10 c = λ ks. by (λ u. cond (after_key u) (due_now (c.before.before.before.args.here, ks) Due.Value)
     (odd (c.before.before.before.args.here, ks) c.before.before.before.args.p)) c.before.enum-told10.given.1 (c.odd8.ensures ks)
 
-pub colon-after-spec : {M : Type 1} → statement M
-colon-after-spec =
+pub colon_after_spec : {M : Type 1} → statement M
+colon_after_spec =
     tie.close
     (tie.spec
     enum_told

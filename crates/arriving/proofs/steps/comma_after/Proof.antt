@@ -30,6 +30,6 @@ returns-2 c = by (λ t. cond t (comma (c.before.before.before.args.here, c.befor
     (odd (c.before.before.before.args.here, c.before.before.before.args.kinds.now) c.before.before.before.args.p))
     (sym c.before.before.after-value.ensures ∙ c.before.if1.false) (c.odd.ensures _)
 
-pub comma-after-spec : {M : Type 1} → statement M
-comma-after-spec =
+pub comma_after_spec : {M : Type 1} → statement M
+comma_after_spec =
     tie.close (tie.spec after-value-requires comma-requires returns odd-requires returns-2)

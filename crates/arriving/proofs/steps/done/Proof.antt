@@ -1,6 +1,6 @@
 use mathlib.Core.Path.{ap, ◌∙◌}
 use Rattle.arriving.specs.Between.Steps.{Stand, between, done}
-use Rattle.arriving.proofs.StepsLaws.{by, few-takes, roomy-moded}
+use Rattle.arriving.proofs.StepsLaws.{by, few_takes, roomy_moded}
 use borrow.Author.Rules.{rules}
 use Rattle.arriving.proofs.steps.done.Statement.{statement}
 use Rattle.arriving.proofs.steps.done.Tie as tie
@@ -14,7 +14,7 @@ enum-known-out : tie.Need-enum-known-out
 enum-known-out c = search rules
 
 taken-requires : tie.Need-taken-requires
-taken-requires c κs = (c.before.before.before.requires.0, few-takes _ _ _ c.before.before.before.requires.1 c.before.out.given.1)
+taken-requires c κs = (c.before.before.before.requires.0, few_takes _ _ _ c.before.before.before.requires.1 c.before.out.given.1)
 
 enum_told : tie.Need-enum-told
 enum_told c = search rules
@@ -23,7 +23,7 @@ moded-requires : tie.Need-moded-requires
 moded-requires c κs = search rules
 
 between-requires : tie.Need-between-requires
-between-requires c κs = roomy-moded _ _ _ c.before.moded.ensures c.before.before.before.before.requires.0
+between-requires c κs = roomy_moded _ _ _ c.before.moded.ensures c.before.before.before.before.requires.0
 
 enum-known-out-2 : tie.Need-enum-known-out-2
 enum-known-out-2 c = search rules
@@ -47,8 +47,8 @@ unfolding done
 returns-3 c = by (done (c.before.before.before.before.args.here, c.before.before.before.before.args.kinds.now)
     c.before.before.before.before.args.p c.before.before.before.before.args.b) c.before.before.out2.given.1 (c.moded2.ensures _)
 
-pub done-spec : {M : Type 1} → statement M
-done-spec =
+pub done_spec : {M : Type 1} → statement M
+done_spec =
     tie.close
     (tie.spec
     enum-known-out

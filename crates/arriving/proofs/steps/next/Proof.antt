@@ -1,12 +1,12 @@
 use Prim.Native.Nat.{suc}
 use mathlib.Core.Path.{refl, ap, ◌∙◌}
 use native.Mathlib.Omega.{arith}
-use Rattle.arriving.specs.Between.Steps.{done, onMode}
-use Rattle.arriving.proofs.StepsLaws.{by, few-by, roomy_of, figure-of}
-use Rattle.arriving.proofs.FiguresBounds.{figures-bounded}
-use Rattle.arriving.proofs.TimesLaws.{times-bounded}
-use Rattle.arriving.proofs.StringsBoundsLaws.{quoted-bounded}
-use Rattle.arriving.proofs.SmallLaws.{word-bounded, name-bounded, octets-bounded}
+use Rattle.arriving.specs.Between.Steps.{done, on_mode}
+use Rattle.arriving.proofs.StepsLaws.{by, few_by, roomy_of, figure_of_lem}
+use Rattle.arriving.proofs.FiguresBounds.{figures_bounded}
+use Rattle.arriving.proofs.TimesLaws.{times_bounded}
+use Rattle.arriving.proofs.StringsBoundsLaws.{quoted_bounded}
+use Rattle.arriving.proofs.SmallLaws.{word_bounded, name_bounded, octets_bounded}
 use borrow.Author.Rules.{rules}
 use Rattle.arriving.proofs.steps.next.Statement.{statement}
 use Rattle.arriving.proofs.steps.next.Tie as tie
@@ -65,8 +65,8 @@ done-requires : tie.Need-done-requires
 done-requires c κs = (
   roomy_of c.before.before.before.before.before.args.p c.before.before.before.before.before.args.here
       c.before.before.before.before.before.requires.0 (omega arith),
-  few-by (suc c.before.before.before.before.before.args.p)
-      c.before.word_next.ensures (word-bounded (suc c.before.before.before.before.before.args.p) _
+  few_by (suc c.before.before.before.before.before.args.p)
+      c.before.word_next.ensures (word_bounded (suc c.before.before.before.before.before.args.p) _
       c.before.before.before.before.before.args.p c.before.before.before.before.before.args.b),
 )
 
@@ -75,7 +75,7 @@ enum-known-mode-2 c = search rules
 
 figure-next-requires : tie.Need-figure-next-requires
 figure-next-requires c κs = (
-  figure-of c.before.before.before.args.p c.before.before.before.args.here _ c.before.before.before.requires.0
+  figure_of_lem c.before.before.before.args.p c.before.before.before.args.here _ c.before.before.before.requires.0
       c.before.mode2.given.1,
   omega arith,
 )
@@ -84,9 +84,9 @@ done-requires-2 : tie.Need-done-requires-2
 done-requires-2 c κs = (
   roomy_of c.before.before.before.before.before.args.p c.before.before.before.before.before.args.here
       c.before.before.before.before.before.requires.0 (omega arith),
-  few-by (suc c.before.before.before.before.before.args.p)
-      c.before.figure-next.ensures (figures-bounded _ c.before.before.before.before.before.args.p
-      c.before.before.before.before.before.args.b (figure-of c.before.before.before.before.before.args.p
+  few_by (suc c.before.before.before.before.before.args.p)
+      c.before.figure-next.ensures (figures_bounded _ c.before.before.before.before.before.args.p
+      c.before.before.before.before.before.args.b (figure_of_lem c.before.before.before.before.before.args.p
       c.before.before.before.before.before.args.here _ c.before.before.before.before.before.requires.0
       c.before.before.before.mode2.given.1)),
 )
@@ -101,8 +101,8 @@ done-requires-3 : tie.Need-done-requires-3
 done-requires-3 c κs = (
   roomy_of c.before.before.before.before.before.args.p c.before.before.before.before.before.args.here
       c.before.before.before.before.before.requires.0 (omega arith),
-  few-by (suc c.before.before.before.before.before.args.p)
-      c.before.moment-next.ensures (times-bounded _ _ (suc c.before.before.before.before.before.args.p)
+  few_by (suc c.before.before.before.before.before.args.p)
+      c.before.moment-next.ensures (times_bounded _ _ (suc c.before.before.before.before.before.args.p)
       c.before.before.before.before.before.args.p c.before.before.before.before.before.args.b),
 )
 
@@ -116,8 +116,8 @@ done-requires-4 : tie.Need-done-requires-4
 done-requires-4 c κs = (
   roomy_of c.before.before.before.before.before.args.p c.before.before.before.before.before.args.here
       c.before.before.before.before.before.requires.0 (omega arith),
-  few-by (suc c.before.before.before.before.before.args.p)
-      c.before.quoted-next.ensures (quoted-bounded _ _ (suc c.before.before.before.before.before.args.p)
+  few_by (suc c.before.before.before.before.before.args.p)
+      c.before.quoted-next.ensures (quoted_bounded _ _ (suc c.before.before.before.before.before.args.p)
       c.before.before.before.before.before.args.p c.before.before.before.before.before.args.b),
 )
 
@@ -131,8 +131,8 @@ done-requires-5 : tie.Need-done-requires-5
 done-requires-5 c κs = (
   roomy_of c.before.before.before.before.before.args.p c.before.before.before.before.before.args.here
       c.before.before.before.before.before.requires.0 (omega arith),
-  few-by (suc c.before.before.before.before.before.args.p)
-      c.before.octets-next.ensures (octets-bounded (suc c.before.before.before.before.before.args.p) _
+  few_by (suc c.before.before.before.before.before.args.p)
+      c.before.octets-next.ensures (octets_bounded (suc c.before.before.before.before.before.args.p) _
       c.before.before.before.before.before.args.p c.before.before.before.before.before.args.b),
 )
 
@@ -146,41 +146,41 @@ done-requires-6 : tie.Need-done-requires-6
 done-requires-6 c κs = (
   roomy_of c.before.before.before.before.args.p c.before.before.before.before.args.here
       c.before.before.before.before.requires.0 (omega arith),
-  few-by (suc c.before.before.before.before.args.p) c.before.name-next.ensures
-      (name-bounded (suc c.before.before.before.before.args.p) c.before.before.before.before.args.b),
+  few_by (suc c.before.before.before.before.args.p) c.before.name-next.ensures
+      (name_bounded (suc c.before.before.before.before.args.p) c.before.before.before.before.args.b),
 )
 
 enum-told-7 : tie.Need-enum-told-7
 enum-told-7 c = search rules
 
 returns : tie.Need-returns
-unfolding onMode
-returns c = by (onMode (c.before.before.before.before.args.here, c.before.before.before.before.args.kinds.now)
+unfolding on_mode
+returns c = by (on_mode (c.before.before.before.before.args.here, c.before.before.before.before.args.kinds.now)
     c.before.before.before.before.args.p c.before.before.before.before.args.b) c.before.before.enum_told.given.1 c.between.ensures
 
 returns-2 : tie.Need-returns-2
-unfolding onMode
-returns-2 c = by (onMode (c.before.before.before.args.here, c.before.before.before.args.kinds.now) c.before.before.before.args.p
+unfolding on_mode
+returns-2 c = by (on_mode (c.before.before.before.args.here, c.before.before.before.args.kinds.now) c.before.before.before.args.p
     c.before.before.before.args.b) c.before.enum-told2.given.1 (c.slash.ensures _)
 
 returns-3 : tie.Need-returns-3
-unfolding onMode
-returns-3 c = by (onMode (c.before.before.before.args.here, c.before.before.before.args.kinds.now) c.before.before.before.args.p
+unfolding on_mode
+returns-3 c = by (on_mode (c.before.before.before.args.here, c.before.before.before.args.kinds.now) c.before.before.before.args.p
     c.before.before.before.args.b) c.before.enum-told3.given.1 (c.line.ensures _)
 
 returns-4 : tie.Need-returns-4
-unfolding onMode
-returns-4 c = by (onMode (c.before.before.before.args.here, c.before.before.before.args.kinds.now) c.before.before.before.args.p
+unfolding on_mode
+returns-4 c = by (on_mode (c.before.before.before.args.here, c.before.before.before.args.kinds.now) c.before.before.before.args.p
     c.before.before.before.args.b) c.before.enum-told4.given.1 (c.block.ensures _)
 
 returns-5 : tie.Need-returns-5
-unfolding onMode
-returns-5 c = by (onMode (c.before.before.before.args.here, c.before.before.before.args.kinds.now) c.before.before.before.args.p
+unfolding on_mode
+returns-5 c = by (on_mode (c.before.before.before.args.here, c.before.before.before.args.kinds.now) c.before.before.before.args.p
     c.before.before.before.args.b) c.before.enum-told5.given.1 (c.star.ensures _)
 
 returns-6 : tie.Need-returns-6
-unfolding onMode
-returns-6 c = by (onMode (c.before.before.before.before.before.before.args.here, c.before.before.before.before.before.before.args.kinds.now)
+unfolding on_mode
+returns-6 c = by (on_mode (c.before.before.before.before.before.before.args.here, c.before.before.before.before.before.before.args.kinds.now)
     c.before.before.before.before.before.before.args.p c.before.before.before.before.before.before.args.b)
     c.before.before.before.before.mode.given.1 (c.done.ensures ∙ ap (done
     (c.before.before.before.before.before.before.args.here, c.before.before.before.before.before.before.args.kinds.now)
@@ -188,8 +188,8 @@ returns-6 c = by (onMode (c.before.before.before.before.before.before.args.here,
     c.before.before.word_next.ensures)
 
 returns-7 : tie.Need-returns-7
-unfolding onMode
-returns-7 c = by (onMode (c.before.before.before.before.before.before.args.here, c.before.before.before.before.before.before.args.kinds.now)
+unfolding on_mode
+returns-7 c = by (on_mode (c.before.before.before.before.before.before.args.here, c.before.before.before.before.before.before.args.kinds.now)
     c.before.before.before.before.before.before.args.p c.before.before.before.before.before.before.args.b)
     c.before.before.before.before.mode2.given.1 (c.done2.ensures ∙ ap
     (done (c.before.before.before.before.before.before.args.here, c.before.before.before.before.before.before.args.kinds.now)
@@ -197,8 +197,8 @@ returns-7 c = by (onMode (c.before.before.before.before.before.before.args.here,
     c.before.before.figure-next.ensures)
 
 returns-8 : tie.Need-returns-8
-unfolding onMode
-returns-8 c = by (onMode (c.before.before.before.before.before.before.args.here, c.before.before.before.before.before.before.args.kinds.now)
+unfolding on_mode
+returns-8 c = by (on_mode (c.before.before.before.before.before.before.args.here, c.before.before.before.before.before.before.args.kinds.now)
     c.before.before.before.before.before.before.args.p c.before.before.before.before.before.before.args.b)
     c.before.before.before.before.mode3.given.1 (c.done3.ensures ∙ ap
     (done (c.before.before.before.before.before.before.args.here, c.before.before.before.before.before.before.args.kinds.now)
@@ -206,8 +206,8 @@ returns-8 c = by (onMode (c.before.before.before.before.before.before.args.here,
     c.before.before.moment-next.ensures)
 
 returns-9 : tie.Need-returns-9
-unfolding onMode
-returns-9 c = by (onMode (c.before.before.before.before.before.before.args.here, c.before.before.before.before.before.before.args.kinds.now)
+unfolding on_mode
+returns-9 c = by (on_mode (c.before.before.before.before.before.before.args.here, c.before.before.before.before.before.before.args.kinds.now)
     c.before.before.before.before.before.before.args.p c.before.before.before.before.before.before.args.b)
     c.before.before.before.before.mode4.given.1 (c.done4.ensures ∙ ap
     (done (c.before.before.before.before.before.before.args.here, c.before.before.before.before.before.before.args.kinds.now)
@@ -215,8 +215,8 @@ returns-9 c = by (onMode (c.before.before.before.before.before.before.args.here,
     c.before.before.quoted-next.ensures)
 
 returns-10 : tie.Need-returns-10
-unfolding onMode
-returns-10 c = by (onMode (c.before.before.before.before.before.before.args.here, c.before.before.before.before.before.before.args.kinds.now)
+unfolding on_mode
+returns-10 c = by (on_mode (c.before.before.before.before.before.before.args.here, c.before.before.before.before.before.before.args.kinds.now)
     c.before.before.before.before.before.before.args.p c.before.before.before.before.before.before.args.b)
     c.before.before.before.before.mode5.given.1 (c.done5.ensures ∙ ap
     (done (c.before.before.before.before.before.before.args.here, c.before.before.before.before.before.before.args.kinds.now)
@@ -224,19 +224,19 @@ returns-10 c = by (onMode (c.before.before.before.before.before.before.args.here
     c.before.before.octets-next.ensures)
 
 returns-11 : tie.Need-returns-11
-unfolding onMode
-returns-11 c = by (onMode (c.before.before.before.before.before.args.here, c.before.before.before.before.before.args.kinds.now)
+unfolding on_mode
+returns-11 c = by (on_mode (c.before.before.before.before.before.args.here, c.before.before.before.before.before.args.kinds.now)
     c.before.before.before.before.before.args.p c.before.before.before.before.before.args.b) c.before.before.before.enum-told6.given.1
     (c.done6.ensures ∙ ap (done (c.before.before.before.before.before.args.here, c.before.before.before.before.before.args.kinds.now)
     c.before.before.before.before.before.args.p c.before.before.before.before.before.args.b) c.before.before.name-next.ensures)
 
 returns-12 : tie.Need-returns-12
-unfolding onMode
-returns-12 c = by (onMode (c.before.before.args.here, c.before.before.args.kinds.now) c.before.before.args.p c.before.before.args.b)
+unfolding on_mode
+returns-12 c = by (on_mode (c.before.before.args.here, c.before.before.args.kinds.now) c.before.before.args.p c.before.before.args.b)
     c.enum-told7.given.1 refl
 
-pub next-spec : {M : Type 1} → statement M
-next-spec =
+pub next_spec : {M : Type 1} → statement M
+next_spec =
     tie.close
     (tie.spec
     enum_told

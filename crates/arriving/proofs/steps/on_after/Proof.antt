@@ -1,7 +1,7 @@
 use mathlib.Core.Path.{refl}
 use Rattle.machine.specs.Machine.{square, curly}
 use Rattle.arriving.specs.Between.Steps.{on_after}
-use Rattle.arriving.specs.Between.Classes.{classIs}
+use Rattle.arriving.specs.Between.Classes.{class_is}
 use Rattle.arriving.proofs.StepsLaws.{by}
 use borrow.Author.Rules.{rules}
 use Rattle.arriving.proofs.steps.on_after.Statement.{statement}
@@ -119,74 +119,74 @@ odd-requires-9 c κs = search rules
 
 returns : tie.Need-returns
 returns c = by (λ k. on_after (c.before.before.before.args.here, c.before.before.before.args.kinds.now) c.before.before.before.args.p
-    (classIs k)) c.before.enum_told.given.1 (c.moded.ensures _)
+    (class_is k)) c.before.enum_told.given.1 (c.moded.ensures _)
 
 returns-2 : tie.Need-returns-2
 returns-2 c = by (λ k. on_after (c.before.before.before.args.here, c.before.before.before.args.kinds.now) c.before.before.before.args.p
-    (classIs k)) c.before.enum-told2.given.1 (c.moded2.ensures _)
+    (class_is k)) c.before.enum-told2.given.1 (c.moded2.ensures _)
 
 returns-3 : tie.Need-returns-3
 returns-3 c = by (λ k. on_after (c.before.before.before.args.here, c.before.before.before.args.kinds.now) c.before.before.before.args.p
-    (classIs k)) c.before.enum-told3.given.1 (c.moded3.ensures _)
+    (class_is k)) c.before.enum-told3.given.1 (c.moded3.ensures _)
 
 returns-4 : tie.Need-returns-4
 returns-4 c = by (λ k. on_after (c.before.before.before.args.here, c.before.before.before.args.kinds.now) c.before.before.before.args.p
-    (classIs k)) c.before.enum-told4.given.1 c.comma-after.ensures
+    (class_is k)) c.before.enum-told4.given.1 c.comma_after_lem.ensures
 
 returns-5 : tie.Need-returns-5
 returns-5 c = by (λ k. on_after (c.before.before.before.args.here, c.before.before.before.args.kinds.now) c.before.before.before.args.p
-    (classIs k)) c.before.enum-told5.given.1 (c.Closed-after.ensures square refl)
+    (class_is k)) c.before.enum-told5.given.1 (c.Closed-after.ensures square refl)
 
 returns-6 : tie.Need-returns-6
 returns-6 c = by (λ k. on_after (c.before.before.before.args.here, c.before.before.before.args.kinds.now) c.before.before.before.args.p
-    (classIs k)) c.before.enum-told6.given.1 (c.closed-after2.ensures curly refl)
+    (class_is k)) c.before.enum-told6.given.1 (c.closed-after2.ensures curly refl)
 
 returns-7 : tie.Need-returns-7
 returns-7 c = by (λ k. on_after (c.before.before.before.args.here, c.before.before.before.args.kinds.now) c.before.before.before.args.p
-    (classIs k)) c.before.enum-told7.given.1 (c.colon-after.ensures _)
+    (class_is k)) c.before.enum-told7.given.1 (c.colon-after.ensures _)
 
 returns-8 : tie.Need-returns-8
 returns-8 c = by (λ k. on_after (c.before.before.before.args.here, c.before.before.before.args.kinds.now) c.before.before.before.args.p
-    (classIs k)) c.before.enum-told8.given.1 (c.plus-after.ensures _)
+    (class_is k)) c.before.enum-told8.given.1 (c.plus_after_lem.ensures _)
 
 returns-9 : tie.Need-returns-9
 returns-9 c = by (λ k. on_after (c.before.before.before.args.here, c.before.before.before.args.kinds.now) c.before.before.before.args.p
-    (classIs k)) c.before.enum-told9.given.1 (c.odd.ensures _)
+    (class_is k)) c.before.enum-told9.given.1 (c.odd.ensures _)
 
 returns-10 : tie.Need-returns-10
 returns-10 c = by (λ k. on_after (c.before.before.before.args.here, c.before.before.before.args.kinds.now) c.before.before.before.args.p
-    (classIs k)) c.before.enum-told10.given.1 (c.odd2.ensures _)
+    (class_is k)) c.before.enum-told10.given.1 (c.odd2.ensures _)
 
 returns-11 : tie.Need-returns-11
 returns-11 c = by (λ k. on_after (c.before.before.before.args.here, c.before.before.before.args.kinds.now) c.before.before.before.args.p
-    (classIs k)) c.before.enum-told11.given.1 (c.odd3.ensures _)
+    (class_is k)) c.before.enum-told11.given.1 (c.odd3.ensures _)
 
 returns-12 : tie.Need-returns-12
 returns-12 c = by (λ k. on_after (c.before.before.before.args.here, c.before.before.before.args.kinds.now) c.before.before.before.args.p
-    (classIs k)) c.before.enum-told12.given.1 (c.odd4.ensures _)
+    (class_is k)) c.before.enum-told12.given.1 (c.odd4.ensures _)
 
 returns-13 : tie.Need-returns-13
 returns-13 c = by (λ k. on_after (c.before.before.before.args.here, c.before.before.before.args.kinds.now) c.before.before.before.args.p
-    (classIs k)) c.before.enum-told13.given.1 (c.odd5.ensures _)
+    (class_is k)) c.before.enum-told13.given.1 (c.odd5.ensures _)
 
 returns-14 : tie.Need-returns-14
 returns-14 c = by (λ k. on_after (c.before.before.before.args.here, c.before.before.before.args.kinds.now) c.before.before.before.args.p
-    (classIs k)) c.before.enum-told14.given.1 (c.odd6.ensures _)
+    (class_is k)) c.before.enum-told14.given.1 (c.odd6.ensures _)
 
 returns-15 : tie.Need-returns-15
 returns-15 c = by (λ k. on_after (c.before.before.before.args.here, c.before.before.before.args.kinds.now) c.before.before.before.args.p
-    (classIs k)) c.before.enum-told15.given.1 (c.odd7.ensures _)
+    (class_is k)) c.before.enum-told15.given.1 (c.odd7.ensures _)
 
 returns-16 : tie.Need-returns-16
 returns-16 c = by (λ k. on_after (c.before.before.before.args.here, c.before.before.before.args.kinds.now) c.before.before.before.args.p
-    (classIs k)) c.before.enum-told16.given.1 (c.odd8.ensures _)
+    (class_is k)) c.before.enum-told16.given.1 (c.odd8.ensures _)
 
 returns-17 : tie.Need-returns-17
 returns-17 c = by (λ k. on_after (c.before.before.before.args.here, c.before.before.before.args.kinds.now) c.before.before.before.args.p
-    (classIs k)) c.before.enum-told17.given.1 (c.odd9.ensures _)
+    (class_is k)) c.before.enum-told17.given.1 (c.odd9.ensures _)
 
-pub on-after-spec : {M : Type 1} → statement M
-on-after-spec =
+pub on_after_spec : {M : Type 1} → statement M
+on_after_spec =
     tie.close
     (tie.spec
     enum_told

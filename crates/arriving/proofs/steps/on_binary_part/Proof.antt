@@ -1,4 +1,4 @@
-use Rattle.arriving.specs.Between.Classes.{classIs}
+use Rattle.arriving.specs.Between.Classes.{class_is}
 use mathlib.Core.Path.{refl}
 use Rattle.arriving.proofs.StepsLaws.{part_by}
 use borrow.Author.Rules.{rules}
@@ -21,7 +21,7 @@ on-part-requires c κs = search rules
 
 returns : tie.Need-returns
 returns c = λ ks. part_by (c.before.before.before.args.here, ks) c.before.before.before.args.p
-    {k = classIs c.before.before.before.args.class} refl (c.on-part.ensures ks) (c.before.before.odd.ensures ks) (c.before.resumed.ensures ks)
+    {k = class_is c.before.before.before.args.class} refl (c.on_part_lem.ensures ks) (c.before.before.odd.ensures ks) (c.before.resumed.ensures ks)
 
-pub on-binary-part-spec : {M : Type 1} → statement M
-on-binary-part-spec = tie.close (tie.spec odd-requires resumed-requires on-part-requires returns)
+pub on_binary_part_spec : {M : Type 1} → statement M
+on_binary_part_spec = tie.close (tie.spec odd-requires resumed-requires on-part-requires returns)

@@ -1,6 +1,6 @@
 use mathlib.Core.Path.{refl}
-use Rattle.arriving.specs.Between.Steps.{onPart}
-use Rattle.arriving.specs.Between.Classes.{classIs}
+use Rattle.arriving.specs.Between.Steps.{on_part}
+use Rattle.arriving.specs.Between.Classes.{class_is}
 use Rattle.arriving.proofs.StepsLaws.{by}
 use borrow.Author.Rules.{rules}
 use Rattle.arriving.proofs.steps.on_part.Statement.{statement}
@@ -107,89 +107,89 @@ odd-requires-12 : tie.Need-odd-requires-12
 odd-requires-12 c κs = search rules
 
 returns : tie.Need-returns
-returns c = λ ks. by (λ k. onPart (c.before.before.before.args.here, ks) c.before.before.before.args.p (c.before.before.before.args.quoted, ks)
-    (c.before.before.before.args.dollared, ks) (classIs k)) c.before.enum_told.given.1 (c.moded.ensures ks)
+returns c = λ ks. by (λ k. on_part (c.before.before.before.args.here, ks) c.before.before.before.args.p (c.before.before.before.args.quoted, ks)
+    (c.before.before.before.args.dollared, ks) (class_is k)) c.before.enum_told.given.1 (c.moded.ensures ks)
 
 returns-2 : tie.Need-returns-2
-returns-2 c = λ ks. by (λ k. onPart (c.before.before.before.args.here, ks) c.before.before.before.args.p
-    (c.before.before.before.args.quoted, ks) (c.before.before.before.args.dollared, ks) (classIs k)) c.before.enum-told2.given.1
+returns-2 c = λ ks. by (λ k. on_part (c.before.before.before.args.here, ks) c.before.before.before.args.p
+    (c.before.before.before.args.quoted, ks) (c.before.before.before.args.dollared, ks) (class_is k)) c.before.enum-told2.given.1
     (c.moded2.ensures ks)
 
 returns-3 : tie.Need-returns-3
-returns-3 c = λ ks. by (λ k. onPart (c.before.before.before.args.here, ks) c.before.before.before.args.p
-    (c.before.before.before.args.quoted, ks) (c.before.before.before.args.dollared, ks) (classIs k)) c.before.enum-told3.given.1
+returns-3 c = λ ks. by (λ k. on_part (c.before.before.before.args.here, ks) c.before.before.before.args.p
+    (c.before.before.before.args.quoted, ks) (c.before.before.before.args.dollared, ks) (class_is k)) c.before.enum-told3.given.1
     (c.moded3.ensures ks)
 
 returns-4 : tie.Need-returns-4
-returns-4 c = λ ks. by (λ k. onPart (c.before.before.args.here, ks) c.before.before.args.p (c.before.before.args.quoted, ks)
-    (c.before.before.args.dollared, ks) (classIs k)) c.enum-told4.given.1 refl
+returns-4 c = λ ks. by (λ k. on_part (c.before.before.args.here, ks) c.before.before.args.p (c.before.before.args.quoted, ks)
+    (c.before.before.args.dollared, ks) (class_is k)) c.enum-told4.given.1 refl
 
 returns-5 : tie.Need-returns-5
-returns-5 c = λ ks. by (λ k. onPart (c.before.before.args.here, ks) c.before.before.args.p (c.before.before.args.quoted, ks)
-    (c.before.before.args.dollared, ks) (classIs k)) c.enum-told5.given.1 refl
+returns-5 c = λ ks. by (λ k. on_part (c.before.before.args.here, ks) c.before.before.args.p (c.before.before.args.quoted, ks)
+    (c.before.before.args.dollared, ks) (class_is k)) c.enum-told5.given.1 refl
 
 returns-6 : tie.Need-returns-6
-returns-6 c = λ ks. by (λ k. onPart (c.before.before.before.args.here, ks) c.before.before.before.args.p
-    (c.before.before.before.args.quoted, ks) (c.before.before.before.args.dollared, ks) (classIs k)) c.before.enum-told6.given.1
+returns-6 c = λ ks. by (λ k. on_part (c.before.before.before.args.here, ks) c.before.before.before.args.p
+    (c.before.before.before.args.quoted, ks) (c.before.before.before.args.dollared, ks) (class_is k)) c.before.enum-told6.given.1
     (c.odd.ensures ks)
 
 returns-7 : tie.Need-returns-7
-returns-7 c = λ ks. by (λ k. onPart (c.before.before.before.args.here, ks) c.before.before.before.args.p
-    (c.before.before.before.args.quoted, ks) (c.before.before.before.args.dollared, ks) (classIs k)) c.before.enum-told7.given.1
+returns-7 c = λ ks. by (λ k. on_part (c.before.before.before.args.here, ks) c.before.before.before.args.p
+    (c.before.before.before.args.quoted, ks) (c.before.before.before.args.dollared, ks) (class_is k)) c.before.enum-told7.given.1
     (c.odd2.ensures ks)
 
 returns-8 : tie.Need-returns-8
-returns-8 c = λ ks. by (λ k. onPart (c.before.before.before.args.here, ks) c.before.before.before.args.p
-    (c.before.before.before.args.quoted, ks) (c.before.before.before.args.dollared, ks) (classIs k)) c.before.enum-told8.given.1
+returns-8 c = λ ks. by (λ k. on_part (c.before.before.before.args.here, ks) c.before.before.before.args.p
+    (c.before.before.before.args.quoted, ks) (c.before.before.before.args.dollared, ks) (class_is k)) c.before.enum-told8.given.1
     (c.odd3.ensures ks)
 
 returns-9 : tie.Need-returns-9
-returns-9 c = λ ks. by (λ k. onPart (c.before.before.before.args.here, ks) c.before.before.before.args.p
-    (c.before.before.before.args.quoted, ks) (c.before.before.before.args.dollared, ks) (classIs k)) c.before.enum-told9.given.1
+returns-9 c = λ ks. by (λ k. on_part (c.before.before.before.args.here, ks) c.before.before.before.args.p
+    (c.before.before.before.args.quoted, ks) (c.before.before.before.args.dollared, ks) (class_is k)) c.before.enum-told9.given.1
     (c.odd4.ensures ks)
 
 returns-10 : tie.Need-returns-10
-returns-10 c = λ ks. by (λ k. onPart (c.before.before.before.args.here, ks) c.before.before.before.args.p
-    (c.before.before.before.args.quoted, ks) (c.before.before.before.args.dollared, ks) (classIs k)) c.before.enum-told10.given.1
+returns-10 c = λ ks. by (λ k. on_part (c.before.before.before.args.here, ks) c.before.before.before.args.p
+    (c.before.before.before.args.quoted, ks) (c.before.before.before.args.dollared, ks) (class_is k)) c.before.enum-told10.given.1
     (c.odd5.ensures ks)
 
 returns-11 : tie.Need-returns-11
-returns-11 c = λ ks. by (λ k. onPart (c.before.before.before.args.here, ks) c.before.before.before.args.p
-    (c.before.before.before.args.quoted, ks) (c.before.before.before.args.dollared, ks) (classIs k)) c.before.enum-told11.given.1
+returns-11 c = λ ks. by (λ k. on_part (c.before.before.before.args.here, ks) c.before.before.before.args.p
+    (c.before.before.before.args.quoted, ks) (c.before.before.before.args.dollared, ks) (class_is k)) c.before.enum-told11.given.1
     (c.odd6.ensures ks)
 
 returns-12 : tie.Need-returns-12
-returns-12 c = λ ks. by (λ k. onPart (c.before.before.before.args.here, ks) c.before.before.before.args.p
-    (c.before.before.before.args.quoted, ks) (c.before.before.before.args.dollared, ks) (classIs k)) c.before.enum-told12.given.1
+returns-12 c = λ ks. by (λ k. on_part (c.before.before.before.args.here, ks) c.before.before.before.args.p
+    (c.before.before.before.args.quoted, ks) (c.before.before.before.args.dollared, ks) (class_is k)) c.before.enum-told12.given.1
     (c.odd7.ensures ks)
 
 returns-13 : tie.Need-returns-13
-returns-13 c = λ ks. by (λ k. onPart (c.before.before.before.args.here, ks) c.before.before.before.args.p
-    (c.before.before.before.args.quoted, ks) (c.before.before.before.args.dollared, ks) (classIs k)) c.before.enum-told13.given.1
+returns-13 c = λ ks. by (λ k. on_part (c.before.before.before.args.here, ks) c.before.before.before.args.p
+    (c.before.before.before.args.quoted, ks) (c.before.before.before.args.dollared, ks) (class_is k)) c.before.enum-told13.given.1
     (c.odd8.ensures ks)
 
 returns-14 : tie.Need-returns-14
-returns-14 c = λ ks. by (λ k. onPart (c.before.before.before.args.here, ks) c.before.before.before.args.p
-    (c.before.before.before.args.quoted, ks) (c.before.before.before.args.dollared, ks) (classIs k)) c.before.enum-told14.given.1
+returns-14 c = λ ks. by (λ k. on_part (c.before.before.before.args.here, ks) c.before.before.before.args.p
+    (c.before.before.before.args.quoted, ks) (c.before.before.before.args.dollared, ks) (class_is k)) c.before.enum-told14.given.1
     (c.odd9.ensures ks)
 
 returns-15 : tie.Need-returns-15
-returns-15 c = λ ks. by (λ k. onPart (c.before.before.before.args.here, ks) c.before.before.before.args.p
-    (c.before.before.before.args.quoted, ks) (c.before.before.before.args.dollared, ks) (classIs k)) c.before.enum-told15.given.1
+returns-15 c = λ ks. by (λ k. on_part (c.before.before.before.args.here, ks) c.before.before.before.args.p
+    (c.before.before.before.args.quoted, ks) (c.before.before.before.args.dollared, ks) (class_is k)) c.before.enum-told15.given.1
     (c.odd10.ensures ks)
 
 returns-16 : tie.Need-returns-16
-returns-16 c = λ ks. by (λ k. onPart (c.before.before.before.args.here, ks) c.before.before.before.args.p
-    (c.before.before.before.args.quoted, ks) (c.before.before.before.args.dollared, ks) (classIs k)) c.before.enum-told16.given.1
+returns-16 c = λ ks. by (λ k. on_part (c.before.before.before.args.here, ks) c.before.before.before.args.p
+    (c.before.before.before.args.quoted, ks) (c.before.before.before.args.dollared, ks) (class_is k)) c.before.enum-told16.given.1
     (c.odd11.ensures ks)
 
 returns-17 : tie.Need-returns-17
-returns-17 c = λ ks. by (λ k. onPart (c.before.before.before.args.here, ks) c.before.before.before.args.p
-    (c.before.before.before.args.quoted, ks) (c.before.before.before.args.dollared, ks) (classIs k)) c.before.enum-told17.given.1
+returns-17 c = λ ks. by (λ k. on_part (c.before.before.before.args.here, ks) c.before.before.before.args.p
+    (c.before.before.before.args.quoted, ks) (c.before.before.before.args.dollared, ks) (class_is k)) c.before.enum-told17.given.1
     (c.odd12.ensures ks)
 
-pub on-part-spec : {M : Type 1} → statement M
-on-part-spec =
+pub on_part_spec : {M : Type 1} → statement M
+on_part_spec =
     tie.close
     (tie.spec
     enum_told

@@ -1,4 +1,4 @@
-use Rattle.arriving.specs.Between.Classes.{classIs}
+use Rattle.arriving.specs.Between.Classes.{class_is}
 use mathlib.Core.Path.{refl, ap, ◌∙◌}
 use Rattle.arriving.specs.Between.Steps.{resumed}
 use Rattle.arriving.proofs.StepsLaws.{part_by}
@@ -26,10 +26,10 @@ on-part-requires c κs = search rules
 
 returns : tie.Need-returns
 returns c = λ ks. part_by (c.before.before.before.before.args.here, ks) c.before.before.before.before.args.p
-    {k = classIs c.before.before.before.before.args.class} refl (c.on-part.ensures ks)
+    {k = class_is c.before.before.before.before.args.class} refl (c.on_part_lem.ensures ks)
     (c.before.before.resumed.ensures ks ∙ ap (λ m. resumed (c.before.before.before.before.args.here, ks) m
     c.before.before.before.before.args.after) c.before.before.before.opening.ensures) (c.before.odd.ensures ks)
 
-pub on-string-part-spec : {M : Type 1} → statement M
-on-string-part-spec =
+pub on_string_part_spec : {M : Type 1} → statement M
+on_string_part_spec =
     tie.close (tie.spec opening-requires resumed-requires odd-requires on-part-requires returns)

@@ -108,8 +108,8 @@ returns-10 : tie.Need-returns-10
 returns-10 c = λ ks. by (plus (c.before.before.before.args.here, ks) c.before.before.before.args.p) c.before.enum-told10.given.1
     (c.resumed3.ensures ks)
 
-pub plus-after-spec : {M : Type 1} → statement M
-plus-after-spec =
+pub plus_after_spec : {M : Type 1} → statement M
+plus_after_spec =
     tie.close
     (tie.spec
     enum_told

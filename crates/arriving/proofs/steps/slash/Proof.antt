@@ -1,6 +1,6 @@
 use mathlib.Core.Path.{ap, ◌∙◌}
-use Rattle.arriving.specs.Between.Steps.{onSlash}
-use Rattle.arriving.specs.Between.Classes.{noteIs}
+use Rattle.arriving.specs.Between.Steps.{on_slash}
+use Rattle.arriving.specs.Between.Classes.{note_is}
 use Rattle.arriving.proofs.StepsLaws.{by}
 use borrow.Author.Rules.{rules}
 use Rattle.arriving.proofs.steps.slash.Statement.{statement}
@@ -45,27 +45,27 @@ odd-requires-3 : tie.Need-odd-requires-3
 odd-requires-3 c κs = search rules
 
 returns : tie.Need-returns
-returns c = λ ks. by (onSlash (c.before.before.before.before.args.here, ks) c.before.before.before.before.args.p)
-    (c.before.before.before.note-of.ensures ∙ ap noteIs c.before.enum_told.given.1) (c.moded.ensures ks)
+returns c = λ ks. by (on_slash (c.before.before.before.before.args.here, ks) c.before.before.before.before.args.p)
+    (c.before.before.before.note-of.ensures ∙ ap note_is c.before.enum_told.given.1) (c.moded.ensures ks)
 
 returns-2 : tie.Need-returns-2
-returns-2 c = λ ks. by (onSlash (c.before.before.before.before.args.here, ks) c.before.before.before.before.args.p)
-    (c.before.before.before.note-of.ensures ∙ ap noteIs c.before.enum-told2.given.1) (c.moded2.ensures ks)
+returns-2 c = λ ks. by (on_slash (c.before.before.before.before.args.here, ks) c.before.before.before.before.args.p)
+    (c.before.before.before.note-of.ensures ∙ ap note_is c.before.enum-told2.given.1) (c.moded2.ensures ks)
 
 returns-3 : tie.Need-returns-3
-returns-3 c = λ ks. by (onSlash (c.before.before.before.before.args.here, ks) c.before.before.before.before.args.p)
-    (c.before.before.before.note-of.ensures ∙ ap noteIs c.before.enum-told3.given.1) (c.odd.ensures ks)
+returns-3 c = λ ks. by (on_slash (c.before.before.before.before.args.here, ks) c.before.before.before.before.args.p)
+    (c.before.before.before.note-of.ensures ∙ ap note_is c.before.enum-told3.given.1) (c.odd.ensures ks)
 
 returns-4 : tie.Need-returns-4
-returns-4 c = λ ks. by (onSlash (c.before.before.before.before.args.here, ks) c.before.before.before.before.args.p)
-    (c.before.before.before.note-of.ensures ∙ ap noteIs c.before.enum-told4.given.1) (c.odd2.ensures ks)
+returns-4 c = λ ks. by (on_slash (c.before.before.before.before.args.here, ks) c.before.before.before.before.args.p)
+    (c.before.before.before.note-of.ensures ∙ ap note_is c.before.enum-told4.given.1) (c.odd2.ensures ks)
 
 returns-5 : tie.Need-returns-5
-returns-5 c = λ ks. by (onSlash (c.before.before.before.before.args.here, ks) c.before.before.before.before.args.p)
-    (c.before.before.before.note-of.ensures ∙ ap noteIs c.before.enum-told5.given.1) (c.odd3.ensures ks)
+returns-5 c = λ ks. by (on_slash (c.before.before.before.before.args.here, ks) c.before.before.before.before.args.p)
+    (c.before.before.before.note-of.ensures ∙ ap note_is c.before.enum-told5.given.1) (c.odd3.ensures ks)
 
-pub slash-spec : {M : Type 1} → statement M
-slash-spec =
+pub slash_spec : {M : Type 1} → statement M
+slash_spec =
     tie.close
     (tie.spec
     note-of-requires

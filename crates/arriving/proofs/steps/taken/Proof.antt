@@ -13,5 +13,5 @@ returns : tie.Need-returns
 unfolding done
 returns c = λ ks p b. refl
 
-pub taken-spec : {M : Type 1} → statement M
-taken-spec = tie.close (tie.spec add-t5 returns)
+pub taken_spec : {M : Type 1} → statement M
+taken_spec = tie.close (tie.spec add-t5 returns)

@@ -52,8 +52,8 @@ returns-4 c = simp (
   sym c.before.utf8-size2.ensures,
 ) c.give2.ensures
 
-pub alone-spec : {M : Type 1} → statement M
-alone-spec =
+pub alone_spec : {M : Type 1} → statement M
+alone_spec =
     tie.close
     (tie.spec
     utf8-size-requires

@@ -19,7 +19,7 @@ between-requires : tie.Need-between-requires
 between-requires c κs = search rules
 
 returns : tie.Need-returns
-returns c = simp (sym c.before.before.bad-now.ensures, sym c.before.first-of.ensures) c.between.ensures
+returns c = simp (sym c.before.before.bad_now_lem.ensures, sym c.before.first_of_lem.ensures) c.between.ensures
 
-pub blame-spec : {M : Type 1} → statement M
-blame-spec = tie.close (tie.spec bad-now-requires first-of-requires between-requires returns)
+pub blame_spec : {M : Type 1} → statement M
+blame_spec = tie.close (tie.spec bad-now-requires first-of-requires between-requires returns)

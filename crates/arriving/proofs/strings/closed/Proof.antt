@@ -14,14 +14,14 @@ bad-now-requires c κs = search rules
 
 returns : tie.Need-returns
 unfolding closed
-returns c = simp (sym c.before.bad-now.ensures, eq-eqb _ _ c.if1.true)
+returns c = simp (sym c.before.bad_now_lem.ensures, eq-eqb _ _ c.if1.true)
 
 sub-t4 : tie.Need-overflow-sub-t4
 sub-t4 c = search rules
 
 returns-2 : tie.Need-returns-2
 unfolding closed
-returns-2 c = simp (sym c.before.bad-now.ensures, ne_eqb _ _ c.if1.false)
+returns-2 c = simp (sym c.before.bad_now_lem.ensures, ne_eqb _ _ c.if1.false)
 
-pub closed-spec : {M : Type 1} → statement M
-closed-spec = tie.close (tie.spec bad-now-requires returns sub-t4 returns-2)
+pub closed_spec : {M : Type 1} → statement M
+closed_spec = tie.close (tie.spec bad-now-requires returns sub-t4 returns-2)

@@ -14,5 +14,5 @@ returns-2 : tie.Need-returns-2
 unfolding first_of
 returns-2 c = simp (ne_eqb _ _ c.if1.false)
 
-pub first-of-spec : {M : Type 1} → statement M
-first-of-spec = tie.close (tie.spec returns returns-2)
+pub first_of_spec : {M : Type 1} → statement M
+first_of_spec = tie.close (tie.spec returns returns-2)

@@ -15,7 +15,7 @@ between-requires : tie.Need-between-requires
 between-requires c κs = search rules
 
 returns : tie.Need-returns
-returns c = simp (sym c.before.bad-now.ensures) c.between.ensures
+returns c = simp (sym c.before.bad_now_lem.ensures) c.between.ensures
 
 pub give_spec : {M : Type 1} → statement M
 give_spec = tie.close (tie.spec bad-now-requires between-requires returns)

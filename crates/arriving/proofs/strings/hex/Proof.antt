@@ -2,7 +2,7 @@
 use borrow.Author.Rules.{rules}
 use mathlib.Core.Path.{sym}
 use borrow.Author.Tests.{lt-ltb, le-ltb}
-use Rattle.arriving.specs.Between.Strings.{onHex}
+use Rattle.arriving.specs.Between.Strings.{on_hex}
 use Rattle.arriving.proofs.strings.hex.Statement.{statement}
 use Rattle.arriving.proofs.strings.hex.Tie as tie
 use Rattle.arriving.proofs.strings.hex.Reads as reads
@@ -27,18 +27,18 @@ hexed-requires : tie.Need-hexed-requires
 hexed-requires c κs = search rules
 
 returns : tie.Need-returns
-unfolding onHex
+unfolding on_hex
 returns c = simp (sym c.before.before.hex.ensures, lt-ltb _ _ c.before.if1.true) c.hexed.ensures
 
 odd-requires : tie.Need-odd-requires
 odd-requires c κs = search rules
 
 returns-2 : tie.Need-returns-2
-unfolding onHex
+unfolding on_hex
 returns-2 c = simp (sym c.before.before.hex.ensures, le-ltb _ _ c.before.if1.false) c.odd.ensures
 
-pub hex-spec : {M : Type 1} → statement M
-hex-spec =
+pub hex_spec : {M : Type 1} → statement M
+hex_spec =
     tie.close
     (tie.spec
     hex-requires

@@ -2,7 +2,7 @@
 use borrow.Author.Rules.{rules}
 use mathlib.Core.Path.{sym}
 use borrow.Author.Tests.{lt-ltb, le-ltb, le-leb, lt-leb}
-use Rattle.arriving.specs.Between.Strings.{inBraces}
+use Rattle.arriving.specs.Between.Strings.{in_braces}
 use Rattle.arriving.proofs.strings.in_braces.Statement.{statement}
 use Rattle.arriving.proofs.strings.in_braces.Tie as tie
 use Rattle.arriving.proofs.strings.in_braces.Reads as reads
@@ -18,14 +18,14 @@ give-requires : tie.Need-give-requires
 give-requires c κs = search rules
 
 returns : tie.Need-returns
-unfolding inBraces
+unfolding in_braces
 returns c = simp (lt-ltb _ _ c.before.before.if1.true, sym c.before.utf8-size.ensures) c.give.ensures
 
 blame-requires : tie.Need-blame-requires
 blame-requires c κs = search rules
 
 returns-2 : tie.Need-returns-2
-unfolding inBraces
+unfolding in_braces
 returns-2 c = simp (le-ltb _ _ c.before.before.if1.false, lt-ltb _ _ c.before.if2.true) c.blame.ensures
 
 utf8-size-requires-2 : tie.Need-utf8-size-requires-2
@@ -35,7 +35,7 @@ give-requires-2 : tie.Need-give-requires-2
 give-requires-2 c κs = search rules
 
 returns-3 : tie.Need-returns-3
-unfolding inBraces
+unfolding in_braces
 returns-3 c = simp (
   le-ltb _ _ c.before.before.before.before.if1.false,
   le-ltb _ _ c.before.before.before.if2.false,
@@ -47,12 +47,12 @@ blame-requires-2 : tie.Need-blame-requires-2
 blame-requires-2 c κs = search rules
 
 returns-4 : tie.Need-returns-4
-unfolding inBraces
+unfolding in_braces
 returns-4 c = simp (le-ltb _ _ c.before.before.before.if1.false, le-ltb _ _ c.before.before.if2.false, lt-leb _ _ c.before.if3.false)
     c.blame2.ensures
 
-pub in-braces-spec : {M : Type 1} → statement M
-in-braces-spec =
+pub in_braces_spec : {M : Type 1} → statement M
+in_braces_spec =
     tie.close
     (tie.spec
     utf8-size-requires

@@ -2,7 +2,7 @@
 use borrow.Author.Rules.{rules}
 use mathlib.Core.Path.{sym}
 use borrow.Author.Tests.{le-leb, lt-leb, eq-eqb, ne_eqb}
-use Rattle.arriving.specs.Between.Strings.{onLines}
+use Rattle.arriving.specs.Between.Strings.{on_lines}
 use Rattle.arriving.proofs.strings.lines.Statement.{statement}
 use Rattle.arriving.proofs.strings.lines.Tie as tie
 use Rattle.arriving.proofs.strings.lines.Reads as reads
@@ -15,7 +15,7 @@ goes-requires : tie.Need-goes-requires
 goes-requires c κs = search rules
 
 returns : tie.Need-returns
-unfolding onLines
+unfolding on_lines
 returns c = simp (eq-eqb _ _ c.before.before.if1.true, le-leb _ _ c.before.if2.true) c.goes.ensures
 
 add-t9 : tie.Need-overflow-add-t9
@@ -25,7 +25,7 @@ goes-requires-2 : tie.Need-goes-requires-2
 goes-requires-2 c κs = search rules
 
 returns-2 : tie.Need-returns-2
-unfolding onLines
+unfolding on_lines
 returns-2 c = simp (eq-eqb _ _ c.before.before.if1.true, lt-leb _ _ c.before.if2.false) c.goes2.ensures
 
 line-byte-requires : tie.Need-line-byte-requires
@@ -44,18 +44,18 @@ goes-requires-3 : tie.Need-goes-requires-3
 goes-requires-3 c κs = search rules
 
 returns-3 : tie.Need-returns-3
-unfolding onLines
-returns-3 c = simp (ne_eqb _ _ c.before.before.before.if1.false, sym c.before.before.line-byte.ensures, c.before.if3.true) c.goes3.ensures
+unfolding on_lines
+returns-3 c = simp (ne_eqb _ _ c.before.before.before.if1.false, sym c.before.before.line_byte_lem.ensures, c.before.if3.true) c.goes3.ensures
 
 odd-requires : tie.Need-odd-requires
 odd-requires c κs = search rules
 
 returns-4 : tie.Need-returns-4
-unfolding onLines
-returns-4 c = simp (ne_eqb _ _ c.before.before.before.if1.false, sym c.before.before.line-byte.ensures, c.before.if3.false) c.odd.ensures
+unfolding on_lines
+returns-4 c = simp (ne_eqb _ _ c.before.before.before.if1.false, sym c.before.before.line_byte_lem.ensures, c.before.if3.false) c.odd.ensures
 
-pub lines-spec : {M : Type 1} → statement M
-lines-spec =
+pub lines_spec : {M : Type 1} → statement M
+lines_spec =
     tie.close
     (tie.spec
     goes-requires

@@ -1,6 +1,6 @@
 -- Assumes nothing.
 use borrow.Author.Rules.{rules}
-use Rattle.arriving.specs.Between.Strings.{nextQuoted}
+use Rattle.arriving.specs.Between.Strings.{next_quoted}
 use Rattle.arriving.proofs.strings.quoted_next.Statement.{statement}
 use Rattle.arriving.proofs.strings.quoted_next.Tie as tie
 use Rattle.arriving.proofs.strings.quoted_next.Reads as reads
@@ -91,55 +91,55 @@ closed-requires : tie.Need-closed-requires
 closed-requires c κs = search rules
 
 returns : tie.Need-returns
-unfolding nextQuoted
+unfolding next_quoted
 returns c = rw c.before.enum_told.given.1 c.one.ensures
 
 returns-2 : tie.Need-returns-2
-unfolding nextQuoted
+unfolding next_quoted
 returns-2 c = rw c.before.enum-told2.given.1 c.two.ensures
 
 returns-3 : tie.Need-returns-3
-unfolding nextQuoted
+unfolding next_quoted
 returns-3 c = rw c.before.enum-told3.given.1 c.opened.ensures
 
 returns-4 : tie.Need-returns-4
-unfolding nextQuoted
+unfolding next_quoted
 returns-4 c = rw c.before.enum-told4.given.1 c.opened-cr.ensures
 
 returns-5 : tie.Need-returns-5
-unfolding nextQuoted
+unfolding next_quoted
 returns-5 c = rw c.before.before.s.given.1 c.lines.ensures
 
 returns-6 : tie.Need-returns-6
-unfolding nextQuoted
+unfolding next_quoted
 returns-6 c = rw c.before.enum-told5.given.1 c.body.ensures
 
 returns-7 : tie.Need-returns-7
-unfolding nextQuoted
+unfolding next_quoted
 returns-7 c = rw c.before.before.s2.given.1 c.escape.ensures
 
 returns-8 : tie.Need-returns-8
-unfolding nextQuoted
+unfolding next_quoted
 returns-8 c = rw c.before.before.s3.given.1 c.unicode.ensures
 
 returns-9 : tie.Need-returns-9
-unfolding nextQuoted
+unfolding next_quoted
 returns-9 c = rw c.before.before.s4.given.1 c.hex.ensures
 
 returns-10 : tie.Need-returns-10
-unfolding nextQuoted
+unfolding next_quoted
 returns-10 c = rw c.before.before.s5.given.1 c.brace.ensures
 
 returns-11 : tie.Need-returns-11
-unfolding nextQuoted
+unfolding next_quoted
 returns-11 c = rw c.before.before.s6.given.1 c.braced.ensures
 
 returns-12 : tie.Need-returns-12
-unfolding nextQuoted
+unfolding next_quoted
 returns-12 c = rw c.before.enum-told6.given.1 c.closed.ensures
 
-pub quoted-next-spec : {M : Type 1} → statement M
-quoted-next-spec =
+pub quoted_next_spec : {M : Type 1} → statement M
+quoted_next_spec =
     tie.close
     (tie.spec
     enum_told

@@ -2,7 +2,7 @@
 use mathlib.Core.Path.{◌∙◌}
 use native.Mathlib.Omega.{arith}
 use Rattle.machine.proofs.Runs.{NoDigit}
-use Rattle.arriving.proofs.TimesStepLaws.{field-full, field-none, field-digit}
+use Rattle.arriving.proofs.TimesStepLaws.{field_full, field_none, field_digit}
 use borrow.Author.Rules.{rules}
 use Rattle.arriving.proofs.times.field.Statement.{statement}
 use Rattle.arriving.proofs.times.field.Tie as tie
@@ -11,13 +11,13 @@ full-requires : tie.Need-full-requires
 full-requires c κs = search rules
 
 returns : tie.Need-returns
-returns c = c.full.ensures ∙ field-full _ _ _ _ _ _ c.before.if1.true
+returns c = c.full.ensures ∙ field_full _ _ _ _ _ _ c.before.if1.true
 
 returns-2 : tie.Need-returns-2
-returns-2 c = field-none _ _ _ _ _ _ c.before.if1.false (NoDigit.under (omega arith))
+returns-2 c = field_none _ _ _ _ _ _ c.before.if1.false (NoDigit.under (omega arith))
 
 returns-3 : tie.Need-returns-3
-returns-3 c = field-none _ _ _ _ _ _ c.before.before.if1.false (NoDigit.past (omega arith))
+returns-3 c = field_none _ _ _ _ _ _ c.before.before.if1.false (NoDigit.past (omega arith))
 
 sub-t10 : tie.Need-overflow-sub-t10
 sub-t10 c = search rules
@@ -32,10 +32,10 @@ goes-requires : tie.Need-goes-requires
 goes-requires c κs = search rules
 
 returns-4 : tie.Need-returns-4
-returns-4 c = c.goes.ensures ∙ field-digit _ _ _ _ _ _ c.before.before.before.if1.false (omega arith)
+returns-4 c = c.goes.ensures ∙ field_digit _ _ _ _ _ _ c.before.before.before.if1.false (omega arith)
 
-pub field-spec : {M : Type 1} → statement M
-field-spec =
+pub field_spec : {M : Type 1} → statement M
+field_spec =
     tie.close
     (tie.spec
     full-requires

@@ -1,5 +1,5 @@
 -- Each field by what it is. Assumes nothing.
-use Rattle.arriving.proofs.TimesStepLaws.{full-month, full-day, full-hour, full-minute, full-second, full-offset-hour, full-offset-minute}
+use Rattle.arriving.proofs.TimesStepLaws.{full_month, full_day, full_hour, full_minute, full_second, full_offset_hour, full_offset_minute}
 use borrow.Author.Rules.{rules}
 use Rattle.arriving.proofs.times.full.Statement.{statement}
 use Rattle.arriving.proofs.times.full.Tie as tie
@@ -68,29 +68,29 @@ tested-requires : tie.Need-tested-requires
 tested-requires c κs = search rules
 
 returns : tie.Need-returns
-returns c = full-month _ _ _ _ c.before.before.slot.given.1 c.only.ensures
+returns c = full_month _ _ _ _ c.before.before.slot.given.1 c.only.ensures
 
 returns-2 : tie.Need-returns-2
-returns-2 c = full-day _ _ _ _ c.before.before.before.before.slot2.given.1 c.before.before.is-date.ensures c.before.judged.ensures
+returns-2 c = full_day _ _ _ _ c.before.before.before.before.slot2.given.1 c.before.before.is_date_lem.ensures c.before.judged.ensures
     c.after-day.ensures
 
 returns-3 : tie.Need-returns-3
-returns-3 c = full-hour _ _ _ _ c.before.before.enum_told.given.1 c.before.within.ensures c.only2.ensures
+returns-3 c = full_hour _ _ _ _ c.before.before.enum_told.given.1 c.before.within.ensures c.only2.ensures
 
 returns-4 : tie.Need-returns-4
-returns-4 c = full-minute _ _ _ _ c.before.before.enum-told2.given.1 c.before.within2.ensures c.only3.ensures
+returns-4 c = full_minute _ _ _ _ c.before.before.enum-told2.given.1 c.before.within2.ensures c.only3.ensures
 
 returns-5 : tie.Need-returns-5
-returns-5 c = full-second _ _ _ _ c.before.before.enum-told3.given.1 c.before.within3.ensures c.after-second.ensures
+returns-5 c = full_second _ _ _ _ c.before.before.enum-told3.given.1 c.before.within3.ensures c.after-second.ensures
 
 returns-6 : tie.Need-returns-6
-returns-6 c = full-offset-hour _ _ _ _ c.before.before.enum-told4.given.1 c.before.within4.ensures c.only4.ensures
+returns-6 c = full_offset_hour _ _ _ _ c.before.before.enum-told4.given.1 c.before.within4.ensures c.only4.ensures
 
 returns-7 : tie.Need-returns-7
-returns-7 c = full-offset-minute _ _ _ _ c.before.before.enum-told5.given.1 c.before.within5.ensures c.tested.ensures
+returns-7 c = full_offset_minute _ _ _ _ c.before.before.enum-told5.given.1 c.before.within5.ensures c.tested.ensures
 
-pub full-spec : {M : Type 1} → statement M
-full-spec =
+pub full_spec : {M : Type 1} → statement M
+full_spec =
     tie.close
     (tie.spec
     enum-known-slot

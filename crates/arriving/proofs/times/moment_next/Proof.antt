@@ -1,5 +1,5 @@
 -- Each place of a time value by its own step. Assumes nothing.
-use Rattle.arriving.proofs.TimesStepLaws.{moment-field, moment-spaced, moment-point, moment-fraction, moment-zulu}
+use Rattle.arriving.proofs.TimesStepLaws.{moment_field, moment_spaced, moment_point, moment_fraction, moment_zulu}
 use borrow.Author.Rules.{rules}
 use Rattle.arriving.proofs.times.moment_next.Statement.{statement}
 use Rattle.arriving.proofs.times.moment_next.Tie as tie
@@ -35,22 +35,22 @@ tested-requires : tie.Need-tested-requires
 tested-requires c κs = search rules
 
 returns : tie.Need-returns
-returns c = moment-field _ _ _ c.before.before.m.given.1 c.field.ensures
+returns c = moment_field _ _ _ c.before.before.m.given.1 c.field.ensures
 
 returns-2 : tie.Need-returns-2
-returns-2 c = moment-spaced _ _ _ c.before.enum_told.given.1 c.spaced.ensures
+returns-2 c = moment_spaced _ _ _ c.before.enum_told.given.1 c.spaced.ensures
 
 returns-3 : tie.Need-returns-3
-returns-3 c = moment-point _ _ _ c.before.enum-told2.given.1 c.point.ensures
+returns-3 c = moment_point _ _ _ c.before.enum-told2.given.1 c.point.ensures
 
 returns-4 : tie.Need-returns-4
-returns-4 c = moment-fraction _ _ _ c.before.enum-told3.given.1 c.fraction.ensures
+returns-4 c = moment_fraction _ _ _ c.before.enum-told3.given.1 c.fraction.ensures
 
 returns-5 : tie.Need-returns-5
-returns-5 c = moment-zulu _ _ _ c.before.enum-told4.given.1 c.tested.ensures
+returns-5 c = moment_zulu _ _ _ c.before.enum-told4.given.1 c.tested.ensures
 
-pub moment-next-spec : {M : Type 1} → statement M
-moment-next-spec =
+pub moment_next_spec : {M : Type 1} → statement M
+moment_next_spec =
     tie.close
     (tie.spec
     enum-known-m

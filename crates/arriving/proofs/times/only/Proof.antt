@@ -13,5 +13,5 @@ returns c = rw (eq-eqb _ _ c.before.if1.true) c.due.ensures
 returns-2 : tie.Need-returns-2
 returns-2 c = rw (ne_eqb _ _ c.if1.false)
 
-pub only-spec : {M : Type 1} → statement M
-only-spec = tie.close (tie.spec due-requires returns returns-2)
+pub only_spec : {M : Type 1} → statement M
+only_spec = tie.close (tie.spec due-requires returns returns-2)

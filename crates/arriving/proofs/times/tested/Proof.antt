@@ -9,5 +9,5 @@ returns c = search rules
 returns-2 : tie.Need-returns-2
 returns-2 c = rw c.if1.false
 
-pub tested-spec : {M : Type 1} → statement M
-tested-spec = tie.close (tie.spec returns returns-2)
+pub tested_spec : {M : Type 1} → statement M
+tested_spec = tie.close (tie.spec returns returns-2)

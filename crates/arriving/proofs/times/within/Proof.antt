@@ -15,5 +15,5 @@ judged-requires-2 c κs = search rules
 returns-2 : tie.Need-returns-2
 returns-2 c = rw c.before.if1.false c.judged2.ensures
 
-pub within-spec : {M : Type 1} → statement M
-within-spec = tie.close (tie.spec judged-requires returns judged-requires-2 returns-2)
+pub within_spec : {M : Type 1} → statement M
+within_spec = tie.close (tie.spec judged-requires returns judged-requires-2 returns-2)

@@ -1,5 +1,5 @@
 use native.Mathlib.Omega.{arith}
-use Rattle.items.proofs.BinaryPartLaws.{escape-over, escape-wrong, escape-short, escape-high, escape-low, escape-hex}
+use Rattle.items.proofs.BinaryPartLaws.{escape_over, escape_wrong, escape_short, escape_high, escape_low, escape_hex}
 use borrow.Author.Rules.{rules}
 use Rattle.items.proofs.binary_part.escaped.Statement.{statement}
 use Rattle.items.proofs.binary_part.escaped.Tie as tie
@@ -9,7 +9,7 @@ use Rattle.items.proofs.hex_digit.digit.Reads as digit-reads
 use Rattle.items.proofs.hex_digit.short.Reads as short-reads
 
 returns : tie.Need-returns
-returns c = escape-over c.before.before.args.text.now c.before.before.args.at c.if1.true
+returns c = escape_over c.before.before.args.text.now c.before.before.args.at c.if1.true
 
 shared-slice-read-b : tie.Need-shared-slice-read-b
 shared-slice-read-b c = search rules
@@ -24,7 +24,7 @@ add-t13 : tie.Need-overflow-add-t13
 add-t13 c = search rules
 
 returns-2 : tie.Need-returns-2
-returns-2 c = escape-high c.before.before.before.before.before.before.args.text.now c.before.before.before.before.before.before.args.at
+returns-2 c = escape_high c.before.before.before.before.before.before.args.text.now c.before.before.before.before.before.before.args.at
     c.before.before.before.before.if1.false c.before.before.if2.true (rw c.before.digit.ensures at c.if3.true)
 
 add-digit-2 : tie.Need-overflow-add-digit-2
@@ -37,7 +37,7 @@ add-t14 : tie.Need-overflow-add-t14
 add-t14 c = search rules
 
 returns-3 : tie.Need-returns-3
-returns-3 c = escape-low c.before.before.before.before.before.before.before.before.args.text.now
+returns-3 c = escape_low c.before.before.before.before.before.before.before.before.args.text.now
     c.before.before.before.before.before.before.before.before.args.at c.before.before.before.before.before.before.if1.false
     c.before.before.before.before.if2.true (rw c.before.before.before.digit.ensures at c.before.before.if3.false)
     (rw c.before.digit2.ensures at c.if4.true)
@@ -53,7 +53,7 @@ add-t16 c = search rules
 
 returns-4 : tie.Need-returns-4
 returns-4 c = rw (c.before.before.before.digit.ensures, c.before.digit2.ensures)
-    (escape-hex c.before.before.before.before.before.before.before.before.args.text.now
+    (escape_hex c.before.before.before.before.before.before.before.before.args.text.now
     c.before.before.before.before.before.before.before.before.args.at c.before.before.before.before.before.before.if1.false
     c.before.before.before.before.if2.true (rw c.before.before.before.digit.ensures at c.before.before.if3.false)
     (rw c.before.digit2.ensures at c.if4.false))
@@ -68,16 +68,16 @@ cast-t17 : tie.Need-overflow-cast-t17
 cast-t17 c = search rules
 
 returns-5 : tie.Need-returns-5
-returns-5 c = rw c.before.short.ensures (escape-short c.before.before.before.before.before.before.args.text.now
+returns-5 c = rw c.before.short.ensures (escape_short c.before.before.before.before.before.before.args.text.now
     c.before.before.before.before.before.before.args.at c.before.before.before.before.if1.false c.before.before.if2.false
     (rw c.before.short.ensures at c.if5.true))
 
 returns-6 : tie.Need-returns-6
-returns-6 c = escape-wrong c.before.before.before.before.before.before.args.text.now c.before.before.before.before.before.before.args.at
+returns-6 c = escape_wrong c.before.before.before.before.before.before.args.text.now c.before.before.before.before.before.before.args.at
     c.before.before.before.before.if1.false c.before.before.if2.false (rw c.before.short.ensures at c.if5.false)
 
-pub escaped-spec : {M : Type 1} → statement M
-escaped-spec =
+pub escaped_spec : {M : Type 1} → statement M
+escaped_spec =
     tie.close
     (tie.spec
     returns

@@ -4,11 +4,11 @@ use mathlib.Core.Path.{◌≡◌, refl, ◌∙◌}
 use mathlib.Core.List.{[]}
 use Prim.Native.Nat.{◌-◌, ◌+◌, ◌*◌, ◌<◌, ◌≤◌}
 use lib.ListN.{length}
-use Rattle.machine.specs.Strings.{noDigit}
+use Rattle.machine.specs.Strings.{no_digit}
 use Rattle.machine.specs.Binaries.{low}
-use Rattle.items.specs.Between.Places.{digitAt}
-use Rattle.items.proofs.BinaryPartLaws.{Filling, filling, fill_more, fill-wrong, fill-last, pairing, next_place, pair-open, pair-more, pair-wrongs}
-use Rattle.items.proofs.BinaryPartLaws.{pair_ends, digit-in}
+use Rattle.items.specs.Between.Places.{digit_at}
+use Rattle.items.proofs.BinaryPartLaws.{Filling, filling, fill_more, fill_wrong, fill_last, pairing, next_place, pair_open, pair_more, pair_wrongs}
+use Rattle.items.proofs.BinaryPartLaws.{pair_ends, digit_in}
 use Rattle.items.proofs.binary_part.pairs.Statement.{statement}
 use Rattle.items.proofs.binary_part.pairs.Tie as tie
 use Rattle.items.proofs.binary_part.pairs.Reads as reads
@@ -17,14 +17,14 @@ use Rattle.items.proofs.binary_part.after_pair.Reads as after-pair-reads
 use Rattle.items.proofs.hex_digit.digit.Reads as digit-reads
 use Rattle.items.proofs.store.put_byte.Reads as put-byte-reads
 
-abbrev invariant-loop : tie.invariant-loop
-invariant-loop text from store₀ start i₀ out₀ store i out = (Filling text (low [] (digitAt text from)) (from + 1) (pairing text) next_place from start store₀ store i
-    out × (digitAt text i < noDigit)) × (length store ≡ length store₀)
+abbrev invariant_loop : tie.invariant-loop
+invariant_loop text from store₀ start i₀ out₀ store i out = (Filling text (low [] (digit_at text from)) (from + 1) (pairing text) next_place from start store₀ store i
+    out × (digit_at text i < no_digit)) × (length store ≡ length store₀)
 
-abbrev decreases-loop : tie.decreases-loop
-decreases-loop text from store₀ start i₀ out₀ store i out = length text - i
+abbrev decreases_loop : tie.decreases-loop
+decreases_loop text from store₀ start i₀ out₀ store i out = length text - i
 
-loop-holds : tie.Need-loop-init invariant-loop decreases-loop
+loop-holds : tie.Need-loop-init invariant_loop decreases_loop
 loop-holds c = (
   (
     filling c.before.before.args.text.now (pairing c.before.before.args.text.now) next_place c.before.before.args.from
@@ -34,94 +34,94 @@ loop-holds c = (
   refl,
 )
 
-digit-requires : tie.Need-digit-requires invariant-loop decreases-loop
+digit-requires : tie.Need-digit-requires invariant_loop decreases_loop
 digit-requires c κs = search rules
 
-add-digit : tie.Need-overflow-add-digit invariant-loop decreases-loop
+add-digit : tie.Need-overflow-add-digit invariant_loop decreases_loop
 add-digit c = let v = c.before.loop.invariant.0.0 in omega (
   arith,
-  digit-in c.before.before.before.before.args.text.now c.before.loop.i
+  digit_in c.before.before.before.before.args.text.now c.before.loop.i
       c.before.loop.invariant.0.1,
 )
 
-digit-requires-2 : tie.Need-digit-requires-2 invariant-loop decreases-loop
+digit-requires-2 : tie.Need-digit-requires-2 invariant_loop decreases_loop
 digit-requires-2 c κs = search rules
 
-add-t14 : tie.Need-overflow-add-t14 invariant-loop decreases-loop
+add-t14 : tie.Need-overflow-add-t14 invariant_loop decreases_loop
 add-t14 c = let v = c.before.before.before.loop.invariant.0.0 in omega (
   arith,
-  digit-in
+  digit_in
       c.before.before.before.before.before.before.args.text.now c.before.before.before.loop.i c.before.before.before.loop.invariant.0.1,
 )
 
-same_length : tie.Need-same-length invariant-loop decreases-loop
+same_length : tie.Need-same-length invariant_loop decreases_loop
 same_length c = c.before.before.before.loop.invariant.1
 
-returns : tie.Need-returns invariant-loop decreases-loop
-returns c = fill-wrong c.before.before.before.loop.invariant.0.0 _ (pair-open c.before.before.before.before.before.before.args.text.now
+returns : tie.Need-returns invariant_loop decreases_loop
+returns c = fill_wrong c.before.before.before.loop.invariant.0.0 _ (pair_open c.before.before.before.before.before.before.args.text.now
     c.before.before.before.loop.i c.before.before.before.loop.invariant.0.0.u (rw c.before.digit2.ensures at c.if1.true))
 
-mul-put-byte : tie.Need-overflow-mul-put-byte invariant-loop decreases-loop
+mul-put-byte : tie.Need-overflow-mul-put-byte invariant_loop decreases_loop
 mul-put-byte c = omega (arith, c.before.before.before.digit.ensures, c.before.before.before.before.loop.invariant.0.1)
 
-add-put-byte : tie.Need-overflow-add-put-byte invariant-loop decreases-loop
+add-put-byte : tie.Need-overflow-add-put-byte invariant_loop decreases_loop
 add-put-byte c = omega (arith, c.before.before.before.digit.ensures, c.before.before.before.before.loop.invariant.0.1)
 
-put-byte-requires : tie.Need-put-byte-requires invariant-loop decreases-loop
+put-byte-requires : tie.Need-put-byte-requires invariant_loop decreases_loop
 put-byte-requires c κs = search rules
 
-add-out : tie.Need-overflow-add-out invariant-loop decreases-loop
+add-out : tie.Need-overflow-add-out invariant_loop decreases_loop
 add-out c = let v = c.before.before.before.before.before.before.before.loop.invariant.0.0 in
     omega (arith, v.placed, v.room, v.within, c.before.before.before.before.before.before.before.before.before.before.requires)
 
-add-after-pair : tie.Need-overflow-add-after-pair invariant-loop decreases-loop
-add-after-pair c = let d : digitAt c.before.before.before.before.before.before.before.before.before.before.args.text.now
-    (c.before.before.before.before.before.before.before.loop.i + 1) < noDigit =
+add-after-pair : tie.Need-overflow-add-after-pair invariant_loop decreases_loop
+add-after-pair c = let d : digit_at c.before.before.before.before.before.before.before.before.before.before.args.text.now
+    (c.before.before.before.before.before.before.before.loop.i + 1) < no_digit =
     rw c.before.before.before.before.before.digit2.ensures at c.before.before.before.before.if1.false in
     omega (
       arith,
-      digit-in c.before.before.before.before.before.before.before.before.before.before.args.text.now
+      digit_in c.before.before.before.before.before.before.before.before.before.before.args.text.now
           (c.before.before.before.before.before.before.before.loop.i + 1) d,
     )
 
-after-pair-requires : tie.Need-after-pair-requires invariant-loop decreases-loop
-after-pair-requires c κs = let d : digitAt c.before.before.before.before.before.before.before.before.before.before.args.text.now
-    (c.before.before.before.before.before.before.before.loop.i + 1) < noDigit =
+after-pair-requires : tie.Need-after-pair-requires invariant_loop decreases_loop
+after-pair-requires c κs = let d : digit_at c.before.before.before.before.before.before.before.before.before.before.args.text.now
+    (c.before.before.before.before.before.before.before.loop.i + 1) < no_digit =
     rw c.before.before.before.before.before.digit2.ensures at c.before.before.before.before.if1.false in
     omega (
       arith,
-      digit-in c.before.before.before.before.before.before.before.before.before.before.args.text.now
+      digit_in c.before.before.before.before.before.before.before.before.before.before.args.text.now
           (c.before.before.before.before.before.before.before.loop.i + 1) d,
     )
 
-enum-known-p : tie.Need-enum-known-p invariant-loop decreases-loop
+enum-known-p : tie.Need-enum-known-p invariant_loop decreases_loop
 enum-known-p c = search rules
 
-same-length-2 : tie.Need-same-length-2 invariant-loop decreases-loop
+same-length-2 : tie.Need-same-length-2 invariant_loop decreases_loop
 same-length-2 c = search rules
 
-returns-2 : tie.Need-returns-2 invariant-loop decreases-loop
-returns-2 c = fill-wrong c.before.before.before.before.before.before.before.before.before.before.before.loop.invariant.0.0 _
-    (pair-wrongs c.before.before.before.before.before.before.before.before.before.before.before.before.before.before.args.text.now
+returns-2 : tie.Need-returns-2 invariant_loop decreases_loop
+returns-2 c = fill_wrong c.before.before.before.before.before.before.before.before.before.before.before.loop.invariant.0.0 _
+    (pair_wrongs c.before.before.before.before.before.before.before.before.before.before.before.before.before.before.args.text.now
     c.before.before.before.before.before.before.before.before.before.before.before.loop.i
     c.before.before.before.before.before.before.before.before.before.before.before.loop.invariant.0.0.u
     (rw c.before.before.before.before.before.before.before.before.before.digit2.ensures at
     c.before.before.before.before.before.before.before.before.if1.false) c.before.p.given.0.0
     (rw c.before.p.given.1 at c.before.before.before.after-pair.ensures))
 
-enum-known-p-2 : tie.Need-enum-known-p-2 invariant-loop decreases-loop
+enum-known-p-2 : tie.Need-enum-known-p-2 invariant_loop decreases_loop
 enum-known-p-2 c = search rules
 
-sub-t21 : tie.Need-overflow-sub-t21 invariant-loop decreases-loop
+sub-t21 : tie.Need-overflow-sub-t21 invariant_loop decreases_loop
 sub-t21 c = let v = c.before.before.before.before.before.before.before.before.before.before.before.loop.invariant.0.0 in omega (arith, v.placed)
 
-same-length-3 : tie.Need-same-length-3 invariant-loop decreases-loop
+same-length-3 : tie.Need-same-length-3 invariant_loop decreases_loop
 same-length-3 c = search rules
 
-returns-3 : tie.Need-returns-3 invariant-loop decreases-loop
+returns-3 : tie.Need-returns-3 invariant_loop decreases_loop
 returns-3 c = let w = rw c.before.p2.given.1 at c.before.before.before.after-pair.ensures in
-    let d : digitAt c.before.before.before.before.before.before.before.before.before.before.before.before.before.before.args.text.now
-    (c.before.before.before.before.before.before.before.before.before.before.before.loop.i + 1) < noDigit =
+    let d : digit_at c.before.before.before.before.before.before.before.before.before.before.before.before.before.before.args.text.now
+    (c.before.before.before.before.before.before.before.before.before.before.before.loop.i + 1) < no_digit =
     rw c.before.before.before.before.before.before.before.before.before.digit2.ensures at
     c.before.before.before.before.before.before.before.before.if1.false in let v =
     c.before.before.before.before.before.before.before.before.before.before.before.loop.invariant.0.0 in
@@ -130,7 +130,7 @@ returns-3 c = let w = rw c.before.p2.given.1 at c.before.before.before.after-pai
       c.before.before.before.before.before.before.before.before.before.before.digit.ensures,
       c.before.before.before.before.before.before.before.before.before.digit2.ensures,
     )
-    (fill-last v (16 * digitAt c.before.before.before.before.before.before.before.before.before.before.before.before.before.before.args.text.now c.before.before.before.before.before.before.before.before.before.before.before.loop.i + digitAt
+    (fill_last v (16 * digit_at c.before.before.before.before.before.before.before.before.before.before.before.before.before.before.args.text.now c.before.before.before.before.before.before.before.before.before.before.before.loop.i + digit_at
     c.before.before.before.before.before.before.before.before.before.before.before.before.before.before.args.text.now
     (c.before.before.before.before.before.before.before.before.before.before.before.loop.i + 1)) c.before.p2.given.0.0
     (c.before.before.before.before.before.before.before.before.before.before.before.loop.out + 1 -
@@ -140,20 +140,20 @@ returns-3 c = let w = rw c.before.p2.given.1 at c.before.before.before.after-pai
     (omega (arith, w.1)) (omega (
       arith,
       w.1,
-      digit-in c.before.before.before.before.before.before.before.before.before.before.before.before.before.before.args.text.now (c.before.before.before.before.before.before.before.before.before.before.before.loop.i + 1) d,
+      digit_in c.before.before.before.before.before.before.before.before.before.before.before.before.before.before.args.text.now (c.before.before.before.before.before.before.before.before.before.before.before.loop.i + 1) d,
     ))
     (omega (arith, v.placed)))
 
-enum-known-p-3 : tie.Need-enum-known-p-3 invariant-loop decreases-loop
+enum-known-p-3 : tie.Need-enum-known-p-3 invariant_loop decreases_loop
 enum-known-p-3 c = search rules
 
-loop-less : tie.Need-loop-smaller invariant-loop decreases-loop
+loop-less : tie.Need-loop-smaller invariant_loop decreases_loop
 loop-less c = let w = rw c.before.p3.given.1 at c.before.before.before.after-pair.ensures in omega (arith, w.1, w.2)
 
-loop-again : tie.Need-loop-preserved invariant-loop decreases-loop
+loop-again : tie.Need-loop-preserved invariant_loop decreases_loop
 loop-again c = let w = rw c.before.p3.given.1 at c.before.before.before.after-pair.ensures in
-    let d : digitAt c.before.before.before.before.before.before.before.before.before.before.before.before.before.before.args.text.now
-    (c.before.before.before.before.before.before.before.before.before.before.before.loop.i + 1) < noDigit =
+    let d : digit_at c.before.before.before.before.before.before.before.before.before.before.before.before.before.before.args.text.now
+    (c.before.before.before.before.before.before.before.before.before.before.before.loop.i + 1) < no_digit =
     rw c.before.before.before.before.before.before.before.before.before.digit2.ensures at
     c.before.before.before.before.before.before.before.before.if1.false in let v =
     c.before.before.before.before.before.before.before.before.before.before.before.loop.invariant.0.0 in (
@@ -163,23 +163,23 @@ loop-again c = let w = rw c.before.p3.given.1 at c.before.before.before.after-pa
           c.before.before.before.before.before.before.before.before.before.before.digit.ensures,
           c.before.before.before.before.before.before.before.before.before.digit2.ensures,
         )
-            (fill_more v (16 * digitAt c.before.before.before.before.before.before.before.before.before.before.before.before.before.before.args.text.now c.before.before.before.before.before.before.before.before.before.before.before.loop.i + digitAt
+            (fill_more v (16 * digit_at c.before.before.before.before.before.before.before.before.before.before.before.before.before.before.args.text.now c.before.before.before.before.before.before.before.before.before.before.before.loop.i + digit_at
             c.before.before.before.before.before.before.before.before.before.before.before.before.before.before.args.text.now
             (c.before.before.before.before.before.before.before.before.before.before.before.loop.i + 1)) c.before.p3.given.0.0
             (omega (arith, w.2))
-            (omega (arith, w.1)) (pair-more c.before.before.before.before.before.before.before.before.before.before.before.before.before.before.args.text.now c.before.before.before.before.before.before.before.before.before.before.before.loop.i v.u d
+            (omega (arith, w.1)) (pair_more c.before.before.before.before.before.before.before.before.before.before.before.before.before.before.args.text.now c.before.before.before.before.before.before.before.before.before.before.before.loop.i v.u d
             c.before.p3.given.0.0 w)),
         w.3,
       ),
       search rules,
     )
 
-pub pairs-spec : {M : Type 1} → statement M
-pairs-spec =
+pub pairs_spec : {M : Type 1} → statement M
+pairs_spec =
     tie.close
     (tie.spec
-    invariant-loop
-    decreases-loop
+    invariant_loop
+    decreases_loop
     loop-holds
     digit-requires
     add-digit

@@ -2,11 +2,11 @@ use native.Mathlib.Omega.{arith}
 use mathlib.Core.List.{[]}
 use Rattle.meaning.specs.Letters.{ch}
 use Rattle.machine.specs.Binaries.{text as textB, low}
-use Rattle.items.specs.Between.Places.{digitAt}
-use Rattle.items.proofs.BinaryPartLaws.{digit-is, part-over, part_none, part_end, part-rest, part-double, part-single, part-pairs, part-bare}
+use Rattle.items.specs.Between.Places.{digit_at}
+use Rattle.items.proofs.BinaryPartLaws.{digit_is, part_over, part_none, part_end, part_rest, part_double, part_single, part_pairs, part_bare}
 use Prim.Native.Nat.{◌+◌, ◌<◌, ◌≤◌}
 use mathlib.Core.Path.{sym, ◌≡◌, ◌∙◌}
-use Rattle.machine.specs.Strings.{noDigit}
+use Rattle.machine.specs.Strings.{no_digit}
 use borrow.Author.Rules.{rules}
 use Rattle.items.proofs.binary_part.read_part.Statement.{statement}
 use Rattle.items.proofs.binary_part.read_part.Tie as tie
@@ -17,7 +17,7 @@ use Rattle.items.proofs.binary_part.quoted.Reads as quoted-reads
 use Rattle.items.proofs.hex_digit.hex.Reads as hex-reads
 
 returns : tie.Need-returns
-returns c = part-over c.before.before.before.args.text.now c.before.before.before.args.at c.before.before.before.args.start
+returns c = part_over c.before.before.before.args.text.now c.before.before.before.args.at c.before.before.before.args.start
     c.before.before.before.args.store.now c.if1.true
 
 shared-slice-read-if2 : tie.Need-shared-slice-read-if2
@@ -49,7 +49,7 @@ same_length : tie.Need-same-length
 same_length c = search rules
 
 returns-4 : tie.Need-returns-4
-returns-4 c = part-rest c.before.before.before.before.before.before.before.before.before.before.before.before.args.text.now
+returns-4 c = part_rest c.before.before.before.before.before.before.before.before.before.before.before.before.args.text.now
     c.before.before.before.before.before.before.before.before.before.before.before.before.args.at
     c.before.before.before.before.before.before.before.before.before.before.before.before.args.start
     c.before.before.before.before.before.before.before.before.before.before.before.before.args.store.now
@@ -57,7 +57,7 @@ returns-4 c = part-rest c.before.before.before.before.before.before.before.befor
     c.before.before.before.before.before.before.before.if2.false (textB (ch "\"") [])
     (c.before.before.before.before.before.before.before.before.before.before.before.before.args.at + 1 + 1)
     (c.before.before.before.before.before.before.before.before.before.before.before.before.args.at + 1 + 1) (omega arith)
-    (part-double c.before.before.before.before.before.before.before.before.before.before.before.before.args.text.now
+    (part_double c.before.before.before.before.before.before.before.before.before.before.before.before.args.text.now
     c.before.before.before.before.before.before.before.before.before.before.before.before.args.at
     c.before.before.before.before.before.before.before.before.before.before.before.before.args.start
     c.before.before.before.before.before.before.before.before.before.before.before.before.args.store.now
@@ -75,7 +75,7 @@ same-length-2 : tie.Need-same-length-2
 same-length-2 c = search rules
 
 returns-5 : tie.Need-returns-5
-returns-5 c = part-rest c.before.before.before.before.before.before.before.before.before.before.before.before.before.args.text.now
+returns-5 c = part_rest c.before.before.before.before.before.before.before.before.before.before.before.before.before.args.text.now
     c.before.before.before.before.before.before.before.before.before.before.before.before.before.args.at
     c.before.before.before.before.before.before.before.before.before.before.before.before.before.args.start
     c.before.before.before.before.before.before.before.before.before.before.before.before.before.args.store.now
@@ -83,7 +83,7 @@ returns-5 c = part-rest c.before.before.before.before.before.before.before.befor
     c.before.before.before.before.before.before.before.before.if2.false (textB (ch "'") [])
     (c.before.before.before.before.before.before.before.before.before.before.before.before.before.args.at + 1 + 1)
     (c.before.before.before.before.before.before.before.before.before.before.before.before.before.args.at + 1 + 1) (omega arith)
-    (part-single c.before.before.before.before.before.before.before.before.before.before.before.before.before.args.text.now
+    (part_single c.before.before.before.before.before.before.before.before.before.before.before.before.before.args.text.now
     c.before.before.before.before.before.before.before.before.before.before.before.before.before.args.at
     c.before.before.before.before.before.before.before.before.before.before.before.before.before.args.start
     c.before.before.before.before.before.before.before.before.before.before.before.before.before.args.store.now
@@ -98,7 +98,7 @@ pairs-requires : tie.Need-pairs-requires
 pairs-requires c κs = (
   c.before.before.before.before.before.before.if3.false,
   omega arith,
-  (let e = digit-is c.before.before.before.before.before.before.before.before.before.before.before.before.args.text.now
+  (let e = digit_is c.before.before.before.before.before.before.before.before.before.before.before.before.args.text.now
       (c.before.before.before.before.before.before.before.before.before.before.before.before.args.at + 1)
       c.before.before.before.before.before.before.if3.false in omega (arith, c.before.before.hex.ensures, c.before.if6.true)),
 )
@@ -107,20 +107,20 @@ same-length-3 : tie.Need-same-length-3
 same-length-3 c = search rules
 
 returns-6 : tie.Need-returns-6
-returns-6 c = let d : digitAt c.before.before.before.before.before.before.before.before.before.before.before.before.before.before.before.args.text.now (c.before.before.before.before.before.before.before.before.before.before.before.before.before.before.before.args.at + 1) <
-    noDigit = (let e = digit-is c.before.before.before.before.before.before.before.before.before.before.before.before.before.before.before.args.text.now (c.before.before.before.before.before.before.before.before.before.before.before.before.before.before.before.args.at + 1)
+returns-6 c = let d : digit_at c.before.before.before.before.before.before.before.before.before.before.before.before.before.before.before.args.text.now (c.before.before.before.before.before.before.before.before.before.before.before.before.before.before.before.args.at + 1) <
+    no_digit = (let e = digit_is c.before.before.before.before.before.before.before.before.before.before.before.before.before.before.before.args.text.now (c.before.before.before.before.before.before.before.before.before.before.before.before.before.before.before.args.at + 1)
     c.before.before.before.before.before.before.before.before.before.if3.false in
     omega (arith, c.before.before.before.before.before.hex.ensures, c.before.before.before.before.if6.true)) in
-    part-rest c.before.before.before.before.before.before.before.before.before.before.before.before.before.before.before.args.text.now
+    part_rest c.before.before.before.before.before.before.before.before.before.before.before.before.before.before.before.args.text.now
     c.before.before.before.before.before.before.before.before.before.before.before.before.before.before.before.args.at
     c.before.before.before.before.before.before.before.before.before.before.before.before.before.before.before.args.start
     c.before.before.before.before.before.before.before.before.before.before.before.before.before.before.before.args.store.now
     c.before.before.before.before.before.before.before.before.before.before.before.before.if1.false
     c.before.before.before.before.before.before.before.before.before.before.if2.false
-    (low [] (digitAt c.before.before.before.before.before.before.before.before.before.before.before.before.before.before.before.args.text.now (c.before.before.before.before.before.before.before.before.before.before.before.before.before.before.before.args.at + 1)))
+    (low [] (digit_at c.before.before.before.before.before.before.before.before.before.before.before.before.before.before.before.args.text.now (c.before.before.before.before.before.before.before.before.before.before.before.before.before.before.before.args.at + 1)))
     (c.before.before.before.before.before.before.before.before.before.before.before.before.before.before.before.args.at + 1)
     (c.before.before.before.before.before.before.before.before.before.before.before.before.before.before.before.args.at + 1 + 1) (omega arith)
-    (part-pairs c.before.before.before.before.before.before.before.before.before.before.before.before.before.before.before.args.text.now
+    (part_pairs c.before.before.before.before.before.before.before.before.before.before.before.before.before.before.before.args.text.now
     c.before.before.before.before.before.before.before.before.before.before.before.before.before.before.before.args.at
     c.before.before.before.before.before.before.before.before.before.before.before.before.before.before.before.args.start
     c.before.before.before.before.before.before.before.before.before.before.before.before.before.before.before.args.store.now
@@ -131,20 +131,20 @@ returns-6 c = let d : digitAt c.before.before.before.before.before.before.before
     c.before.before.pairs.result c.before.before.pairs.ensures
 
 returns-7 : tie.Need-returns-7
-returns-7 c = let d : noDigit ≤ digitAt c.before.before.before.before.before.before.before.before.before.before.before.args.text.now
+returns-7 c = let d : no_digit ≤ digit_at c.before.before.before.before.before.before.before.before.before.before.before.args.text.now
     (c.before.before.before.before.before.before.before.before.before.before.before.args.at + 1) =
-    (let e = digit-is c.before.before.before.before.before.before.before.before.before.before.before.args.text.now
+    (let e = digit_is c.before.before.before.before.before.before.before.before.before.before.before.args.text.now
     (c.before.before.before.before.before.before.before.before.before.before.before.args.at + 1)
     c.before.before.before.before.before.if3.false in omega (arith, c.before.hex.ensures, c.if6.false)) in
-    part-bare c.before.before.before.before.before.before.before.before.before.before.before.args.text.now
+    part_bare c.before.before.before.before.before.before.before.before.before.before.before.args.text.now
     c.before.before.before.before.before.before.before.before.before.before.before.args.at
     c.before.before.before.before.before.before.before.before.before.before.before.args.start
     c.before.before.before.before.before.before.before.before.before.before.before.args.store.now
     c.before.before.before.before.before.before.before.before.if1.false c.before.before.before.before.before.before.if2.false
     c.before.before.before.before.before.if3.false c.before.before.before.if4.false c.before.before.if5.false d
 
-pub read-part-spec : {M : Type 1} → statement M
-read-part-spec =
+pub read_part_spec : {M : Type 1} → statement M
+read_part_spec =
     tie.close
     (tie.spec
     returns

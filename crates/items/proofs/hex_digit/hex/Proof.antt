@@ -1,6 +1,6 @@
 -- Assumes nothing.
 use borrow.Author.Tests.{lt-ltb, le-ltb, le-leb, lt-leb}
-use Rattle.machine.specs.Strings.{hexOf}
+use Rattle.machine.specs.Strings.{hex_of}
 use borrow.Author.Rules.{rules}
 use Rattle.items.proofs.hex_digit.hex.Statement.{statement}
 use Rattle.items.proofs.hex_digit.hex.Tie as tie
@@ -8,22 +8,22 @@ use Rattle.items.proofs.hex_digit.hex.Reads as reads
 use Rattle.items.proofs.hex_digit.hex.Lts as lts
 
 returns : tie.Need-returns
-unfolding hexOf
+unfolding hex_of
 returns c = simp (lt-ltb _ _ c.if1.true)
 
 returns-2 : tie.Need-returns-2
-unfolding hexOf
+unfolding hex_of
 returns-2 c = simp (le-ltb _ _ c.before.if1.false, le-leb _ _ c.if2.true)
 
 returns-3 : tie.Need-returns-3
-unfolding hexOf
+unfolding hex_of
 returns-3 c = simp (le-ltb _ _ c.before.before.if1.false, lt-leb _ _ c.before.if2.false, lt-ltb _ _ c.if3.true)
 
 add-result : tie.Need-overflow-add-result
 add-result c = search rules
 
 returns-4 : tie.Need-returns-4
-unfolding hexOf
+unfolding hex_of
 returns-4 c = simp (
   le-ltb _ _ c.before.before.before.if1.false,
   lt-leb _ _ c.before.before.if2.false,
@@ -32,7 +32,7 @@ returns-4 c = simp (
 )
 
 returns-5 : tie.Need-returns-5
-unfolding hexOf
+unfolding hex_of
 returns-5 c = simp (
   le-ltb _ _ c.before.before.before.before.if1.false,
   lt-leb _ _ c.before.before.before.if2.false,
@@ -45,7 +45,7 @@ add-result-2 : tie.Need-overflow-add-result-2
 add-result-2 c = search rules
 
 returns-6 : tie.Need-returns-6
-unfolding hexOf
+unfolding hex_of
 returns-6 c = simp (
   le-ltb _ _ c.before.before.before.before.before.if1.false,
   lt-leb _ _ c.before.before.before.before.if2.false,
@@ -56,7 +56,7 @@ returns-6 c = simp (
 )
 
 returns-7 : tie.Need-returns-7
-unfolding hexOf
+unfolding hex_of
 returns-7 c = simp (
   le-ltb _ _ c.before.before.before.before.before.if1.false,
   lt-leb _ _ c.before.before.before.before.if2.false,
@@ -66,8 +66,8 @@ returns-7 c = simp (
   lt-leb _ _ c.if6.false,
 )
 
-pub hex-spec : {M : Type 1} → statement M
-hex-spec =
+pub hex_spec : {M : Type 1} → statement M
+hex_spec =
     tie.close
     (tie.spec
     returns

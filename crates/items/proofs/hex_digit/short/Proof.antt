@@ -66,8 +66,8 @@ returns-12 c = simp (
   ne_eqb _ _ c.match.rest.1,
 )
 
-pub short-spec : {M : Type 1} → statement M
-short-spec =
+pub short_spec : {M : Type 1} → statement M
+short_spec =
     tie.close
     (tie.spec
     returns

@@ -1,5 +1,5 @@
 -- The digits, and then what follows them. Assumes nothing.
-use Rattle.items.proofs.NumberDecimalLaws.{whole-on}
+use Rattle.items.proofs.NumberDecimalLaws.{whole_on}
 use borrow.Author.Rules.{rules}
 use Rattle.items.proofs.number.decimal.Statement.{statement}
 use Rattle.items.proofs.number.decimal.Tie as tie
@@ -11,7 +11,7 @@ pointed-requires : tie.Need-pointed-requires
 pointed-requires c κs = search rules
 
 returns : tie.Need-returns
-returns c = whole-on _ _ _ _ _ _ c.before.before.digits.ensures _ c.pointed.ensures
+returns c = whole_on _ _ _ _ _ _ c.before.before.digits.ensures _ c.pointed.ensures
 
-pub decimal-spec : {M : Type 1} → statement M
-decimal-spec = tie.close (tie.spec digits-requires pointed-requires returns)
+pub decimal_spec : {M : Type 1} → statement M
+decimal_spec = tie.close (tie.spec digits-requires pointed-requires returns)

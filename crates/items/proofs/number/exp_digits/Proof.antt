@@ -9,19 +9,19 @@ use Rattle.items.proofs.NumberDigitLaws.{Rises, rises_next}
 use Rattle.items.proofs.number.exp_digits.Statement.{statement}
 use Rattle.items.proofs.number.exp_digits.Tie as tie
 
-abbrev invariant-loop : tie.invariant-loop
-invariant-loop s from e₀ i₀ e i = (i ≤ length s) × (from ≤ i) × (e < 10000000000) × Rises s from e i
+abbrev invariant_loop : tie.invariant-loop
+invariant_loop s from e₀ i₀ e i = (i ≤ length s) × (from ≤ i) × (e < 10000000000) × Rises s from e i
 
-abbrev decreases-loop : tie.decreases-loop
-decreases-loop s from e₀ i₀ e i = length s - i
+abbrev decreases_loop : tie.decreases-loop
+decreases_loop s from e₀ i₀ e i = length s - i
 
-loop-holds : tie.Need-loop-init invariant-loop decreases-loop
+loop-holds : tie.Need-loop-init invariant_loop decreases_loop
 loop-holds c = (omega arith, omega arith, omega arith, (0, Span.here, inl refl))
 
-shared-slice-read-b : tie.Need-shared-slice-read-b invariant-loop decreases-loop
+shared-slice-read-b : tie.Need-shared-slice-read-b invariant_loop decreases_loop
 shared-slice-read-b c = omega arith
 
-returns : tie.Need-returns invariant-loop decreases-loop
+returns : tie.Need-returns invariant_loop decreases_loop
 returns c = record {
   low = c.before.before.before.loop.invariant.1;
   high = c.before.before.before.loop.invariant.0;
@@ -30,7 +30,7 @@ returns c = record {
   says = c.before.before.before.loop.invariant.3;
 }
 
-returns-2 : tie.Need-returns-2 invariant-loop decreases-loop
+returns-2 : tie.Need-returns-2 invariant_loop decreases_loop
 returns-2 c = record {
   low = c.before.before.before.before.loop.invariant.1;
   high = c.before.before.before.before.loop.invariant.0;
@@ -39,16 +39,16 @@ returns-2 c = record {
   says = c.before.before.before.before.loop.invariant.3;
 }
 
-raise-requires : tie.Need-raise-requires invariant-loop decreases-loop
+raise-requires : tie.Need-raise-requires invariant_loop decreases_loop
 raise-requires c κs = (omega arith, omega arith)
 
-add-i : tie.Need-overflow-add-i invariant-loop decreases-loop
+add-i : tie.Need-overflow-add-i invariant_loop decreases_loop
 add-i c = omega (arith, c.before.before.before.before.before.before.before.requires)
 
-loop-less : tie.Need-loop-smaller invariant-loop decreases-loop
+loop-less : tie.Need-loop-smaller invariant_loop decreases_loop
 loop-less c = omega arith
 
-loop-again : tie.Need-loop-preserved invariant-loop decreases-loop
+loop-again : tie.Need-loop-preserved invariant_loop decreases_loop
 loop-again c = (
   omega arith,
   omega arith,
@@ -59,7 +59,7 @@ loop-again c = (
       c.before.before.before.before.loop-test.true (omega arith) (omega arith) c.raise.ensures.1.0,
 )
 
-returns-3 : tie.Need-returns-3 invariant-loop decreases-loop
+returns-3 : tie.Need-returns-3 invariant_loop decreases_loop
 returns-3 c = record {
   low = c.before.loop.invariant.1;
   high = c.before.loop.invariant.0;
@@ -68,12 +68,12 @@ returns-3 c = record {
   says = c.before.loop.invariant.3;
 }
 
-pub exp-digits-spec : {M : Type 1} → statement M
-exp-digits-spec =
+pub exp_digits_spec : {M : Type 1} → statement M
+exp_digits_spec =
     tie.close
     (tie.spec
-    invariant-loop
-    decreases-loop
+    invariant_loop
+    decreases_loop
     loop-holds
     shared-slice-read-b
     returns

@@ -1,7 +1,7 @@
 -- The number ends, or an e goes on with a sign or with digits. Assumes nothing.
 use mathlib.Core.Logic.{◌⊎◌, inl, inr, ⊎_elim}
 use native.Mathlib.Omega.{arith}
-use Rattle.items.proofs.NumberDecimalLaws.{none_over, none_other, after-e, e-over, e-plus, e-minus, e-bare}
+use Rattle.items.proofs.NumberDecimalLaws.{none_over, none_other, after_e, e_over, e_plus, e_minus, e_bare}
 use borrow.Author.Rules.{rules}
 use Rattle.items.proofs.number.exponent.Statement.{statement}
 use Rattle.items.proofs.number.exponent.Tie as tie
@@ -26,8 +26,8 @@ add-k : tie.Need-overflow-add-k
 add-k c = search rules
 
 returns-3 : tie.Need-returns-3
-returns-3 c = after-e _ _ _ _ _ _ _ (omega arith) (⊎_elim (λ x. inr x.1.left) (λ y. inl y.left) c.before.if2.branch)
-    (e-over _ _ _ _ _ _ (omega arith))
+returns-3 c = after_e _ _ _ _ _ _ _ (omega arith) (⊎_elim (λ x. inr x.1.left) (λ y. inl y.left) c.before.if2.branch)
+    (e_over _ _ _ _ _ _ (omega arith))
 
 shared-slice-read-x : tie.Need-shared-slice-read-x
 shared-slice-read-x c = search rules
@@ -39,8 +39,8 @@ raised-requires : tie.Need-raised-requires
 raised-requires c κs = search rules
 
 returns-4 : tie.Need-returns-4
-returns-4 c = after-e _ _ _ _ _ _ _ (omega arith) (⊎_elim (λ x. inr x.1.left) (λ y. inl y.left) c.before.before.before.before.if2.branch)
-    (e-plus _ _ _ _ _ _ _ (omega arith) c.before.if5.true c.raised.ensures)
+returns-4 c = after_e _ _ _ _ _ _ _ (omega arith) (⊎_elim (λ x. inr x.1.left) (λ y. inl y.left) c.before.before.before.before.if2.branch)
+    (e_plus _ _ _ _ _ _ _ (omega arith) c.before.if5.true c.raised.ensures)
 
 add-raised-2 : tie.Need-overflow-add-raised-2
 add-raised-2 c = search rules
@@ -49,18 +49,18 @@ raised-requires-2 : tie.Need-raised-requires-2
 raised-requires-2 c κs = search rules
 
 returns-5 : tie.Need-returns-5
-returns-5 c = after-e _ _ _ _ _ _ _ (omega arith) (⊎_elim (λ x. inr x.1.left) (λ y. inl y.left) c.before.before.before.before.before.if2.branch)
-    (e-minus _ _ _ _ _ _ _ (omega arith) c.before.if6.true c.raised2.ensures)
+returns-5 c = after_e _ _ _ _ _ _ _ (omega arith) (⊎_elim (λ x. inr x.1.left) (λ y. inl y.left) c.before.before.before.before.before.if2.branch)
+    (e_minus _ _ _ _ _ _ _ (omega arith) c.before.if6.true c.raised2.ensures)
 
 raised-requires-3 : tie.Need-raised-requires-3
 raised-requires-3 c κs = search rules
 
 returns-6 : tie.Need-returns-6
-returns-6 c = after-e _ _ _ _ _ _ _ (omega arith) (⊎_elim (λ x. inr x.1.left) (λ y. inl y.left) c.before.before.before.before.before.if2.branch)
-    (e-bare _ _ _ _ _ _ _ (omega arith) c.before.before.if5.false c.before.if6.false c.raised3.ensures)
+returns-6 c = after_e _ _ _ _ _ _ _ (omega arith) (⊎_elim (λ x. inr x.1.left) (λ y. inl y.left) c.before.before.before.before.before.if2.branch)
+    (e_bare _ _ _ _ _ _ _ (omega arith) c.before.before.if5.false c.before.if6.false c.raised3.ensures)
 
-pub exponent-spec : {M : Type 1} → statement M
-exponent-spec =
+pub exponent_spec : {M : Type 1} → statement M
+exponent_spec =
     tie.close
     (tie.spec
     settle-requires

@@ -11,19 +11,19 @@ use Rattle.items.proofs.number.plain_digits.Tie as tie
 use Rattle.items.proofs.number.plain_digits.Reads as reads
 use Rattle.items.proofs.number.plain_digits.Lts as lts
 
-abbrev invariant-loop : tie.invariant-loop
-invariant-loop s from had v₀ i₀ v i = (from ≤ i) × (i ≤ length s) × Span s from had i v
+abbrev invariant_loop : tie.invariant-loop
+invariant_loop s from had v₀ i₀ v i = (from ≤ i) × (i ≤ length s) × Span s from had i v
 
-abbrev decreases-loop : tie.decreases-loop
-decreases-loop s from had v₀ i₀ v i = length s - i
+abbrev decreases_loop : tie.decreases-loop
+decreases_loop s from had v₀ i₀ v i = length s - i
 
-loop-holds : tie.Need-loop-init invariant-loop decreases-loop
+loop-holds : tie.Need-loop-init invariant_loop decreases_loop
 loop-holds c = (omega arith, omega (arith, c.requires), Span.here)
 
-shared-slice-read-b : tie.Need-shared-slice-read-b invariant-loop decreases-loop
+shared-slice-read-b : tie.Need-shared-slice-read-b invariant_loop decreases_loop
 shared-slice-read-b c = omega arith
 
-returns : tie.Need-returns invariant-loop decreases-loop
+returns : tie.Need-returns invariant_loop decreases_loop
 returns c = record {
   low = c.before.before.before.loop.invariant.0;
   high = c.before.before.before.loop.invariant.1;
@@ -31,7 +31,7 @@ returns c = record {
   stop = inl (Edge.under c.if1.true);
 }
 
-returns-2 : tie.Need-returns-2 invariant-loop decreases-loop
+returns-2 : tie.Need-returns-2 invariant_loop decreases_loop
 returns-2 c = record {
   low = c.before.before.before.before.loop.invariant.0;
   high = c.before.before.before.before.loop.invariant.1;
@@ -39,7 +39,7 @@ returns-2 c = record {
   stop = inl (Edge.past c.if2.true);
 }
 
-returns-3 : tie.Need-returns-3 invariant-loop decreases-loop
+returns-3 : tie.Need-returns-3 invariant_loop decreases_loop
 returns-3 c = record {
   low = c.before.before.before.before.before.loop.invariant.0;
   high = c.before.before.before.before.before.loop.invariant.1;
@@ -47,22 +47,22 @@ returns-3 c = record {
   stop = inr c.if3.true;
 }
 
-mul-v : tie.Need-overflow-mul-v invariant-loop decreases-loop
+mul-v : tie.Need-overflow-mul-v invariant_loop decreases_loop
 mul-v c = omega arith
 
-cast-v : tie.Need-overflow-cast-v invariant-loop decreases-loop
+cast-v : tie.Need-overflow-cast-v invariant_loop decreases_loop
 cast-v c = omega arith
 
-add-v : tie.Need-overflow-add-v invariant-loop decreases-loop
+add-v : tie.Need-overflow-add-v invariant_loop decreases_loop
 add-v c = omega arith
 
-add-i : tie.Need-overflow-add-i invariant-loop decreases-loop
+add-i : tie.Need-overflow-add-i invariant_loop decreases_loop
 add-i c = omega arith
 
-loop-less : tie.Need-loop-smaller invariant-loop decreases-loop
+loop-less : tie.Need-loop-smaller invariant_loop decreases_loop
 loop-less c = omega arith
 
-loop-again : tie.Need-loop-preserved invariant-loop decreases-loop
+loop-again : tie.Need-loop-preserved invariant_loop decreases_loop
 loop-again c = (
   omega arith,
   omega arith,
@@ -70,15 +70,15 @@ loop-again c = (
       c.before.before.before.before.loop-test.true (omega arith) (omega arith) (omega arith),
 )
 
-returns-4 : tie.Need-returns-4 invariant-loop decreases-loop
+returns-4 : tie.Need-returns-4 invariant_loop decreases_loop
 returns-4 c = record { low = c.before.loop.invariant.0; high = c.before.loop.invariant.1; span = c.before.loop.invariant.2; stop = inl (Edge.ends (omega arith)) }
 
-pub plain-digits-spec : {M : Type 1} → statement M
-plain-digits-spec =
+pub plain_digits_spec : {M : Type 1} → statement M
+plain_digits_spec =
     tie.close
     (tie.spec
-    invariant-loop
-    decreases-loop
+    invariant_loop
+    decreases_loop
     loop-holds
     shared-slice-read-b
     returns

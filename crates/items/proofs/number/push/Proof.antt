@@ -1,7 +1,7 @@
 -- A 0 is one more zero; another digit makes a new coefficient, or is too much. Assumes nothing.
 use native.Mathlib.Omega.{arith}
-use Rattle.items.proofs.NumberDigitLaws.{held-zero, held-big, held-over, held-past, held_fits}
-use Rattle.items.proofs.NumberDigitLaws.{pushed-zero, pushed-large, pushed-over, pushed-past, pushed-fits}
+use Rattle.items.proofs.NumberDigitLaws.{held_zero, held_big, held_over, held_past, held_fits}
+use Rattle.items.proofs.NumberDigitLaws.{pushed_zero, pushed_large, pushed_over, pushed_past, pushed_fits}
 use borrow.Author.Rules.{rules}
 use Rattle.items.proofs.number.push.Statement.{statement}
 use Rattle.items.proofs.number.push.Tie as tie
@@ -13,9 +13,9 @@ returns : tie.Need-returns
 returns c = (
   omega arith,
   (
-    λ m. held-zero m c.before.before.args.a.c c.before.before.args.a.over c.before.before.args.a.z
+    λ m. held_zero m c.before.before.args.a.c c.before.before.args.a.over c.before.before.args.a.z
         c.before.before.args.b c.before.if1.true,
-    pushed-zero _ _ c.before.if1.true,
+    pushed_zero _ _ c.before.if1.true,
   ),
 )
 
@@ -23,9 +23,9 @@ returns-2 : tie.Need-returns-2
 returns-2 c = (
   omega arith,
   (
-    λ m. held-big m c.before.before.args.a.c c.before.before.args.a.z c.before.before.args.b (omega arith)
+    λ m. held_big m c.before.before.args.a.c c.before.before.args.a.z c.before.before.args.b (omega arith)
         (omega arith) c.before.if1.false c.before.before.args.a.over c.if2.true,
-    pushed-large _ _ c.before.if1.false c.if2.true,
+    pushed_large _ _ c.before.if1.false c.if2.true,
   ),
 )
 
@@ -54,14 +54,14 @@ returns-3 : tie.Need-returns-3
 returns-3 c = (
   omega arith,
   (
-    λ m h. held-past m c.before.before.before.before.before.before.before.before.args.a.c
+    λ m h. held_past m c.before.before.before.before.before.before.before.before.args.a.c
         c.before.before.before.before.before.before.before.before.args.a.z
         c.before.before.before.before.before.before.before.before.args.b
         c.before.before.before.before.before.before.before.before.requires.0.low
         c.before.before.before.before.before.before.before.before.requires.0.high c.before.before.before.before.before.before.before.if1.false
         c.before.before.before.before.before.before.before.before.args.a.over c.before.before.before.before.before.before.if2.false h _ _
         c.before.before.before.before.shift.ensures c.before.before.v.given.1 c.if3.true,
-    pushed-past _ _ c.before.before.before.before.before.before.before.if1.false c.before.before.before.before.before.before.if2.false _ _
+    pushed_past _ _ c.before.before.before.before.before.before.before.if1.false c.before.before.before.before.before.before.if2.false _ _
         c.before.before.before.before.shift.ensures
         c.before.before.v.given.1 c.before.before.before.before.before.before.before.before.requires.0.low
         c.before.before.before.before.before.before.before.before.requires.0.high c.if3.true,
@@ -75,12 +75,12 @@ returns-4 : tie.Need-returns-4
 returns-4 c = (
   omega arith,
   (
-    λ m h. held-over m c.before.before.before.before.before.before.args.a.c
+    λ m h. held_over m c.before.before.before.before.before.before.args.a.c
         c.before.before.before.before.before.before.args.a.z c.before.before.before.before.before.before.args.b
         c.before.before.before.before.before.before.requires.0.low c.before.before.before.before.before.before.requires.0.high
         c.before.before.before.before.before.if1.false c.before.before.before.before.before.before.args.a.over
         c.before.before.before.before.if2.false h _ c.before.before.shift.ensures c.enum_told.given.1,
-    pushed-over _ _ c.before.before.before.before.before.if1.false c.before.before.before.before.if2.false _
+    pushed_over _ _ c.before.before.before.before.before.if1.false c.before.before.before.before.if2.false _
         c.before.before.shift.ensures c.enum_told.given.1,
   ),
 )
@@ -96,7 +96,7 @@ returns-5 c = (
         c.before.before.before.before.before.before.before.before.requires.0.high c.before.before.before.before.before.before.before.if1.false
         c.before.before.before.before.before.before.before.before.args.a.over c.before.before.before.before.before.before.if2.false h _ _
         c.before.before.before.before.shift.ensures c.before.before.v.given.1,
-    pushed-fits _ _ c.before.before.before.before.before.before.before.if1.false c.before.before.before.before.before.before.if2.false _ _
+    pushed_fits _ _ c.before.before.before.before.before.before.before.if1.false c.before.before.before.before.before.before.if2.false _ _
         c.before.before.before.before.shift.ensures
         c.before.before.v.given.1 c.before.before.before.before.before.before.before.before.requires.0.low
         c.before.before.before.before.before.before.before.before.requires.0.high (omega arith),

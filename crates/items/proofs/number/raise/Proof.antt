@@ -1,6 +1,6 @@
 -- Exact below a thousand million, and above it no matter. Assumes nothing.
 use native.Mathlib.Omega.{arith}
-use Rattle.items.proofs.NumberDigitLaws.{capped-low, capped-high, raised-low, raised-high}
+use Rattle.items.proofs.NumberDigitLaws.{capped_low, capped_high, raised_low, raised_high}
 use borrow.Author.Rules.{rules}
 use Rattle.items.proofs.number.raise.Statement.{statement}
 use Rattle.items.proofs.number.raise.Tie as tie
@@ -21,8 +21,8 @@ returns : tie.Need-returns
 returns c = (
   omega arith,
   (
-    λ w. capped-low w c.before.args.e c.before.args.b (omega arith) c.if1.true,
-    raised-low c.before.args.e c.before.args.b c.if1.true,
+    λ w. capped_low w c.before.args.e c.before.args.b (omega arith) c.if1.true,
+    raised_low c.before.args.e c.before.args.b c.if1.true,
   ),
 )
 
@@ -30,10 +30,10 @@ returns-2 : tie.Need-returns-2
 returns-2 c = (
   omega arith,
   (
-    λ w. capped-high w c.before.args.e c.before.args.b (omega arith),
-    raised-high c.before.args.e c.before.args.b (omega arith),
+    λ w. capped_high w c.before.args.e c.before.args.b (omega arith),
+    raised_high c.before.args.e c.before.args.b (omega arith),
   ),
 )
 
-pub raise-spec : {M : Type 1} → statement M
-raise-spec = tie.close (tie.spec mul-result sub-result cast-result add-result returns returns-2)
+pub raise_spec : {M : Type 1} → statement M
+raise_spec = tie.close (tie.spec mul-result sub-result cast-result add-result returns returns-2)

@@ -5,7 +5,7 @@ use mathlib.Core.Bool.{Bool}
 use native.Mathlib.Omega.{arith}
 use lib.ListN.{length}
 use Rattle.items.specs.Between.NumberOrTime.{EndsSays}
-use Rattle.items.proofs.NumberPlainLaws.{span_small, int-ends, point-ends}
+use Rattle.items.proofs.NumberPlainLaws.{span_small, int_ends, point_ends}
 use borrow.Author.Rules.{rules}
 use Rattle.items.proofs.number.rest.Statement.{statement}
 use Rattle.items.proofs.number.rest.Tie as tie
@@ -28,7 +28,7 @@ settle-requires c κs = let z = c.held.ensures.0 c.before.before.before.before.a
     (omega (arith, z, c.before.before.before.before.requires.0.within, c.before.before.before.before.requires.0.short), omega arith, omega arith)
 
 returns : tie.Need-returns
-returns c = int-ends c.before.before.before.before.before.args.s.now c.before.before.before.before.before.args.q
+returns c = int_ends c.before.before.before.before.before.args.s.now c.before.before.before.before.before.args.q
     c.before.before.before.before.before.args.g c.before.held.result c.before.before.before.before.before.args.v
     c.before.held.ensures.1 c.settle.result c.before.before.before.before.before.args.at
     (subst (λ (b : Bool). EndsSays c.before.before.before.before.before.args.s.now c.before.before.before.before.before.args.at b)
@@ -91,7 +91,7 @@ returns-3 c = let h : c.before.before.before.before.before.before.before.before.
     subst (λ (b : Bool). EndsSays c.before.before.before.before.before.before.before.before.before.before.args.s.now
     c.before.before.before.before.before.before.before.before.before.before.args.at b)
     c.before.before.before.before.before.before.before.if1.false c.before.before.before.before.before.before.before.before.ends.ensures in
-    point-ends c.before.before.before.before.before.before.before.before.before.before.args.s.now
+    point_ends c.before.before.before.before.before.before.before.before.before.before.args.s.now
     c.before.before.before.before.before.before.before.before.before.before.args.q
     c.before.before.before.before.before.before.before.before.before.before.args.g c.before.held3.result
     c.before.before.before.before.before.before.before.before.before.before.args.v
@@ -116,8 +116,8 @@ returns-4 : tie.Need-returns-4
 returns-4 c = c.decimal2.ensures.reads c.before.before.before.before.before.before.before.before.before.before.args.v
     c.before.held4.ensures.1
 
-pub rest-spec : {M : Type 1} → statement M
-rest-spec =
+pub rest_spec : {M : Type 1} → statement M
+rest_spec =
     tie.close
     (tie.spec
     ends-requires

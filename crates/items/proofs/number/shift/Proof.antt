@@ -3,47 +3,47 @@ use mathlib.Core.Path.{◌≡◌, sym}
 use Prim.Native.Nat.{◌-◌, ◌*◌, ◌^◌, ◌≤◌, ◌<◌}
 use native.Mathlib.Nat.{mul-one}
 use native.Mathlib.Omega.{arith}
-use Rattle.items.proofs.NumberDigitLaws.{none-shifted, over-shifted, all-shifted, tenfold}
+use Rattle.items.proofs.NumberDigitLaws.{none_shifted, over_shifted, all_shifted, tenfold}
 use Rattle.items.proofs.number.shift.Statement.{statement}
 use Rattle.items.proofs.number.shift.Tie as tie
 
-abbrev invariant-loop : tie.invariant-loop
-invariant-loop c k v₀ i₀ v i = (i ≤ k) × (v ≡ c * 10 ^ i) × (v < 2 ^ 64)
+abbrev invariant_loop : tie.invariant-loop
+invariant_loop c k v₀ i₀ v i = (i ≤ k) × (v ≡ c * 10 ^ i) × (v < 2 ^ 64)
 
-abbrev decreases-loop : tie.decreases-loop
-decreases-loop c k v₀ i₀ v i = k - i
+abbrev decreases_loop : tie.decreases-loop
+decreases_loop c k v₀ i₀ v i = k - i
 
-returns : tie.Need-returns invariant-loop decreases-loop
-returns c = none-shifted _ _ c.if1.true
+returns : tie.Need-returns invariant_loop decreases_loop
+returns c = none_shifted _ _ c.if1.true
 
-loop-holds : tie.Need-loop-init invariant-loop decreases-loop
+loop-holds : tie.Need-loop-init invariant_loop decreases_loop
 loop-holds c = (omega arith, sym (mul-one _), c.before.ranges.c.fits)
 
-returns-2 : tie.Need-returns-2 invariant-loop decreases-loop
-returns-2 c = over-shifted _ _ c.before.before.loop.i c.before.before.loop.v c.before.loop-test.true c.before.before.loop.invariant.1
+returns-2 : tie.Need-returns-2 invariant_loop decreases_loop
+returns-2 c = over_shifted _ _ c.before.before.loop.i c.before.before.loop.v c.before.loop-test.true c.before.before.loop.invariant.1
     c.if2.true
 
-mul-v : tie.Need-overflow-mul-v invariant-loop decreases-loop
+mul-v : tie.Need-overflow-mul-v invariant_loop decreases_loop
 mul-v c = omega arith
 
-add-i : tie.Need-overflow-add-i invariant-loop decreases-loop
+add-i : tie.Need-overflow-add-i invariant_loop decreases_loop
 add-i c = omega arith
 
-loop-less : tie.Need-loop-smaller invariant-loop decreases-loop
+loop-less : tie.Need-loop-smaller invariant_loop decreases_loop
 loop-less c = omega arith
 
-loop-again : tie.Need-loop-preserved invariant-loop decreases-loop
+loop-again : tie.Need-loop-preserved invariant_loop decreases_loop
 loop-again c = (omega arith, omega (arith, tenfold c.before.before.before.before.args.c c.before.before.loop.i), omega arith)
 
-returns-3 : tie.Need-returns-3 invariant-loop decreases-loop
-returns-3 c = all-shifted _ _ c.before.loop.i c.before.loop.v (omega arith) c.before.loop.invariant.1 c.before.loop.invariant.2
+returns-3 : tie.Need-returns-3 invariant_loop decreases_loop
+returns-3 c = all_shifted _ _ c.before.loop.i c.before.loop.v (omega arith) c.before.loop.invariant.1 c.before.loop.invariant.2
 
-pub shift-spec : {M : Type 1} → statement M
-shift-spec =
+pub shift_spec : {M : Type 1} → statement M
+shift_spec =
     tie.close
     (tie.spec
-    invariant-loop
-    decreases-loop
+    invariant_loop
+    decreases_loop
     returns
     loop-holds
     returns-2

@@ -4,26 +4,26 @@ use mathlib.Core.Logic.{inr}
 use Prim.Native.Nat.{◌+◌, ◌*◌, ◌^◌, ◌≤◌, ◌<◌}
 use native.Mathlib.Nat.{mul-one}
 use native.Mathlib.Omega.{arith}
-use Rattle.items.proofs.NumberDigitLaws.{fewer, few-zeros}
+use Rattle.items.proofs.NumberDigitLaws.{fewer, few_zeros}
 use Rattle.items.proofs.number.stripped.Statement.{statement}
 use Rattle.items.proofs.number.stripped.Tie as tie
 
-abbrev invariant-loop : tie.invariant-loop
-invariant-loop v c₀ z₀ c z = (0 < c) × (v ≡ c * 10 ^ z) × (z + c ≤ v)
+abbrev invariant_loop : tie.invariant-loop
+invariant_loop v c₀ z₀ c z = (0 < c) × (v ≡ c * 10 ^ z) × (z + c ≤ v)
 
-abbrev decreases-loop : tie.decreases-loop
-decreases-loop v c₀ z₀ c z = c
+abbrev decreases_loop : tie.decreases-loop
+decreases_loop v c₀ z₀ c z = c
 
-loop-holds : tie.Need-loop-init invariant-loop decreases-loop
+loop-holds : tie.Need-loop-init invariant_loop decreases_loop
 loop-holds c = (c.requires, sym (mul-one c.args.v), omega arith)
 
-add-z : tie.Need-overflow-add-z invariant-loop decreases-loop
+add-z : tie.Need-overflow-add-z invariant_loop decreases_loop
 add-z c = omega arith
 
-loop-less : tie.Need-loop-smaller invariant-loop decreases-loop
+loop-less : tie.Need-loop-smaller invariant_loop decreases_loop
 loop-less c = omega arith
 
-loop-again : tie.Need-loop-preserved invariant-loop decreases-loop
+loop-again : tie.Need-loop-preserved invariant_loop decreases_loop
 loop-again c = (
   omega arith,
   fewer c.before.before.args.v c.before.loop.c c.before.loop.z c.before.loop.invariant.0 c.loop-test.true
@@ -31,11 +31,11 @@ loop-again c = (
   omega arith,
 )
 
-returns : tie.Need-returns invariant-loop decreases-loop
+returns : tie.Need-returns invariant_loop decreases_loop
 returns c = (
-  few-zeros c.before.before.args.v c.before.loop.c c.before.loop.z (omega arith) c.before.loop.invariant.0 c.before.loop.invariant.1,
+  few_zeros c.before.before.args.v c.before.loop.c c.before.loop.z (omega arith) c.before.loop.invariant.0 c.before.loop.invariant.1,
   (c.before.loop.invariant.1, inr c.loop-test.false),
 )
 
-pub stripped-spec : {M : Type 1} → statement M
-stripped-spec = tie.close (tie.spec invariant-loop decreases-loop loop-holds add-z loop-less loop-again returns)
+pub stripped_spec : {M : Type 1} → statement M
+stripped_spec = tie.close (tie.spec invariant_loop decreases_loop loop-holds add-z loop-less loop-again returns)

@@ -60,8 +60,8 @@ returns-4 c = (lead_is _ _ _ _ c.before.before.before.before.leading.ensures c.b
 returns-5 : tie.Need-returns-5
 returns-5 c = lead_is _ _ _ _ c.before.before.before.leading.ensures c.before.p.given.1
 
-pub any-unsigned-spec : {M : Type 1} → statement M
-any-unsigned-spec =
+pub any_unsigned_spec : {M : Type 1} → statement M
+any_unsigned_spec =
     tie.close
     (tie.spec
     leading-requires

@@ -1,6 +1,6 @@
 -- The byte after the digits decides. Assumes nothing.
 use native.Mathlib.Omega.{arith}
-use Rattle.items.proofs.NumberOrTimeLeadLaws.{lead_plain, lead-colon, lead-dash, lead-x, at-end, at_other, colon-small}
+use Rattle.items.proofs.NumberOrTimeLeadLaws.{lead_plain, lead_colon, lead_dash, lead_x, at_end, at_other, colon_small}
 use borrow.Author.Rules.{rules}
 use Rattle.items.proofs.number_or_time.leading.Statement.{statement}
 use Rattle.items.proofs.number_or_time.leading.Tie as tie
@@ -16,7 +16,7 @@ plain-requires c κs = search rules
 
 returns : tie.Need-returns
 returns c = lead_plain c.before.before.before.before.before.before.args.s.now c.before.before.before.before.before.before.args.q
-    c.before.before.before.before.first-digits.result c.before.before.before.before.first-digits.ensures (at-end _ _ _ _ (omega arith))
+    c.before.before.before.before.first-digits.result c.before.before.before.before.first-digits.ensures (at_end _ _ _ _ (omega arith))
     c.before.before.before.before.before.before.requires.short _ c.plain.ensures
 
 shared-slice-read-mark-of : tie.Need-shared-slice-read-mark-of
@@ -31,7 +31,7 @@ enum_told c = search rules
 cast-t16 : tie.Need-overflow-cast-t16
 cast-t16 c = omega (
   arith,
-  colon-small c.before.before.before.before.before.before.before.before.before.args.s.now
+  colon_small c.before.before.before.before.before.before.before.before.before.args.s.now
       c.before.before.before.before.before.before.before.before.before.args.q
       c.before.before.before.before.before.before.before.first-digits.result
       c.before.before.before.before.before.before.before.first-digits.ensures (omega arith) _ c.before.before.mark_of.ensures
@@ -60,21 +60,21 @@ plain-requires-2 : tie.Need-plain-requires-2
 plain-requires-2 c κs = search rules
 
 returns-2 : tie.Need-returns-2
-returns-2 c = lead-colon c.before.before.before.before.before.before.before.before.before.args.s.now
+returns-2 c = lead_colon c.before.before.before.before.before.before.before.before.before.args.s.now
     c.before.before.before.before.before.before.before.before.before.args.q
     c.before.before.before.before.before.before.before.first-digits.result
     c.before.before.before.before.before.before.before.first-digits.ensures (omega arith) _ c.before.before.mark_of.ensures
     c.enum_told.given.1
 
 returns-3 : tie.Need-returns-3
-returns-3 c = lead-dash c.before.before.before.before.before.before.before.before.before.args.s.now
+returns-3 c = lead_dash c.before.before.before.before.before.before.before.before.before.args.s.now
     c.before.before.before.before.before.before.before.before.before.args.q
     c.before.before.before.before.before.before.before.first-digits.result
     c.before.before.before.before.before.before.before.first-digits.ensures (omega arith) _ c.before.before.mark_of.ensures
     c.enum-told2.given.1
 
 returns-4 : tie.Need-returns-4
-returns-4 c = lead-x c.before.before.before.before.before.before.before.before.before.args.s.now
+returns-4 c = lead_x c.before.before.before.before.before.before.before.before.before.args.s.now
     c.before.before.before.before.before.before.before.before.before.args.q
     c.before.before.before.before.before.before.before.first-digits.result
     c.before.before.before.before.before.before.before.first-digits.ensures (omega arith) _ c.before.before.mark_of.ensures
@@ -88,8 +88,8 @@ returns-5 c = lead_plain c.before.before.before.before.before.before.before.befo
     (at_other _ _ _ _ (omega arith) _ c.before.before.before.mark_of.ensures c.before.enum-told4.given.1)
     c.before.before.before.before.before.before.before.before.before.before.requires.short _ c.plain2.ensures
 
-pub leading-spec : {M : Type 1} → statement M
-leading-spec =
+pub leading_spec : {M : Type 1} → statement M
+leading_spec =
     tie.close
     (tie.spec
     first-digits-requires

@@ -35,8 +35,8 @@ returns-9 : tie.Need-returns-9
 returns-9 c = Marks.other (λ e. absurd (c.before.before.before.before.before.if1.false e)) (λ e. absurd (c.before.before.before.before.if3.false e))
     (λ e k. c.before.if7.false) (λ e k. c.if8.false)
 
-pub mark-of-spec : {M : Type 1} → statement M
-mark-of-spec =
+pub mark_of_spec : {M : Type 1} → statement M
+mark_of_spec =
     tie.close
     (tie.spec
     returns

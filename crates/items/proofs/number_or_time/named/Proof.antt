@@ -1,5 +1,5 @@
 -- The letters come, or one does not. Assumes nothing.
-use Rattle.items.proofs.NumberOrTimeFirstLaws.{named-cut, named-whole}
+use Rattle.items.proofs.NumberOrTimeFirstLaws.{named_cut, named_whole}
 use borrow.Author.Rules.{rules}
 use Rattle.items.proofs.number_or_time.named.Statement.{statement}
 use Rattle.items.proofs.number_or_time.named.Tie as tie
@@ -14,10 +14,10 @@ enum-known-at : tie.Need-enum-known-at
 enum-known-at c = search rules
 
 returns : tie.Need-returns
-returns c = named-cut _ _ _ _ _ c.before.before.before.spell.ensures _ c.before.p.given.1
+returns c = named_cut _ _ _ _ _ c.before.before.before.spell.ensures _ c.before.p.given.1
 
 returns-2 : tie.Need-returns-2
-returns-2 c = named-whole _ _ _ _ _ c.before.before.before.spell.ensures _ c.before.at.given.1
+returns-2 c = named_whole _ _ _ _ _ c.before.before.before.spell.ensures _ c.before.at.given.1
 
-pub named-spec : {M : Type 1} → statement M
-named-spec = tie.close (tie.spec spell-requires enum-known-p enum-known-at returns returns-2)
+pub named_spec : {M : Type 1} → statement M
+named_spec = tie.close (tie.spec spell-requires enum-known-p enum-known-at returns returns-2)

@@ -13,5 +13,5 @@ returns-2 c = Plainly.nothing c.before.if1.false c.if2.true
 returns-3 : tie.Need-returns-3
 returns-3 c = Plainly.number (λ e. omega arith)
 
-pub plain-spec : {M : Type 1} → statement M
-plain-spec = tie.close (tie.spec returns returns-2 returns-3)
+pub plain_spec : {M : Type 1} → statement M
+plain_spec = tie.close (tie.spec returns returns-2 returns-3)

@@ -2,13 +2,13 @@
 use mathlib.Core.Path.{refl}
 use native.Mathlib.Omega.{arith}
 use Rattle.items.specs.Between.NumberOrTime.{Edge}
-use Rattle.items.proofs.NumberOrTimeFirstLaws.{sign-end, sign-nought, sign-digit}
+use Rattle.items.proofs.NumberOrTimeFirstLaws.{sign_end, sign_nought, sign_digit}
 use borrow.Author.Rules.{rules}
 use Rattle.items.proofs.number_or_time.signed.Statement.{statement}
 use Rattle.items.proofs.number_or_time.signed.Tie as tie
 
 returns : tie.Need-returns
-returns c = sign-end _ _ _ _ (omega arith)
+returns c = sign_end _ _ _ _ (omega arith)
 
 shared-slice-read-b : tie.Need-shared-slice-read-b
 shared-slice-read-b c = search rules
@@ -20,7 +20,7 @@ nought-requires : tie.Need-nought-requires
 nought-requires c κs = search rules
 
 returns-2 : tie.Need-returns-2
-returns-2 c = sign-nought _ _ _ _ (omega arith) _ c.before.if2.true c.nought.ensures
+returns-2 c = sign_nought _ _ _ _ (omega arith) _ c.before.if2.true c.nought.ensures
 
 undigited-requires : tie.Need-undigited-requires
 undigited-requires c κs = (omega arith, omega arith, Edge.under c.if3.true)
@@ -38,10 +38,10 @@ decimal-requires : tie.Need-decimal-requires
 decimal-requires c κs = search rules
 
 returns-5 : tie.Need-returns-5
-returns-5 c = sign-digit _ _ _ _ (omega arith) _ refl refl _ (omega arith) (omega arith) c.decimal.ensures
+returns-5 c = sign_digit _ _ _ _ (omega arith) _ refl refl _ (omega arith) (omega arith) c.decimal.ensures
 
-pub signed-spec : {M : Type 1} → statement M
-signed-spec =
+pub signed_spec : {M : Type 1} → statement M
+signed_spec =
     tie.close
     (tie.spec
     returns

@@ -1,6 +1,6 @@
 -- Each byte that may begin a number with no digit, and every other. Assumes nothing.
 use native.Mathlib.Omega.{arith}
-use Rattle.items.proofs.NumberOrTimeFirstLaws.{sign-point, sign-nan, sign-infinity, sign-other}
+use Rattle.items.proofs.NumberOrTimeFirstLaws.{sign_point, sign_nan, sign_infinity, sign_other}
 use borrow.Author.Rules.{rules}
 use Rattle.items.proofs.number_or_time.undigited.Statement.{statement}
 use Rattle.items.proofs.number_or_time.undigited.Tie as tie
@@ -15,7 +15,7 @@ point-requires : tie.Need-point-requires
 point-requires c κs = search rules
 
 returns : tie.Need-returns
-returns c = sign-point _ _ _ _ (omega arith) _ c.before.if1.true c.point.ensures
+returns c = sign_point _ _ _ _ (omega arith) _ c.before.if1.true c.point.ensures
 
 add-named : tie.Need-overflow-add-named
 add-named c = search rules
@@ -27,7 +27,7 @@ named-requires : tie.Need-named-requires
 named-requires c κs = search rules
 
 returns-2 : tie.Need-returns-2
-returns-2 c = sign-nan _ _ _ _ (omega arith) _ c.before.before.if2.true c.named.ensures
+returns-2 c = sign_nan _ _ _ _ (omega arith) _ c.before.before.if2.true c.named.ensures
 
 add-named-2 : tie.Need-overflow-add-named-2
 add-named-2 c = search rules
@@ -39,14 +39,14 @@ named-requires-2 : tie.Need-named-requires-2
 named-requires-2 c κs = search rules
 
 returns-3 : tie.Need-returns-3
-returns-3 c = sign-infinity _ _ _ _ (omega arith) _ c.before.before.if3.true c.named2.ensures
+returns-3 c = sign_infinity _ _ _ _ (omega arith) _ c.before.before.if3.true c.named2.ensures
 
 returns-4 : tie.Need-returns-4
-returns-4 c = sign-other _ _ _ _ (omega arith) c.before.before.before.before.before.requires.2 c.before.before.if1.false c.before.if2.false
+returns-4 c = sign_other _ _ _ _ (omega arith) c.before.before.before.before.before.requires.2 c.before.before.if1.false c.before.if2.false
     c.if3.false
 
-pub undigited-spec : {M : Type 1} → statement M
-undigited-spec =
+pub undigited_spec : {M : Type 1} → statement M
+undigited_spec =
     tie.close
     (tie.spec
     shared-slice-read-b

@@ -2,7 +2,7 @@
 use mathlib.Core.Path.{subst}
 use mathlib.Core.Bool.{Bool}
 use Rattle.items.specs.Between.NumberOrTime.{TimelySays}
-use Rattle.items.proofs.NumberOrTimeLeadLaws.{plain-leads, plain-small}
+use Rattle.items.proofs.NumberOrTimeLeadLaws.{plain_leads, plain_small}
 use borrow.Author.Rules.{rules}
 use Rattle.items.proofs.number_or_time.unsigned.Statement.{statement}
 use Rattle.items.proofs.number_or_time.unsigned.Tie as tie
@@ -40,7 +40,7 @@ rest-requires c κs = (
     within = c.before.before.plain-digits.ensures.high;
     short = c.before.before.before.before.before.before.requires.short;
   },
-  plain-small c.before.before.before.before.before.before.args.s.now
+  plain_small c.before.before.before.before.before.before.args.s.now
       c.before.before.before.before.before.before.args.q c.before.before.before.if1.false c.before.before.plain-digits.result
       c.before.before.plain-digits.ensures c.before.before.before.before.before.before.requires.digit
       c.before.before.before.before.before.before.requires.within (subst (λ (b : Bool).
@@ -49,15 +49,15 @@ rest-requires c κs = (
 )
 
 returns-3 : tie.Need-returns-3
-returns-3 c = plain-leads c.before.before.before.before.before.before.before.args.s.now
+returns-3 c = plain_leads c.before.before.before.before.before.before.before.args.s.now
     c.before.before.before.before.before.before.before.args.q c.before.before.before.before.if1.false
     c.before.before.before.plain-digits.result c.before.before.before.plain-digits.ensures
     c.before.before.before.before.before.before.before.requires.digit c.before.before.before.before.before.before.before.requires.within
     (subst (λ (b : Bool). TimelySays c.before.before.before.before.before.before.before.args.s.now
     c.before.before.before.plain-digits.result.at b) c.before.if2.false c.before.before.timely.ensures) _ c.rest.ensures
 
-pub unsigned-spec : {M : Type 1} → statement M
-unsigned-spec =
+pub unsigned_spec : {M : Type 1} → statement M
+unsigned_spec =
     tie.close
     (tie.spec
     shared-slice-read-if1

@@ -225,8 +225,8 @@ returns-4 c = let e = enc4 c.before.before.before.before.before.before.before.be
       ) (sym e.1),
     )
 
-pub encode-spec : {M : Type 1} → statement M
-encode-spec =
+pub encode_spec : {M : Type 1} → statement M
+encode_spec =
     tie.close
     (tie.spec
     cast-put-byte

@@ -1,5 +1,5 @@
 -- Assumes nothing.
-use Rattle.items.proofs.StringPartCharLaws.{char-code, char-odd, char-break}
+use Rattle.items.proofs.StringPartCharLaws.{char_code, char_odd, char_break}
 use borrow.Author.Rules.{rules}
 use Rattle.items.proofs.string_part.character.Statement.{statement}
 use Rattle.items.proofs.string_part.character.Tie as tie
@@ -23,20 +23,20 @@ unit-requires : tie.Need-unit-requires
 unit-requires c κs = search rules
 
 returns : tie.Need-returns
-returns c = char-code _ _ _ _ (rw c.before.c.given.1 at c.before.before.before.escape-at.ensures)
+returns c = char_code _ _ _ _ (rw c.before.c.given.1 at c.before.before.before.escape-at.ensures)
 
 returns-2 : tie.Need-returns-2
-returns-2 c = char-odd _ _ _ (rw c.before.next.given.1 at c.before.before.before.escape-at.ensures)
+returns-2 c = char_odd _ _ _ (rw c.before.next.given.1 at c.before.before.before.escape-at.ensures)
 
 returns-3 : tie.Need-returns-3
-returns-3 c = char-break _ _ _ (rw c.before.p.given.1 at c.before.before.before.escape-at.ensures)
+returns-3 c = char_break _ _ _ (rw c.before.p.given.1 at c.before.before.before.escape-at.ensures)
 
 returns-4 : tie.Need-returns-4
 returns-4 c = c.unit.ensures c.before.before.before.before.before.before.args.at
     (rw c.before.before.w.given.1 at c.before.before.before.before.escape-at.ensures)
 
-pub character-spec : {M : Type 1} → statement M
-character-spec =
+pub character_spec : {M : Type 1} → statement M
+character_spec =
     tie.close
     (tie.spec
     escape-at-requires

@@ -102,8 +102,8 @@ returns-5 c = four4 _ _ c.before.before.before.before.before.before.before.befor
     c.before.before.before.before.before.digit2.ensures c.before.before.before.before.if2.false c.before.before.before.digit3.result
     c.before.before.before.digit3.ensures c.before.before.if3.false c.before.digit4.result c.before.digit4.ensures c.if4.false
 
-pub four-spec : {M : Type 1} → statement M
-four-spec =
+pub four_spec : {M : Type 1} → statement M
+four_spec =
     tie.close
     (tie.spec
     add-digit

@@ -1,8 +1,8 @@
 -- Assumes nothing.
-use Rattle.items.proofs.StringPartEscapeLaws.{grown-small, grown-big}
+use Rattle.items.proofs.StringPartEscapeLaws.{grown_small, grown_big}
 use borrow.Author.Rules.{rules}
 use borrow.Author.Tests.{lt-ltb, le-ltb}
-use Rattle.items.specs.Between.StringPart.{grownTo}
+use Rattle.items.specs.Between.StringPart.{grown_to}
 use Rattle.items.proofs.string_part.grown.Statement.{statement}
 use Rattle.items.proofs.string_part.grown.Tie as tie
 use Rattle.items.proofs.string_part.grown.Reads as reads
@@ -15,12 +15,12 @@ add-result : tie.Need-overflow-add-result
 add-result c = search rules
 
 returns : tie.Need-returns
-unfolding grownTo
-returns c = (grown-small c.before.args.v c.before.args.d c.if1.true, simp (lt-ltb _ _ c.if1.true))
+unfolding grown_to
+returns c = (grown_small c.before.args.v c.before.args.d c.if1.true, simp (lt-ltb _ _ c.if1.true))
 
 returns-2 : tie.Need-returns-2
-unfolding grownTo
-returns-2 c = (grown-big c.before.args.v c.before.args.d c.if1.false, simp (le-ltb _ _ c.if1.false))
+unfolding grown_to
+returns-2 c = (grown_big c.before.args.v c.before.args.d c.if1.false, simp (le-ltb _ _ c.if1.false))
 
-pub grown-spec : {M : Type 1} → statement M
-grown-spec = tie.close (tie.spec mul-result add-result returns returns-2)
+pub grown_spec : {M : Type 1} → statement M
+grown_spec = tie.close (tie.spec mul-result add-result returns returns-2)

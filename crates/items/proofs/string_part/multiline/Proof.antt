@@ -1,6 +1,6 @@
 -- Assumes nothing.
 use native.Mathlib.Omega.{arith}
-use Rattle.items.proofs.StringPartLinesLaws.{three-cut, three-last}
+use Rattle.items.proofs.StringPartLinesLaws.{three_cut, three_last}
 use borrow.Author.Rules.{rules}
 use Rattle.items.proofs.string_part.multiline.Statement.{statement}
 use Rattle.items.proofs.string_part.multiline.Tie as tie
@@ -35,7 +35,7 @@ sub-t13 c = let t = (rw c.before.before.before.before.before.e.given.1 at
     c.before.before.before.before.before.before.before.lines_end.ensures) in omega (arith, t.behind)
 
 returns : tie.Need-returns
-returns c = three-cut _ c.before.before.before.before.before.before.before.args.q
+returns c = three_cut _ c.before.before.before.before.before.before.before.args.q
     c.before.before.before.before.before.before.before.args.at c.before.before.before.before.before.before.before.args.store.now
     c.before.before.before.before.before.before.before.requires.1 _ c.before.before.before.before.lines_start.ensures _
     (rw c.before.p.given.1 at c.before.before.before.lines_end.ensures)
@@ -44,7 +44,7 @@ same_length : tie.Need-same-length
 same_length c = search rules
 
 returns-2 : tie.Need-returns-2
-returns-2 c = three-last _ c.before.before.before.before.before.before.before.before.before.before.before.args.q
+returns-2 c = three_last _ c.before.before.before.before.before.before.before.before.before.before.before.args.q
     c.before.before.before.before.before.before.before.before.before.before.before.args.at
     c.before.before.before.before.before.before.before.before.before.before.before.args.store.now
     c.before.before.before.before.before.before.before.before.before.before.before.requires.1 _
@@ -52,8 +52,8 @@ returns-2 c = three-last _ c.before.before.before.before.before.before.before.be
     (rw c.before.before.before.before.before.e.given.1 at c.before.before.before.before.before.before.before.lines_end.ensures) _
     c.before.before.copy.ensures
 
-pub multiline-spec : {M : Type 1} → statement M
-multiline-spec =
+pub multiline_spec : {M : Type 1} → statement M
+multiline_spec =
     tie.close
     (tie.spec
     lines-start-requires

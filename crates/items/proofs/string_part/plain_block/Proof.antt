@@ -2,7 +2,7 @@
 use Prim.Native.Nat.{◌+◌, ◌-◌, ◌≤◌}
 use native.Mathlib.Omega.{arith}
 use borrow.Author.Rules.{rules}
-use Rattle.items.proofs.StringPartBlockLaws.{Least, least-none, least_more, least-plain}
+use Rattle.items.proofs.StringPartBlockLaws.{Least, least_none, least_more, least_plain}
 use Rattle.items.proofs.string_part.plain_block.Statement.{statement}
 use Rattle.items.proofs.string_part.plain_block.Tie as tie
 use Rattle.items.proofs.string_part.plain_block.Reads as reads
@@ -10,43 +10,43 @@ use Rattle.items.proofs.string_part.plain_block.Lts as lts
 use Rattle.items.proofs.string_part.apart.Reads as apart-reads
 use Rattle.items.proofs.string_part.lesser.Reads as lesser-reads
 
-abbrev invariant-loop : tie.invariant-loop
-invariant-loop s at q least₀ slash₀ quote₀ k₀ least slash quote k = (k ≤ 16) × Least s q at k least slash quote
+abbrev invariant_loop : tie.invariant-loop
+invariant_loop s at q least₀ slash₀ quote₀ k₀ least slash quote k = (k ≤ 16) × Least s q at k least slash quote
 
-abbrev decreases-loop : tie.decreases-loop
-decreases-loop s at q least₀ slash₀ quote₀ k₀ least slash quote k = 16 - k
+abbrev decreases_loop : tie.decreases-loop
+decreases_loop s at q least₀ slash₀ quote₀ k₀ least slash quote k = 16 - k
 
-loop-holds : tie.Need-loop-init invariant-loop decreases-loop
-loop-holds c = (omega arith, least-none _ _ _ _ _ _)
+loop-holds : tie.Need-loop-init invariant_loop decreases_loop
+loop-holds c = (omega arith, least_none _ _ _ _ _ _)
 
-add-b : tie.Need-overflow-add-b invariant-loop decreases-loop
+add-b : tie.Need-overflow-add-b invariant_loop decreases_loop
 add-b c = omega arith
 
-shared-slice-read-b : tie.Need-shared-slice-read-b invariant-loop decreases-loop
+shared-slice-read-b : tie.Need-shared-slice-read-b invariant_loop decreases_loop
 shared-slice-read-b c = omega arith
 
-lesser-requires : tie.Need-lesser-requires invariant-loop decreases-loop
+lesser-requires : tie.Need-lesser-requires invariant_loop decreases_loop
 lesser-requires c κs = search rules
 
-apart-requires : tie.Need-apart-requires invariant-loop decreases-loop
+apart-requires : tie.Need-apart-requires invariant_loop decreases_loop
 apart-requires c κs = search rules
 
-lesser-requires-2 : tie.Need-lesser-requires-2 invariant-loop decreases-loop
+lesser-requires-2 : tie.Need-lesser-requires-2 invariant_loop decreases_loop
 lesser-requires-2 c κs = search rules
 
-apart-requires-2 : tie.Need-apart-requires-2 invariant-loop decreases-loop
+apart-requires-2 : tie.Need-apart-requires-2 invariant_loop decreases_loop
 apart-requires-2 c κs = search rules
 
-lesser-requires-3 : tie.Need-lesser-requires-3 invariant-loop decreases-loop
+lesser-requires-3 : tie.Need-lesser-requires-3 invariant_loop decreases_loop
 lesser-requires-3 c κs = search rules
 
-add-k : tie.Need-overflow-add-k invariant-loop decreases-loop
+add-k : tie.Need-overflow-add-k invariant_loop decreases_loop
 add-k c = omega arith
 
-loop-less : tie.Need-loop-smaller invariant-loop decreases-loop
+loop-less : tie.Need-loop-smaller invariant_loop decreases_loop
 loop-less c = omega arith
 
-loop-again : tie.Need-loop-preserved invariant-loop decreases-loop
+loop-again : tie.Need-loop-preserved invariant_loop decreases_loop
 loop-again c = (
   omega arith,
   least_more c.before.before.before.before.before.before.before.loop.invariant.1
@@ -68,25 +68,25 @@ loop-again c = (
       }),
 )
 
-returns : tie.Need-returns invariant-loop decreases-loop
+returns : tie.Need-returns invariant_loop decreases_loop
 returns c = tt
 
-returns-2 : tie.Need-returns-2 invariant-loop decreases-loop
+returns-2 : tie.Need-returns-2 invariant_loop decreases_loop
 returns-2 c = tt
 
-returns-3 : tie.Need-returns-3 invariant-loop decreases-loop
+returns-3 : tie.Need-returns-3 invariant_loop decreases_loop
 returns-3 c = tt
 
-returns-4 : tie.Need-returns-4 invariant-loop decreases-loop
-returns-4 c = least-plain c.before.before.before.before.loop.invariant.1 c.before.before.before.loop-test.false c.before.before.if1.false
+returns-4 : tie.Need-returns-4 invariant_loop decreases_loop
+returns-4 c = least_plain c.before.before.before.before.loop.invariant.1 c.before.before.before.loop-test.false c.before.before.if1.false
     c.before.if2.false c.if3.false
 
-pub plain-block-spec : {M : Type 1} → statement M
-plain-block-spec =
+pub plain_block_spec : {M : Type 1} → statement M
+plain_block_spec =
     tie.close
     (tie.spec
-    invariant-loop
-    decreases-loop
+    invariant_loop
+    decreases_loop
     loop-holds
     add-b
     shared-slice-read-b

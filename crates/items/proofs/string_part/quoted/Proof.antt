@@ -1,6 +1,6 @@
 -- Assumes nothing.
 use native.Mathlib.Omega.{arith}
-use Rattle.items.proofs.StringPartQuotedLaws.{one_end, one-body, two-end, two-other, two-three}
+use Rattle.items.proofs.StringPartQuotedLaws.{one_end, one_body, two_end, two_other, two_three}
 use borrow.Author.Rules.{rules}
 use Rattle.items.proofs.string_part.quoted.Statement.{statement}
 use Rattle.items.proofs.string_part.quoted.Tie as tie
@@ -23,7 +23,7 @@ same_length : tie.Need-same-length
 same_length c = search rules
 
 returns-2 : tie.Need-returns-2
-returns-2 c = one-body c.before.before.before.before.before.before.before.before.before.args.s.now
+returns-2 c = one_body c.before.before.before.before.before.before.before.before.before.args.s.now
     c.before.before.before.before.before.before.before.before.before.args.at
     c.before.before.before.before.before.before.before.before.before.args.store.now
     c.before.before.before.before.before.before.before.before.before.args.q (omega arith)
@@ -31,7 +31,7 @@ returns-2 c = one-body c.before.before.before.before.before.before.before.before
     c.before.before.before.before.if2.true _ c.before.before.inner.result c.before.before.inner.ensures
 
 returns-3 : tie.Need-returns-3
-returns-3 c = two-end c.before.before.before.before.before.before.args.s.now c.before.before.before.before.before.before.args.at
+returns-3 c = two_end c.before.before.before.before.before.before.args.s.now c.before.before.before.before.before.before.args.at
     c.before.before.before.before.before.before.args.store.now c.before.before.before.before.before.before.args.q (omega arith)
     c.before.before.before.before.before.before.requires.1 c.before.before.before.if1.false c.before.if2.false c.if3.true
 
@@ -39,7 +39,7 @@ shared-slice-read-if4 : tie.Need-shared-slice-read-if4
 shared-slice-read-if4 c = search rules
 
 returns-4 : tie.Need-returns-4
-returns-4 c = two-other c.before.before.before.before.before.before.before.before.args.s.now
+returns-4 c = two_other c.before.before.before.before.before.before.before.before.args.s.now
     c.before.before.before.before.before.before.before.before.args.at
     c.before.before.before.before.before.before.before.before.args.store.now
     c.before.before.before.before.before.before.before.before.args.q (omega arith)
@@ -53,7 +53,7 @@ same-length-2 : tie.Need-same-length-2
 same-length-2 c = search rules
 
 returns-5 : tie.Need-returns-5
-returns-5 c = two-three c.before.before.before.before.before.before.before.before.before.before.before.before.args.s.now
+returns-5 c = two_three c.before.before.before.before.before.before.before.before.before.before.before.before.args.s.now
     c.before.before.before.before.before.before.before.before.before.before.before.before.args.at
     c.before.before.before.before.before.before.before.before.before.before.before.before.args.store.now
     c.before.before.before.before.before.before.before.before.before.before.before.before.args.q (omega arith)
@@ -62,8 +62,8 @@ returns-5 c = two-three c.before.before.before.before.before.before.before.befor
     c.before.before.before.before.before.before.before.if2.false c.before.before.before.before.before.before.if3.false
     c.before.before.before.before.if4.false _ c.before.before.multiline.result c.before.before.multiline.ensures
 
-pub quoted-spec : {M : Type 1} → statement M
-quoted-spec =
+pub quoted_spec : {M : Type 1} → statement M
+quoted_spec =
     tie.close
     (tie.spec
     returns

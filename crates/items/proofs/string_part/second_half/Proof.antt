@@ -1,17 +1,17 @@
 -- The second half comes, or the first is alone. Assumes nothing.
-use Rattle.items.proofs.StringPartCharLaws.{wait-end, wait-other, wait-code, wait-odd, wait-break, wait-below, wait-above, wait-pair}
+use Rattle.items.proofs.StringPartCharLaws.{wait_end, wait_other, wait_code, wait_odd, wait_break, wait_below, wait_above, wait_pair}
 use borrow.Author.Rules.{rules}
 use Rattle.items.proofs.string_part.second_half.Statement.{statement}
 use Rattle.items.proofs.string_part.second_half.Tie as tie
 
 returns : tie.Need-returns
-returns c = λ at t. wait-end _ _ _ _ t c.before.before.requires.0 c.before.before.requires.1 c.if1.true
+returns c = λ at t. wait_end _ _ _ _ t c.before.before.requires.0 c.before.before.requires.1 c.if1.true
 
 shared-slice-read-if2 : tie.Need-shared-slice-read-if2
 shared-slice-read-if2 c = search rules
 
 returns-2 : tie.Need-returns-2
-returns-2 c = λ at t. wait-other _ _ _ _ t c.before.before.before.before.requires.0 c.before.before.before.before.requires.1
+returns-2 c = λ at t. wait_other _ _ _ _ t c.before.before.before.before.requires.0 c.before.before.before.before.requires.1
     c.before.before.if1.false c.if2.true
 
 escape-at-requires : tie.Need-escape-at-requires
@@ -30,12 +30,12 @@ enum-known-l : tie.Need-enum-known-l
 enum-known-l c = search rules
 
 returns-3 : tie.Need-returns-3
-returns-3 c = λ at t. wait-below _ _ _ _ t c.before.before.before.before.before.before.before.before.before.requires.0
+returns-3 c = λ at t. wait_below _ _ _ _ t c.before.before.before.before.before.before.before.before.before.requires.0
     c.before.before.before.before.before.before.before.before.before.requires.1 _ _
     (rw c.before.before.l.given.1 at c.before.before.before.before.escape-at.ensures) c.if3.true
 
 returns-4 : tie.Need-returns-4
-returns-4 c = λ at t. wait-above _ _ _ _ t c.before.before.before.before.before.before.before.before.before.before.requires.0
+returns-4 c = λ at t. wait_above _ _ _ _ t c.before.before.before.before.before.before.before.before.before.before.requires.0
     c.before.before.before.before.before.before.before.before.before.before.requires.1 _ _
     (rw c.before.before.before.l.given.1 at c.before.before.before.before.before.escape-at.ensures) c.if4.true
 
@@ -52,25 +52,25 @@ add-t18 : tie.Need-overflow-add-t18
 add-t18 c = search rules
 
 returns-5 : tie.Need-returns-5
-returns-5 c = λ at t. wait-code _ _ _ _ t c.before.before.before.before.before.before.before.requires.0
+returns-5 c = λ at t. wait_code _ _ _ _ t c.before.before.before.before.before.before.before.requires.0
     c.before.before.before.before.before.before.before.requires.1 _ _ (rw c.enum_told.given.1 at c.before.before.escape-at.ensures)
 
 returns-6 : tie.Need-returns-6
-returns-6 c = λ at t. wait-odd _ _ _ _ t c.before.before.before.before.before.before.before.requires.0
+returns-6 c = λ at t. wait_odd _ _ _ _ t c.before.before.before.before.before.before.before.requires.0
     c.before.before.before.before.before.before.before.requires.1 _ (rw c.enum-told2.given.1 at c.before.before.escape-at.ensures)
 
 returns-7 : tie.Need-returns-7
-returns-7 c = λ at t. wait-break _ _ _ _ t c.before.before.before.before.before.before.before.before.requires.0
+returns-7 c = λ at t. wait_break _ _ _ _ t c.before.before.before.before.before.before.before.before.requires.0
     c.before.before.before.before.before.before.before.before.requires.1 _
     (rw c.before.p.given.1 at c.before.before.before.escape-at.ensures)
 
 returns-8 : tie.Need-returns-8
-returns-8 c = λ at t. wait-pair _ _ _ _ t c.before.before.before.before.before.before.before.before.before.before.requires.0
+returns-8 c = λ at t. wait_pair _ _ _ _ t c.before.before.before.before.before.before.before.before.before.before.requires.0
     c.before.before.before.before.before.before.before.before.before.before.requires.1 _ _
     (rw c.before.before.before.l.given.1 at c.before.before.before.before.before.escape-at.ensures) c.before.if3.false c.if4.false
 
-pub second-half-spec : {M : Type 1} → statement M
-second-half-spec =
+pub second_half_spec : {M : Type 1} → statement M
+second_half_spec =
     tie.close
     (tie.spec
     returns

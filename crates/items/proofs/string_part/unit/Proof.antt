@@ -1,17 +1,17 @@
 -- By the number alone, but for a first half. Assumes nothing.
-use Rattle.items.proofs.StringPartCharLaws.{char-low, char_up, char-lone}
+use Rattle.items.proofs.StringPartCharLaws.{char_low, char_up, char_lone}
 use borrow.Author.Rules.{rules}
 use Rattle.items.proofs.string_part.unit.Statement.{statement}
 use Rattle.items.proofs.string_part.unit.Tie as tie
 
 returns : tie.Need-returns
-returns c = λ at t. char-low _ _ _ _ t c.if1.true
+returns c = λ at t. char_low _ _ _ _ t c.if1.true
 
 returns-2 : tie.Need-returns-2
 returns-2 c = λ at t. char_up _ _ _ _ t c.if2.true
 
 returns-3 : tie.Need-returns-3
-returns-3 c = λ at t. char-lone _ _ _ _ t c.if3.true c.before.if2.false
+returns-3 c = λ at t. char_lone _ _ _ _ t c.if3.true c.before.if2.false
 
 second-half-requires : tie.Need-second-half-requires
 second-half-requires c κs = search rules

@@ -23,8 +23,8 @@ returns-2 : tie.Need-returns-2
 returns-2 c = let t = rw c.before.before.nanos.given.1 at c.before.before.before.before.second-part.ensures in
     t.reads _ _ _ _ _ _ c.clocked.ensures
 
-pub after-second-spec : {M : Type 1} → statement M
-after-second-spec =
+pub after_second_spec : {M : Type 1} → statement M
+after_second_spec =
     tie.close
     (tie.spec
     second-part-requires

@@ -1,7 +1,7 @@
 -- Each byte that may follow a date, and every other. Assumes nothing.
 use native.Mathlib.Omega.{arith}
 use Rattle.rules.proofs.TestsLaws.{held, failed}
-use Rattle.items.proofs.TimeValueLaws.{day-end, day-letter, day-space, day-other}
+use Rattle.items.proofs.TimeValueLaws.{day_end, day_letter, day_space, day_other}
 use borrow.Author.Rules.{rules}
 use Rattle.items.proofs.time_value.dated.Statement.{statement}
 use Rattle.items.proofs.time_value.dated.Tie as tie
@@ -10,8 +10,8 @@ date-done-requires : tie.Need-date-done-requires
 date-done-requires c κs = search rules
 
 returns : tie.Need-returns
-returns c = day-end c.before.before.before.args.s.now c.before.before.before.args.q c.before.before.before.args.d
-    c.before.before.before.args.at _ (omega arith) c.date-done.ensures
+returns c = day_end c.before.before.before.args.s.now c.before.before.before.args.q c.before.before.before.args.d
+    c.before.before.before.args.at _ (omega arith) c.date_done_lem.ensures
 
 shared-slice-read-b : tie.Need-shared-slice-read-b
 shared-slice-read-b c = search rules
@@ -26,7 +26,7 @@ clock-at-requires : tie.Need-clock-at-requires
 clock-at-requires c κs = search rules
 
 returns-2 : tie.Need-returns-2
-returns-2 c = day-letter c.before.before.before.before.before.before.args.s.now c.before.before.before.before.before.before.args.q
+returns-2 c = day_letter c.before.before.before.before.before.before.args.s.now c.before.before.before.before.before.before.args.q
     c.before.before.before.before.before.before.args.d c.before.before.before.before.before.before.args.at _ (omega arith)
     (held c.before.before.is-letter.ensures c.before.if2.true) c.clock-at.ensures
 
@@ -37,7 +37,7 @@ spaced-requires : tie.Need-spaced-requires
 spaced-requires c κs = search rules
 
 returns-3 : tie.Need-returns-3
-returns-3 c = day-space c.before.before.before.before.before.before.before.args.s.now
+returns-3 c = day_space c.before.before.before.before.before.before.before.args.s.now
     c.before.before.before.before.before.before.before.args.q c.before.before.before.before.before.before.before.args.d
     c.before.before.before.before.before.before.before.args.at _ (omega arith) c.before.if3.true c.spaced.ensures
 
@@ -45,13 +45,13 @@ date-done-requires-2 : tie.Need-date-done-requires-2
 date-done-requires-2 c κs = search rules
 
 returns-4 : tie.Need-returns-4
-returns-4 c = day-other c.before.before.before.before.before.before.before.args.s.now
+returns-4 c = day_other c.before.before.before.before.before.before.before.args.s.now
     c.before.before.before.before.before.before.before.args.q c.before.before.before.before.before.before.before.args.d
     c.before.before.before.before.before.before.before.args.at _ (omega arith)
     (failed c.before.before.before.is-letter.ensures c.before.before.if2.false) c.before.if3.false c.date-done2.ensures
 
-pub dated-spec : {M : Type 1} → statement M
-dated-spec =
+pub dated_spec : {M : Type 1} → statement M
+dated_spec =
     tie.close
     (tie.spec
     date-done-requires

@@ -1,5 +1,5 @@
 -- The calendar's answer is that of the test that computes. Assumes nothing.
-use Rattle.items.proofs.TimeValueLaws.{date-yes, date-no}
+use Rattle.items.proofs.TimeValueLaws.{date_yes, date_no}
 use borrow.Author.Rules.{rules}
 use Rattle.items.proofs.time_value.is_date.Statement.{statement}
 use Rattle.items.proofs.time_value.is_date.Tie as tie
@@ -23,13 +23,13 @@ enum-told-2 : tie.Need-enum-told-2
 enum-told-2 c = search rules
 
 returns : tie.Need-returns
-returns c = date-yes c.before.before.date.ensures c.enum_told.given.1
+returns c = date_yes c.before.before.date.ensures c.enum_told.given.1
 
 returns-2 : tie.Need-returns-2
-returns-2 c = date-no c.before.before.date.ensures c.enum-told2.given.1
+returns-2 c = date_no c.before.before.date.ensures c.enum-told2.given.1
 
-pub is-date-spec : {M : Type 1} → statement M
-is-date-spec =
+pub is_date_spec : {M : Type 1} → statement M
+is_date_spec =
     tie.close
     (tie.spec
     cast-date

@@ -3,7 +3,7 @@ use mathlib.Core.Path.{refl}
 use mathlib.Core.Logic.{inl}
 use borrow.Author.Tests.{eq-eqb}
 use Rattle.rules.specs.Between.Tests.{holds}
-use Rattle.items.proofs.TimeValueLaws.{second-case}
+use Rattle.items.proofs.TimeValueLaws.{second_case}
 use Rattle.items.proofs.time_value.is_letter.Statement.{statement}
 use Rattle.items.proofs.time_value.is_letter.Tie as tie
 
@@ -11,7 +11,7 @@ returns : tie.Need-returns
 returns c = rw (eq-eqb _ _ c.if1.true) (holds (inl c.if1.true))
 
 returns-2 : tie.Need-returns-2
-returns-2 c = second-case _ _ _ c.if1.false
+returns-2 c = second_case _ _ _ c.if1.false
 
-pub is-letter-spec : {M : Type 1} → statement M
-is-letter-spec = tie.close (tie.spec returns returns-2)
+pub is_letter_spec : {M : Type 1} → statement M
+is_letter_spec = tie.close (tie.spec returns returns-2)

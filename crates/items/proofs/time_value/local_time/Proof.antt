@@ -1,5 +1,5 @@
 -- The check, and its two answers. Assumes nothing.
-use Rattle.items.proofs.TimeValueLaws.{time-good, time-bad}
+use Rattle.items.proofs.TimeValueLaws.{time_good, time_bad}
 use borrow.Author.Rules.{rules}
 use Rattle.items.proofs.time_value.local_time.Statement.{statement}
 use Rattle.items.proofs.time_value.local_time.Tie as tie
@@ -14,12 +14,12 @@ time-requires : tie.Need-time-requires
 time-requires c κs = search rules
 
 returns : tie.Need-returns
-returns c = time-good c.before.before.before.before.args.q c.before.before.before.before.args.c c.before.before.before.before.args.at _
+returns c = time_good c.before.before.before.before.args.q c.before.before.before.before.args.c c.before.before.before.before.args.at _
     c.before.before.before.is-clock.ensures c.before.before.if1.true _ c.before.time-of-day.ensures _ c.time.ensures
 
 returns-2 : tie.Need-returns-2
-returns-2 c = time-bad c.before.before.args.q c.before.before.args.c c.before.before.args.at _ c.before.is-clock.ensures c.if1.false
+returns-2 c = time_bad c.before.before.args.q c.before.before.args.c c.before.before.args.at _ c.before.is-clock.ensures c.if1.false
 
-pub local-time-spec : {M : Type 1} → statement M
-local-time-spec =
+pub local_time_spec : {M : Type 1} → statement M
+local_time_spec =
     tie.close (tie.spec is-clock-requires time-of-day-requires time-requires returns returns-2)

@@ -7,7 +7,7 @@ use lib.IntN.{pos}
 use mir.Syntax.{w16}
 use mir.ValLaws.{to_z_pos}
 use Rattle.grammar.specs.Times.{signed}
-use Rattle.items.proofs.NumberSettleLaws.{neg-fits, neg_is}
+use Rattle.items.proofs.NumberSettleLaws.{neg_fits, neg_is}
 use borrow.Author.Rules.{rules}
 use Rattle.items.proofs.time_value.minutes.Statement.{statement}
 use Rattle.items.proofs.time_value.minutes.Tie as tie
@@ -22,7 +22,7 @@ cast-x : tie.Need-overflow-cast-x
 cast-x c = search rules
 
 sub-result : tie.Need-overflow-sub-result
-sub-result c = neg-fits w16 (pos (c.before.args.hour * 60 + c.before.args.minute)) (omega arith)
+sub-result c = neg_fits w16 (pos (c.before.args.hour * 60 + c.before.args.minute)) (omega arith)
 
 returns : tie.Need-returns
 returns c = neg_is w16 (pos (c.before.args.hour * 60 + c.before.args.minute)) (omega arith)
@@ -32,5 +32,5 @@ returns-2 : tie.Need-returns-2
 returns-2 c = to_z_pos w16 (c.before.args.hour * 60 + c.before.args.minute) (omega arith)
     ∙ sym (ap (λ (b : Bool). signed b (c.before.args.hour * 60 + c.before.args.minute)) c.if1.false)
 
-pub minutes-spec : {M : Type 1} → statement M
-minutes-spec = tie.close (tie.spec mul-m add-m cast-x sub-result returns returns-2)
+pub minutes_spec : {M : Type 1} → statement M
+minutes_spec = tie.close (tie.spec mul-m add-m cast-x sub-result returns returns-2)

@@ -1,5 +1,5 @@
 -- The check, and its two answers. Assumes nothing.
-use Rattle.items.proofs.TimeValueLaws.{offset-good, offset-clock, offset-date}
+use Rattle.items.proofs.TimeValueLaws.{offset_good, offset_clock, offset_date}
 use mir.Syntax.{w16}
 use mir.ValLaws.{to_z-of_z}
 use borrow.Author.Rules.{rules}
@@ -19,24 +19,24 @@ time-requires : tie.Need-time-requires
 time-requires c κs = search rules
 
 returns : tie.Need-returns
-returns c = offset-good c.before.before.before.before.before.before.args.q c.before.before.before.before.before.before.args.c
+returns c = offset_good c.before.before.before.before.before.before.args.q c.before.before.before.before.before.before.args.c
     c.before.before.before.before.before.before.args.at _ c.before.before.before.is-clock.ensures
-    c.before.before.before.before.before.before.args.d _ c.before.before.before.before.before.is-date.ensures
+    c.before.before.before.before.before.before.args.d _ c.before.before.before.before.before.is_date_lem.ensures
     c.before.before.before.before.before.before.args.offset c.before.before.before.before.if1.true c.before.before.if2.true _
     c.before.time-of-day.ensures _ (to_z-of_z w16 c.before.before.before.before.before.before.args.offset
     c.before.before.before.before.before.before.ranges.offset) _ c.time.ensures
 
 returns-2 : tie.Need-returns-2
-returns-2 c = offset-clock c.before.before.before.before.args.q c.before.before.before.before.args.c
+returns-2 c = offset_clock c.before.before.before.before.args.q c.before.before.before.before.args.c
     c.before.before.before.before.args.at _ c.before.is-clock.ensures c.before.before.before.before.args.d _
-    c.before.before.before.is-date.ensures c.before.before.before.before.args.offset c.if2.false
+    c.before.before.before.is_date_lem.ensures c.before.before.before.before.args.offset c.if2.false
 
 returns-3 : tie.Need-returns-3
-returns-3 c = offset-date c.before.before.args.q c.before.before.args.c c.before.before.args.at c.before.before.args.d _
-    c.before.is-date.ensures c.if1.false c.before.before.args.offset
+returns-3 c = offset_date c.before.before.args.q c.before.before.args.c c.before.before.args.at c.before.before.args.d _
+    c.before.is_date_lem.ensures c.if1.false c.before.before.args.offset
 
-pub offset-date-time-spec : {M : Type 1} → statement M
-offset-date-time-spec =
+pub offset_date_time_spec : {M : Type 1} → statement M
+offset_date_time_spec =
     tie.close
     (tie.spec
     is-date-requires

@@ -1,6 +1,6 @@
 -- Two digits and the mark must come. Assumes nothing.
 use native.Mathlib.Omega.{arith}
-use Rattle.items.proofs.TimeValueLaws.{then-end, then-wrong, then-bad, then-got}
+use Rattle.items.proofs.TimeValueLaws.{then_end, then_wrong, then_bad, then_got}
 use borrow.Author.Rules.{rules}
 use Rattle.items.proofs.time_value.two_then.Statement.{statement}
 use Rattle.items.proofs.time_value.two_then.Tie as tie
@@ -15,7 +15,7 @@ enum-known-v : tie.Need-enum-known-v
 enum-known-v c = search rules
 
 returns : tie.Need-returns
-returns c = then-end c.before.before.before.before.before.before.args.s.now c.before.before.before.before.before.before.args.i
+returns c = then_end c.before.before.before.before.before.before.args.s.now c.before.before.before.before.before.before.args.i
     c.before.before.before.before.before.before.args.mark c.before.before.before.before.two.result
     c.before.before.before.before.two.ensures c.before.before.v.given.0.0 c.before.before.v.given.0.1.0
     c.before.before.v.given.1 (omega arith) (omega arith)
@@ -24,7 +24,7 @@ shared-slice-read-if2 : tie.Need-shared-slice-read-if2
 shared-slice-read-if2 c = search rules
 
 returns-2 : tie.Need-returns-2
-returns-2 c = then-wrong c.before.before.before.before.before.before.before.before.args.s.now
+returns-2 c = then_wrong c.before.before.before.before.before.before.before.before.args.s.now
     c.before.before.before.before.before.before.before.before.args.i c.before.before.before.before.before.before.before.before.args.mark
     c.before.before.before.before.before.before.two.result c.before.before.before.before.before.before.two.ensures
     c.before.before.before.before.v.given.0.0 c.before.before.before.before.v.given.0.1.0 c.before.before.before.before.v.given.1
@@ -34,19 +34,19 @@ add-t9 : tie.Need-overflow-add-t9
 add-t9 c = search rules
 
 returns-3 : tie.Need-returns-3
-returns-3 c = then-bad c.before.before.before.before.before.args.s.now c.before.before.before.before.before.args.i
+returns-3 c = then_bad c.before.before.before.before.before.args.s.now c.before.before.before.before.before.args.i
     c.before.before.before.before.before.args.mark c.before.before.before.two.result c.before.before.before.two.ensures _
     c.before.p.given.1
 
 returns-4 : tie.Need-returns-4
-returns-4 c = then-got c.before.before.before.before.before.before.before.before.args.s.now
+returns-4 c = then_got c.before.before.before.before.before.before.before.before.args.s.now
     c.before.before.before.before.before.before.before.before.args.i c.before.before.before.before.before.before.before.before.args.mark
     c.before.before.before.before.before.before.two.result c.before.before.before.before.before.before.two.ensures
     c.before.before.before.before.v.given.0.0 c.before.before.before.before.v.given.0.1.0 c.before.before.before.before.v.given.1
     (omega arith) c.if2.false
 
-pub two-then-spec : {M : Type 1} → statement M
-two-then-spec =
+pub two_then_spec : {M : Type 1} → statement M
+two_then_spec =
     tie.close
     (tie.spec
     two-requires

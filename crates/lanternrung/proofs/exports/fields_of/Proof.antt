@@ -1,7 +1,7 @@
 -- The fields of each kind. Assumes nothing.
 use mathlib.Core.Path.{sym, ap, ◌∙◌}
 use Prim.Native.Nat.{ℕ}
-use Rattle.lanternrung.specs.Told.{plainFields, fields_of}
+use Rattle.lanternrung.specs.Told.{plain_fields, fields_of}
 use borrow.Author.Rules.{rules}
 use Rattle.lanternrung.proofs.exports.fields_of.Statement.{statement}
 use Rattle.lanternrung.proofs.exports.fields_of.Tie as tie
@@ -75,7 +75,7 @@ returns c = c.plain.ensures ∙ sym (ap fields_of c.before.enum_told.given.1)
 
 returns-2 : tie.Need-returns-2
 unfolding fields_of
-returns-2 c = c.plain2.ensures ∙ ap (λ (x : ℕ). plainFields 2 x 0 0) c.before.flag.ensures ∙ sym (ap fields_of c.before.before.before.r.given.1)
+returns-2 c = c.plain2.ensures ∙ ap (λ (x : ℕ). plain_fields 2 x 0 0) c.before.flag.ensures ∙ sym (ap fields_of c.before.before.before.r.given.1)
 
 returns-3 : tie.Need-returns-3
 unfolding fields_of
@@ -105,8 +105,8 @@ returns-9 : tie.Need-returns-9
 unfolding fields_of
 returns-9 c = c.container2.ensures ∙ sym (ap fields_of c.before.before.r8.given.1)
 
-pub fields-of-spec : {M : Type 1} → statement M
-fields-of-spec =
+pub fields_of_spec : {M : Type 1} → statement M
+fields_of_spec =
     tie.close
     (tie.spec
     enum_told

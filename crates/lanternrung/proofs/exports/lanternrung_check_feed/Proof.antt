@@ -27,11 +27,11 @@ same_length c = search rules
 returns : tie.Need-returns
 returns c =
     keeps _ _ c.before.before.before.before.before.before.before.before.before.args.state.now _
-    (c.before.before.before.before.check-feed.ensures ∙ ap (λ (x : Check).
+    (c.before.before.before.before.check_feed.ensures ∙ ap (λ (x : Check).
     fed x c.before.before.before.before.before.before.before.before.before.args.part.now)
     c.before.before.before.before.before.kept.ensures)
     c.before.before.keep.ensures
 
-pub lanternrung-check-feed-spec : {M : Type 1} → statement M
-lanternrung-check-feed-spec =
+pub lanternrung_check_feed_spec : {M : Type 1} → statement M
+lanternrung_check_feed_spec =
     tie.close (tie.spec kept-requires check-feed-requires keep-requires same_length returns)

@@ -2,7 +2,7 @@
 use mathlib.Core.Path.{ap, ◌∙◌}
 use Rattle.arriving.specs.declared.Check.{Check}
 use Rattle.arriving.specs.Between.Arriving.{ended}
-use Rattle.lanternrung.specs.Told.{sizesOf}
+use Rattle.lanternrung.specs.Told.{sizes_of}
 use borrow.Author.Rules.{rules}
 use Rattle.lanternrung.proofs.exports.lanternrung_check_finish.Statement.{statement}
 use Rattle.lanternrung.proofs.exports.lanternrung_check_finish.Tie as tie
@@ -22,8 +22,8 @@ sizes-of-requires : tie.Need-sizes-of-requires
 sizes-of-requires c κs = search rules
 
 returns : tie.Need-returns
-returns c = c.sizes-of.ensures ∙ ap sizesOf (c.before.check-finish.ensures ∙ ap (λ (x : Check). ended x) c.before.before.kept.ensures)
+returns c = c.sizes-of.ensures ∙ ap sizes_of (c.before.check_finish.ensures ∙ ap (λ (x : Check). ended x) c.before.before.kept.ensures)
 
-pub lanternrung-check-finish-spec : {M : Type 1} → statement M
-lanternrung-check-finish-spec =
+pub lanternrung_check_finish_spec : {M : Type 1} → statement M
+lanternrung_check_finish_spec =
     tie.close (tie.spec kept-requires check-finish-requires sizes-of-requires returns)

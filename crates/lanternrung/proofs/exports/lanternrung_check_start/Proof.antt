@@ -18,9 +18,9 @@ same_length : tie.Need-same-length
 same_length c = search rules
 
 returns : tie.Need-returns
-returns c = keeps _ _ c.before.before.before.before.before.before.args.state.now _ c.before.before.before.before.check-start.ensures
+returns c = keeps _ _ c.before.before.before.before.before.before.args.state.now _ c.before.before.before.before.check_start.ensures
     c.before.before.keep.ensures
 
-pub lanternrung-check-start-spec : {M : Type 1} → statement M
-lanternrung-check-start-spec =
+pub lanternrung_check_start_spec : {M : Type 1} → statement M
+lanternrung_check_start_spec =
     tie.close (tie.spec check-start-requires keep-requires same_length returns)

@@ -2,7 +2,7 @@
 use mathlib.Core.Path.{refl, subst}
 use Rattle.rules.specs.declared.DateAnswer.TheVariants.{Done, NoDate}
 use Rattle.rules.specs.Rfc3339.{Dated}
-use Rattle.lanternrung.specs.Told.{statusOf}
+use Rattle.lanternrung.specs.Told.{status_of}
 use borrow.Author.Rules.{rules}
 use Rattle.lanternrung.proofs.exports.lanternrung_date.Statement.{statement}
 use Rattle.lanternrung.proofs.exports.lanternrung_date.Tie as tie
@@ -20,12 +20,12 @@ enum-told-2 : tie.Need-enum-told-2
 enum-told-2 c = search rules
 
 returns : tie.Need-returns
-unfolding statusOf
+unfolding status_of
 returns c = record { answer = Done; allowed = subst (Dated _ _ _) c.enum_told.given.1 c.before.before.date.ensures; told = refl }
 
 returns-2 : tie.Need-returns-2
-unfolding statusOf
+unfolding status_of
 returns-2 c = record { answer = NoDate; allowed = subst (Dated _ _ _) c.enum-told2.given.1 c.before.before.date.ensures; told = refl }
 
-pub lanternrung-date-spec : {M : Type 1} → statement M
-lanternrung-date-spec = tie.close (tie.spec date-requires enum_told enum-told-2 returns returns-2)
+pub lanternrung_date_spec : {M : Type 1} → statement M
+lanternrung_date_spec = tie.close (tie.spec date-requires enum_told enum-told-2 returns returns-2)

@@ -2,7 +2,7 @@
 use mathlib.Core.Path.{subst}
 use Rattle.tape.specs.declared.Looked.{Looked}
 use Rattle.tape.specs.Looking.{Looks}
-use Rattle.lanternrung.specs.Told.{lookedFields}
+use Rattle.lanternrung.specs.Told.{looked_fields}
 use borrow.Author.Rules.{rules}
 use Rattle.lanternrung.proofs.exports.lanternrung_look.Statement.{statement}
 use Rattle.lanternrung.proofs.exports.lanternrung_look.Tie as tie
@@ -28,7 +28,7 @@ fields-of-requires : tie.Need-fields-of-requires
 fields-of-requires c κs = search rules
 
 returns : tie.Need-returns
-unfolding lookedFields
+unfolding looked_fields
 returns c = record {
   answer = Looked.Refused c.before.before.why.given.0.0;
   allowed = subst (Looks _ _ _) c.before.before.why.given.1 c.before.before.before.before.look.ensures;
@@ -36,15 +36,15 @@ returns c = record {
 }
 
 returns-2 : tie.Need-returns-2
-unfolding lookedFields
+unfolding looked_fields
 returns-2 c = record {
   answer = Looked.Record c.before.before.r.given.0.0;
   allowed = subst (Looks _ _ _) c.before.before.r.given.1 c.before.before.before.before.look.ensures;
   told = c.fields-of.ensures;
 }
 
-pub lanternrung-look-spec : {M : Type 1} → statement M
-lanternrung-look-spec =
+pub lanternrung_look_spec : {M : Type 1} → statement M
+lanternrung_look_spec =
     tie.close
     (tie.spec
     look-requires

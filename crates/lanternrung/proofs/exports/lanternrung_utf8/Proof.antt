@@ -2,7 +2,7 @@
 use mathlib.Core.Path.{refl, subst}
 use Rattle.rules.specs.declared.Utf8Answer.TheVariants.{Done, IllFormed}
 use Rattle.rules.specs.Rfc3629.{Judged}
-use Rattle.lanternrung.specs.Told.{statusOf}
+use Rattle.lanternrung.specs.Told.{status_of}
 use borrow.Author.Rules.{rules}
 use Rattle.lanternrung.proofs.exports.lanternrung_utf8.Statement.{statement}
 use Rattle.lanternrung.proofs.exports.lanternrung_utf8.Tie as tie
@@ -20,11 +20,11 @@ enum-known-at : tie.Need-enum-known-at
 enum-known-at c = search rules
 
 returns : tie.Need-returns
-unfolding statusOf
+unfolding status_of
 returns c = record { answer = Done; allowed = subst (Judged _) c.enum_told.given.1 c.before.before.utf8.ensures; told = refl }
 
 returns-2 : tie.Need-returns-2
-unfolding statusOf
+unfolding status_of
 returns-2 c = record {
   answer = IllFormed c.before.at.given.0.0;
   allowed =
@@ -32,6 +32,6 @@ returns-2 c = record {
   told = refl;
 }
 
-pub lanternrung-utf8-spec : {M : Type 1} → statement M
-lanternrung-utf8-spec =
+pub lanternrung_utf8_spec : {M : Type 1} → statement M
+lanternrung_utf8_spec =
     tie.close (tie.spec utf8-requires enum_told enum-known-at returns returns-2)

@@ -4,7 +4,7 @@ use Prim.Native.Nat.{ℕ, ◌+◌}
 use native.Mathlib.Omega.{arith}
 use mir.Syntax.{w32}
 use mir.ValLaws.{to_z-of_z}
-use Rattle.lanternrung.specs.Told.{plainFields, numberFields}
+use Rattle.lanternrung.specs.Told.{plain_fields, number_fields}
 use Rattle.meaning.proofs.Records.{flag_small}
 use borrow.Author.Rules.{rules}
 use Rattle.lanternrung.proofs.exports.number_fields.Statement.{statement}
@@ -39,24 +39,24 @@ flag-requires-2 : tie.Need-flag-requires-2
 flag-requires-2 c κs = search rules
 
 returns : tie.Need-returns
-unfolding numberFields
-returns c = c.plain.ensures ∙ sym (ap numberFields c.before.enum_told.given.1)
+unfolding number_fields
+returns c = c.plain.ensures ∙ sym (ap number_fields c.before.enum_told.given.1)
 
 returns-2 : tie.Need-returns-2
-unfolding numberFields
-returns-2 c = c.plain2.ensures ∙ ap (λ (x : ℕ). plainFields 4 (1 + x) 0 0) c.before.flag.ensures
-    ∙ sym (ap numberFields c.before.before.before.n.given.1)
+unfolding number_fields
+returns-2 c = c.plain2.ensures ∙ ap (λ (x : ℕ). plain_fields 4 (1 + x) 0 0) c.before.flag.ensures
+    ∙ sym (ap number_fields c.before.before.before.n.given.1)
 
 returns-3 : tie.Need-returns-3
-unfolding numberFields
+unfolding number_fields
 returns-3 c = rw (
   c.flag2.ensures,
   to_z-of_z w32 c.before.before.n2.given.0.1.1.0 (record { sfits = c.before.known-told2.given.1.1.0.1 }),
   c.before.before.n2.given.1,
 )
 
-pub number-fields-spec : {M : Type 1} → statement M
-number-fields-spec =
+pub number_fields_spec : {M : Type 1} → statement M
+number_fields_spec =
     tie.close
     (tie.spec
     enum_told

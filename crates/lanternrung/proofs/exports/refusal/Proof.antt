@@ -16,5 +16,5 @@ place-requires c κs = search rules
 returns : tie.Need-returns
 returns c = rw (c.before.number.ensures, c.place.ensures)
 
-pub refusal-spec : {M : Type 1} → statement M
-refusal-spec = tie.close (tie.spec number-requires place-requires returns)
+pub refusal_spec : {M : Type 1} → statement M
+refusal_spec = tie.close (tie.spec number-requires place-requires returns)

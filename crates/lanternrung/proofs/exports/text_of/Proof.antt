@@ -28,7 +28,7 @@ returns-2 : tie.Need-returns-2
 unfolding text_of
 returns-2 c = rw c.before.a2.given.1
 
-pub text-of-spec : {M : Type 1} → statement M
-text-of-spec =
+pub text_of_spec : {M : Type 1} → statement M
+text_of_spec =
     tie.close
     (tie.spec enum-known-a number-requires place-requires enum-known-a-2 returns returns-2)

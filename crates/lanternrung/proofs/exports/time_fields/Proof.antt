@@ -2,7 +2,7 @@
 use mathlib.Core.Path.{sym, ap, ◌∙◌, subst}
 use mir.Syntax.{w32}
 use mir.Val.{SFits}
-use Rattle.lanternrung.specs.Told.{datedFields, timeFields}
+use Rattle.lanternrung.specs.Told.{dated_fields, time_fields}
 use Rattle.lanternrung.proofs.ToldLaws.{same16, wider, passed}
 use borrow.Author.Rules.{rules}
 use Rattle.lanternrung.proofs.exports.time_fields.Statement.{statement}
@@ -42,26 +42,26 @@ dated-requires-4 : tie.Need-dated-requires-4
 dated-requires-4 c κs = search rules
 
 returns : tie.Need-returns
-unfolding timeFields
-returns c = c.dated.ensures ∙ sym (ap timeFields c.before.before.t.given.1)
+unfolding time_fields
+returns c = c.dated.ensures ∙ sym (ap time_fields c.before.before.t.given.1)
 
 returns-2 : tie.Need-returns-2
-unfolding timeFields
-returns-2 c = c.dated2.ensures ∙ sym (ap timeFields c.before.before.t2.given.1)
+unfolding time_fields
+returns-2 c = c.dated2.ensures ∙ sym (ap time_fields c.before.before.t2.given.1)
 
 returns-3 : tie.Need-returns-3
-unfolding timeFields
-returns-3 c = c.dated3.ensures ∙ sym (ap timeFields c.before.before.t3.given.1)
+unfolding time_fields
+returns-3 c = c.dated3.ensures ∙ sym (ap time_fields c.before.before.t3.given.1)
 
 returns-4 : tie.Need-returns-4
-unfolding timeFields
+unfolding time_fields
 returns-4 c =
     let z = c.before.before.t4.given.0.1.1.0 in
-    c.dated4.ensures ∙ ap (datedFields 11 c.before.before.t4.given.0.0 c.before.before.t4.given.0.1.0)
-    (passed z c.before.known-told4.given.1.1.0.1) ∙ sym (ap timeFields c.before.before.t4.given.1)
+    c.dated4.ensures ∙ ap (dated_fields 11 c.before.before.t4.given.0.0 c.before.before.t4.given.0.1.0)
+    (passed z c.before.known-told4.given.1.1.0.1) ∙ sym (ap time_fields c.before.before.t4.given.1)
 
-pub time-fields-spec : {M : Type 1} → statement M
-time-fields-spec =
+pub time_fields_spec : {M : Type 1} → statement M
+time_fields_spec =
     tie.close
     (tie.spec
     enum-known-t

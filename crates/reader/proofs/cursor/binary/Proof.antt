@@ -1,4 +1,4 @@
-use Rattle.reader.proofs.CursorHeadLaws.{binary-whole, binary-refused}
+use Rattle.reader.proofs.CursorHeadLaws.{binary_whole, binary_refused}
 use borrow.Author.Rules.{rules}
 use Rattle.reader.proofs.cursor.binary.Statement.{statement}
 use Rattle.reader.proofs.cursor.binary.Tie as tie
@@ -23,7 +23,7 @@ returns c =
     let a = c.before.before.before.before.before.before.before.before.before.args in
     let pre = c.before.before.before.before.before.before.before.before.before.requires in
     let binary = c.before.before.before.before.before.binary in
-    binary-refused a.text.now a.at a.start a.store.now pre.0 pre.1 c.before.why.given.0.0
+    binary_refused a.text.now a.at a.start a.store.now pre.0 pre.1 c.before.why.given.0.0
     (rw c.before.why.given.1 at binary.ensures)
 
 same-length-2 : tie.Need-same-length-2
@@ -34,11 +34,11 @@ returns-2 c =
     let a = c.before.before.before.before.before.before.before.before.before.args in
     let pre = c.before.before.before.before.before.before.before.before.before.requires in
     let binary = c.before.before.before.before.before.binary in
-    binary-whole a.text.now a.at a.start a.store.now pre.0 pre.1 _ c.before.n.given.0.1.0
+    binary_whole a.text.now a.at a.start a.store.now pre.0 pre.1 _ c.before.n.given.0.1.0
     c.before.n.given.0.0 (rw c.before.n.given.1 at binary.ensures)
 
-pub binary-spec : {M : Type 1} → statement M
-binary-spec =
+pub binary_spec : {M : Type 1} → statement M
+binary_spec =
     tie.close
     (tie.spec
     binary-requires

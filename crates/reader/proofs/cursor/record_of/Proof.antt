@@ -40,8 +40,8 @@ returns-5 c = rw c.before.item4.given.1
 returns-6 : tie.Need-returns-6
 returns-6 c = rw c.before.item5.given.1
 
-pub record-of-spec : {M : Type 1} → statement M
-record-of-spec =
+pub record_of_spec : {M : Type 1} → statement M
+record_of_spec =
     tie.close
     (tie.spec
     enum_told

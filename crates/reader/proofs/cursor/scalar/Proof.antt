@@ -5,7 +5,7 @@ use Rattle.meaning.specs.Letters.{letters, ch}
 use Rattle.meaning.specs.Meaning.{Meaning}
 use Rattle.items.specs.Between.NumberOrTime.{Means}
 use Rattle.items.specs.declared.Item.{Item}
-use Rattle.reader.proofs.CursorHeadLaws.{of_word, at-word, of-numeric}
+use Rattle.reader.proofs.CursorHeadLaws.{of_word, at_word, of_numeric}
 use borrow.Author.Rules.{rules}
 use Rattle.reader.proofs.cursor.scalar.Statement.{statement}
 use Rattle.reader.proofs.cursor.scalar.Tie as tie
@@ -62,7 +62,7 @@ returns-4 c =
     let pre = c.before.before.before.before.before.before.before.before.before.requires in
     of_word a.text.now a.at a.start a.store.now (letters "null") (ch "n") (letters "ull") refl Item.Null
     Meaning.null Means.null
-    (at-word a.text.now a.at a.start a.store.now pre.inside (ch "n") (letters "ull") Meaning.null
+    (at_word a.text.now a.at a.start a.store.now pre.inside (ch "n") (letters "ull") Meaning.null
     (λ d k. rw c.before.before.if4.true)) c.spelt.result c.spelt.ensures
 
 slice-aggregate-spelt-2 : tie.Need-slice-aggregate-spelt-2
@@ -77,7 +77,7 @@ returns-5 c =
     let pre = c.before.before.before.before.before.before.before.before.before.before.requires in
     of_word a.text.now a.at a.start a.store.now (letters "true") (ch "t") (letters "rue") refl
     (Item.Bool true) (Meaning.bool true) Means.bool
-    (at-word a.text.now a.at a.start a.store.now pre.inside (ch "t") (letters "rue") (Meaning.bool true)
+    (at_word a.text.now a.at a.start a.store.now pre.inside (ch "t") (letters "rue") (Meaning.bool true)
     (λ d k. rw c.before.before.if5.true)) c.spelt2.result c.spelt2.ensures
 
 slice-aggregate-spelt-3 : tie.Need-slice-aggregate-spelt-3
@@ -92,7 +92,7 @@ returns-6 c =
     let pre = c.before.before.before.before.before.before.before.before.before.before.before.requires in
     of_word a.text.now a.at a.start a.store.now (letters "false") (ch "f") (letters "alse") refl
     (Item.Bool false) (Meaning.bool false) Means.bool
-    (at-word a.text.now a.at a.start a.store.now pre.inside (ch "f") (letters "alse") (Meaning.bool false)
+    (at_word a.text.now a.at a.start a.store.now pre.inside (ch "f") (letters "alse") (Meaning.bool false)
     (λ d k. rw c.before.before.if6.true)) c.spelt3.result c.spelt3.ensures
 
 numeric-requires : tie.Need-numeric-requires
@@ -105,7 +105,7 @@ returns-7 c =
     let if1 = c.before.before.before.before.before.before.if1 in
     let if2 = c.before.before.before.before.before.if2 in
     let if3 = c.before.before.before.before.if3 in
-    of-numeric a.text.now a.at a.start a.store.now pre
+    of_numeric a.text.now a.at a.start a.store.now pre
     (record {
       double = if1.false;
       single = if2.false;
@@ -113,13 +113,13 @@ returns-7 c =
       n = c.before.before.before.if4.false;
       t = c.before.before.if5.false;
       f = c.before.if6.false;
-      square = pre.no-square;
-      curly = pre.no-curly;
+      square = pre.no_square;
+      curly = pre.no_curly;
     })
     c.numeric.result c.numeric.ensures
 
-pub scalar-spec : {M : Type 1} → statement M
-scalar-spec =
+pub scalar_spec : {M : Type 1} → statement M
+scalar_spec =
     tie.close
     (tie.spec
     shared-slice-read-b

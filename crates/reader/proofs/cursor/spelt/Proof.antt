@@ -21,5 +21,5 @@ returns c = let w = rw c.before.p.given.1 at c.before.before.before.spell.ensure
 returns-2 : tie.Need-returns-2
 returns-2 c = let w = rw c.before.end.given.1 at c.before.before.before.spell.ensures in (w.0, w.1, refl)
 
-pub spelt-spec : {M : Type 1} → statement M
-spelt-spec = tie.close (tie.spec spell-requires enum-known-p enum-known-end returns returns-2)
+pub spelt_spec : {M : Type 1} → statement M
+spelt_spec = tie.close (tie.spec spell-requires enum-known-p enum-known-end returns returns-2)

@@ -1,4 +1,4 @@
-use Rattle.reader.proofs.CursorHeadLaws.{string-whole, string-refused}
+use Rattle.reader.proofs.CursorHeadLaws.{string_whole, string_refused}
 use borrow.Author.Rules.{rules}
 use Rattle.reader.proofs.cursor.string.Statement.{statement}
 use Rattle.reader.proofs.cursor.string.Tie as tie
@@ -23,7 +23,7 @@ returns c =
     let a = c.before.before.before.before.before.before.before.before.before.args in
     let pre = c.before.before.before.before.before.before.before.before.before.requires in
     let string = c.before.before.before.before.before.string in
-    string-refused a.text.now a.at a.start a.store.now pre.0 c.before.why.given.0.0
+    string_refused a.text.now a.at a.start a.store.now pre.0 c.before.why.given.0.0
     (rw c.before.why.given.1 at string.ensures)
 
 same-length-2 : tie.Need-same-length-2
@@ -34,11 +34,11 @@ returns-2 c =
     let a = c.before.before.before.before.before.before.before.before.before.args in
     let pre = c.before.before.before.before.before.before.before.before.before.requires in
     let string = c.before.before.before.before.before.string in
-    string-whole a.text.now a.at a.start a.store.now pre.0 _ c.before.n.given.0.1.0
+    string_whole a.text.now a.at a.start a.store.now pre.0 _ c.before.n.given.0.1.0
     c.before.n.given.0.0 (rw c.before.n.given.1 at string.ensures)
 
-pub string-spec : {M : Type 1} → statement M
-string-spec =
+pub string_spec : {M : Type 1} → statement M
+string_spec =
     tie.close
     (tie.spec
     string-requires

@@ -1,5 +1,5 @@
 use native.Mathlib.Omega.{arith}
-use Rattle.reader.proofs.JoinedLaws.{alone-end, alone, plus-breaks, plus-next, join-breaks}
+use Rattle.reader.proofs.JoinedLaws.{alone_end, alone, plus_breaks, plus_next, join_breaks}
 use borrow.Author.Rules.{rules}
 use Rattle.reader.proofs.joined.after_part.Statement.{statement}
 use Rattle.reader.proofs.joined.after_part.Tie as tie
@@ -21,7 +21,7 @@ returns c =
     let a = c.before.before.before.before.before.before.args in
     let pass = c.before.before.before.before.pass in
     let at' = c.before.before.at in
-    alone-end a.text.now a.from at'.given.0.0 (rw at'.given.1 at pass.ensures) c.if1.true
+    alone_end a.text.now a.from at'.given.0.0 (rw at'.given.1 at pass.ensures) c.if1.true
 
 shared-slice-read-if2 : tie.Need-shared-slice-read-if2
 shared-slice-read-if2 c = search rules
@@ -48,7 +48,7 @@ enum-known-next c = search rules
 returns-3 : tie.Need-returns-3
 returns-3 c =
     let a = c.before.before.before.before.before.args in
-    join-breaks a.text.now a.from c.before.p.given.0.0
+    join_breaks a.text.now a.from c.before.p.given.0.0
     (rw c.before.p.given.1 at c.before.before.before.pass.ensures)
 
 returns-4 : tie.Need-returns-4
@@ -58,7 +58,7 @@ returns-4 c =
     let at' = c.before.before.before.before.before.before.before.before.at in
     let if1 = c.before.before.before.before.before.before.if1 in
     let if2 = c.before.before.before.before.if2 in
-    plus-breaks a.text.now a.from at'.given.0.0 (rw at'.given.1 at pass.ensures) if1.false if2.false
+    plus_breaks a.text.now a.from at'.given.0.0 (rw at'.given.1 at pass.ensures) if1.false if2.false
     c.before.p2.given.0.0 (rw c.before.p2.given.1 at c.before.before.before.pass2.ensures)
 
 returns-5 : tie.Need-returns-5
@@ -68,11 +68,11 @@ returns-5 c =
     let at' = c.before.before.before.before.before.before.before.before.at in
     let if1 = c.before.before.before.before.before.before.if1 in
     let if2 = c.before.before.before.before.if2 in
-    plus-next a.text.now a.from at'.given.0.0 (rw at'.given.1 at pass.ensures) if1.false if2.false
+    plus_next a.text.now a.from at'.given.0.0 (rw at'.given.1 at pass.ensures) if1.false if2.false
     c.before.next.given.0.0 (rw c.before.next.given.1 at c.before.before.before.pass2.ensures)
 
-pub after-part-spec : {M : Type 1} → statement M
-after-part-spec =
+pub after_part_spec : {M : Type 1} → statement M
+after_part_spec =
     tie.close
     (tie.spec
     pass-requires

@@ -1,5 +1,5 @@
-use Rattle.reader.specs.Between.Joined.{in-part}
-use Rattle.reader.proofs.JoinedLaws.{part-linked}
+use Rattle.reader.specs.Between.Joined.{in_part}
+use Rattle.reader.proofs.JoinedLaws.{part_linked}
 use borrow.Author.Rules.{rules}
 use Rattle.reader.proofs.joined.binary_part.Statement.{statement}
 use Rattle.reader.proofs.joined.binary_part.Tie as tie
@@ -28,7 +28,7 @@ same_length : tie.Need-same-length
 same_length c = search rules
 
 returns : tie.Need-returns
-returns c = in-part (rw c.before.p.given.1 at c.before.before.before.before.before.read-part.ensures)
+returns c = in_part (rw c.before.p.given.1 at c.before.before.before.before.before.read-part.ensures)
 
 same-length-2 : tie.Need-same-length-2
 same-length-2 c = search rules
@@ -36,10 +36,10 @@ same-length-2 c = search rules
 returns-2 : tie.Need-returns-2
 returns-2 c =
     let w = rw c.before.before.before.bytes.given.1 at c.before.before.before.before.before.before.before.read-part.ensures in
-    rw c.link-of.ensures (part-linked w c.before.after-part.result c.before.after-part.ensures)
+    rw c.link-of.ensures (part_linked w c.before.after_part.result c.before.after_part.ensures)
 
-pub binary-part-spec : {M : Type 1} → statement M
-binary-part-spec =
+pub binary_part_spec : {M : Type 1} → statement M
+binary_part_spec =
     tie.close
     (tie.spec
     read-part-requires

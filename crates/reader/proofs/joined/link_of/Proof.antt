@@ -22,8 +22,8 @@ returns-2 c = rw c.before.follows2.given.1
 returns-3 : tie.Need-returns-3
 returns-3 c = rw c.before.follows3.given.1
 
-pub link-of-spec : {M : Type 1} → statement M
-link-of-spec =
+pub link_of_spec : {M : Type 1} → statement M
+link_of_spec =
     tie.close
     (tie.spec
     enum-known-follows

@@ -3,7 +3,7 @@ use Prim.Native.Nat.{◌+◌}
 use Rattle.meaning.specs.declared.Refusal.TheVariants.{NotGrammar, BadEscape}
 use Rattle.machine.specs.Strings
 use Rattle.items.specs.Between.PlacedPart.{Ended}
-use Rattle.reader.proofs.JoinedLaws.{part_length, part-refused, part-closed, part-linked}
+use Rattle.reader.proofs.JoinedLaws.{part_length, part_refused, part_closed, part_linked}
 use borrow.Author.Rules.{rules}
 use Rattle.reader.proofs.joined.string_part.Statement.{statement}
 use Rattle.reader.proofs.joined.string_part.Tie as tie
@@ -55,7 +55,7 @@ closed : (c : tie.After-known-told3) → (
 closed c =
     let a = c.before.before.before.before.before.before.before.before.before.before.args in
     let w = rw c.before.bytes.given.1 at c.before.before.before.before.before.read-part.ensures in
-    part-closed a.text.now a.at a.start a.store.now (omega arith) _ _ _ w
+    part_closed a.text.now a.at a.start a.store.now (omega arith) _ _ _ w
 
 add-after-part : tie.Need-overflow-add-after-part
 add-after-part c = omega (arith, (closed c).within)
@@ -73,7 +73,7 @@ returns : tie.Need-returns
 returns c =
     let a = c.before.before.before.before.before.before.before.before.before.before.args in
     let w = rw c.before.p.given.1 at c.before.before.before.before.before.read-part.ensures in
-    part-refused a.text.now a.at a.start a.store.now (omega arith) _ (λ o. NotGrammar (o + c.before.p.given.0.0)) w.0
+    part_refused a.text.now a.at a.start a.store.now (omega arith) _ (λ o. NotGrammar (o + c.before.p.given.0.0)) w.0
 
 same-length-2 : tie.Need-same-length-2
 same-length-2 c = search rules
@@ -82,16 +82,16 @@ returns-2 : tie.Need-returns-2
 returns-2 c =
     let a = c.before.before.before.before.before.before.before.before.before.before.args in
     let w = rw c.before.p2.given.1 at c.before.before.before.before.before.read-part.ensures in
-    part-refused a.text.now a.at a.start a.store.now (omega arith) _ (λ o. BadEscape (o + c.before.p2.given.0.0)) w.0
+    part_refused a.text.now a.at a.start a.store.now (omega arith) _ (λ o. BadEscape (o + c.before.p2.given.0.0)) w.0
 
 same-length-3 : tie.Need-same-length-3
 same-length-3 c = search rules
 
 returns-3 : tie.Need-returns-3
-returns-3 c = rw c.link-of.ensures (part-linked (closed c.before.before) c.before.after-part.result c.before.after-part.ensures)
+returns-3 c = rw c.link-of.ensures (part_linked (closed c.before.before) c.before.after_part.result c.before.after_part.ensures)
 
-pub string-part-spec : {M : Type 1} → statement M
-string-part-spec =
+pub string_part_spec : {M : Type 1} → statement M
+string_part_spec =
     tie.close
     (tie.spec
     sub-read-part

@@ -1,6 +1,6 @@
 use native.Mathlib.Omega.{arith}
 use lib.ListN.{get_or}
-use Rattle.reader.proofs.KeyLaws.{key-over, key-string, key-none, key-named, neither-letter, figure-letter}
+use Rattle.reader.proofs.KeyLaws.{key_over, key_string, key_none, key_named, neither_letter, figure_letter}
 use borrow.Author.Rules.{rules}
 use Rattle.reader.proofs.key.key.Statement.{statement}
 use Rattle.reader.proofs.key.key.Tie as tie
@@ -14,7 +14,7 @@ use Rattle.items.proofs.store.copy.Reads as copy-reads
 returns : tie.Need-returns
 returns c =
     let a = c.before.before.before.args in
-    key-over a.text.now a.at a.start a.store.now c.if1.true
+    key_over a.text.now a.at a.start a.store.now c.if1.true
 
 shared-slice-read-b : tie.Need-shared-slice-read-b
 shared-slice-read-b c = search rules
@@ -31,7 +31,7 @@ returns-2 c =
     let if1 = c.before.before.before.before.before.before.if1 in
     let if2 = c.before.before.before.before.if2 in
     let string = c.before.before.string in
-    key-string a.text.now a.at a.start a.store.now if1.false (rw if2.true) _ string.result string.ensures
+    key_string a.text.now a.at a.start a.store.now if1.false (rw if2.true) _ string.result string.ensures
 
 string-requires-2 : tie.Need-string-requires-2
 string-requires-2 c κs = search rules
@@ -45,7 +45,7 @@ returns-3 c =
     let if1 = c.before.before.before.before.before.before.before.if1 in
     let if3 = c.before.before.before.before.if3 in
     let string2 = c.before.before.string2 in
-    key-string a.text.now a.at a.start a.store.now if1.false (rw if3.true) _ string2.result string2.ensures
+    key_string a.text.now a.at a.start a.store.now if1.false (rw if3.true) _ string2.result string2.ensures
 
 sort-of-requires : tie.Need-sort-of-requires
 sort-of-requires c κs = search rules
@@ -77,9 +77,9 @@ returns-4 c =
     let pre = c.before.before.before.before.before.before.before.before.before.requires in
     let if1 = c.before.before.before.before.before.before.if1 in
     let if2 = c.before.before.before.before.if2 in
-    key-none a.text.now a.at a.start a.store.now if1.false pre.2 if2.false
+    key_none a.text.now a.at a.start a.store.now if1.false pre.2 if2.false
     c.before.before.before.if3.false
-    (neither-letter (get_or a.text.now a.at 0) (rw c.enum_told.given.1 at c.before.before.sort-of.ensures))
+    (neither_letter (get_or a.text.now a.at 0) (rw c.enum_told.given.1 at c.before.before.sort-of.ensures))
 
 returns-5 : tie.Need-returns-5
 returns-5 c =
@@ -87,9 +87,9 @@ returns-5 c =
     let pre = c.before.before.before.before.before.before.before.before.before.requires in
     let if1 = c.before.before.before.before.before.before.if1 in
     let if2 = c.before.before.before.before.if2 in
-    key-none a.text.now a.at a.start a.store.now if1.false pre.2 if2.false
+    key_none a.text.now a.at a.start a.store.now if1.false pre.2 if2.false
     c.before.before.before.if3.false
-    (figure-letter (get_or a.text.now a.at 0) (rw c.enum-told2.given.1 at c.before.before.sort-of.ensures))
+    (figure_letter (get_or a.text.now a.at 0) (rw c.enum-told2.given.1 at c.before.before.sort-of.ensures))
 
 same-length-3 : tie.Need-same-length-3
 same-length-3 c = search rules
@@ -101,9 +101,9 @@ returns-6 c =
     let if1 = c.before.before.before.before.before.before.before.before.before.before.before.if1 in
     let sort-of = c.before.before.before.before.before.before.before.sort-of in
     let enum-told3 = c.before.before.before.before.before.enum-told3 in
-    let name-end = c.before.before.before.before.name-end in
-    key-named a.text.now a.at a.start a.store.now if1.false
-    (rw enum-told3.given.1 at sort-of.ensures) name-end.result name-end.ensures _
+    let name_end = c.before.before.before.before.name_end in
+    key_named a.text.now a.at a.start a.store.now if1.false
+    (rw enum-told3.given.1 at sort-of.ensures) name_end.result name_end.ensures _
     c.before.before.copy.ensures
 
 pub key_spec : {M : Type 1} → statement M

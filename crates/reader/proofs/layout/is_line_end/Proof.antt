@@ -1,5 +1,5 @@
 use Rattle.rules.specs.Between.Tests.{holds, fails}
-use Rattle.reader.proofs.ScanningClassLaws.{not-line-end}
+use Rattle.reader.proofs.ScanningClassLaws.{not_line_end}
 use Rattle.reader.proofs.layout.is_line_end.Statement.{statement}
 use Rattle.reader.proofs.layout.is_line_end.Tie as tie
 use Rattle.reader.proofs.layout.is_line_end.Reads as reads
@@ -12,7 +12,7 @@ returns-2 : tie.Need-returns-2
 returns-2 c = holds (rw c.if2.true)
 
 returns-3 : tie.Need-returns-3
-returns-3 c = fails (not-line-end c.before.before.args.b c.before.if1.false c.if2.false)
+returns-3 c = fails (not_line_end c.before.before.args.b c.before.if1.false c.if2.false)
 
-pub is-line-end-spec : {M : Type 1} → statement M
-is-line-end-spec = tie.close (tie.spec returns returns-2 returns-3)
+pub is_line_end_spec : {M : Type 1} → statement M
+is_line_end_spec = tie.close (tie.spec returns returns-2 returns-3)

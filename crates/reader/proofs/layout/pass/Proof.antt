@@ -1,8 +1,8 @@
 -- No layout stands there, or all of it is passed. Assumes nothing.
 use native.Mathlib.Omega.{arith}
 use lib.ListN.{get_or}
-use Rattle.reader.proofs.LayoutLaws.{none_yet, blanks-stop, laying, layout-stop}
-use Rattle.reader.proofs.ScanningClassLaws.{not-blank, not-hash, not-slash}
+use Rattle.reader.proofs.LayoutLaws.{none_yet, blanks_stop, laying, layout_stop}
+use Rattle.reader.proofs.ScanningClassLaws.{not_blank, not_hash, not_slash}
 use borrow.Author.Rules.{rules}
 use Rattle.reader.proofs.layout.pass.Statement.{statement}
 use Rattle.reader.proofs.layout.pass.Tie as tie
@@ -38,11 +38,11 @@ returns-5 : tie.Need-returns-5
 returns-5 c =
     let a = c.before.before.before.before.before.before.args in
     let pre = c.before.before.before.before.before.before.requires in
-    layout-stop
+    layout_stop
     (laying
-    (blanks-stop (none_yet a.from pre)
-    (not-blank (get_or a.text.now a.from 0) (omega arith) (omega arith) (omega arith) (omega arith))))
-    (not-hash _ c.before.if3.false) (not-slash _ c.if4.false)
+    (blanks_stop (none_yet a.from pre)
+    (not_blank (get_or a.text.now a.from 0) (omega arith) (omega arith) (omega arith) (omega arith))))
+    (not_hash _ c.before.if3.false) (not_slash _ c.if4.false)
 
 pub pass_spec : {M : Type 1} → statement M
 pass_spec =

@@ -23,5 +23,5 @@ returns-2 : tie.Need-returns-2
 returns-2 c = over_no c.before.before.before.before.args.text.now c.before.before.before.before.args.from _ _
     (rw c.enum-told2.given.1 at c.before.before.next.ensures)
 
-pub over-spec : {M : Type 1} → statement M
-over-spec = tie.close (tie.spec next-requires enum_told enum-told-2 returns returns-2)
+pub over_spec : {M : Type 1} → statement M
+over_spec = tie.close (tie.spec next-requires enum_told enum-told-2 returns returns-2)

@@ -1,7 +1,7 @@
 use mathlib.Core.Logic.{⊎_elim}
 use native.Mathlib.Omega.{arith}
-use Rattle.reader.proofs.RepeatLaws.{Seeking, seeks-sane, seeking-begins, seeking-stands, seeking-before, seeking-inside, seeking-finds, seeking-falls}
-use Rattle.reader.proofs.RepeatLaws.{seeking-past, seeking-past-tag, seeking-ends}
+use Rattle.reader.proofs.RepeatLaws.{Seeking, seeks_sane, seeking_begins, seeking_stands, seeking_before, seeking_inside, seeking_finds, seeking_falls}
+use Rattle.reader.proofs.RepeatLaws.{seeking_past, seeking_past_tag, seeking_ends}
 use Rattle.reader.proofs.repeat.repeated.Statement.{statement}
 use Rattle.reader.proofs.repeat.repeated.Tie as tie
 use Rattle.reader.proofs.repeat.repeated.Reads as reads
@@ -12,36 +12,36 @@ use Rattle.once.proofs.place_of.Reads as place-of-reads
 use Rattle.once.proofs.tag_of.Reads as tag-of-reads
 use Rattle.reader.proofs.repeat.same_key.Reads as same-key-reads
 
-abbrev invariant-loop : tie.invariant-loop
-invariant-loop text at tag seen i₀ i = Seeking text seen at tag i
+abbrev invariant_loop : tie.invariant-loop
+invariant_loop text at tag seen i₀ i = Seeking text seen at tag i
 
-abbrev decreases-loop : tie.decreases-loop
-decreases-loop text at tag seen i₀ i = i
+abbrev decreases_loop : tie.decreases-loop
+decreases_loop text at tag seen i₀ i = i
 
-newest-requires : tie.Need-newest-requires invariant-loop decreases-loop
-newest-requires c κs = seeks-sane c.before.before.args.text.now c.before.before.args.seen.now c.before.before.args.at
+newest-requires : tie.Need-newest-requires invariant_loop decreases_loop
+newest-requires c κs = seeks_sane c.before.before.args.text.now c.before.before.args.seen.now c.before.before.args.at
     c.before.before.args.tag c.before.before.requires
 
-loop-holds : tie.Need-loop-init invariant-loop decreases-loop
-loop-holds c = seeking-begins c.before.before.before.args.text.now c.before.before.before.args.seen.now c.before.before.before.args.at
+loop-holds : tie.Need-loop-init invariant_loop decreases_loop
+loop-holds c = seeking_begins c.before.before.before.args.text.now c.before.before.before.args.seen.now c.before.before.before.args.at
     c.before.before.before.args.tag c.before.before.before.requires _ c.newest.ensures
 
-tag-of-requires : tie.Need-tag-of-requires invariant-loop decreases-loop
-tag-of-requires c κs = seeking-stands c.before.before.before.before.before.args.text.now c.before.before.before.before.before.args.seen.now
+tag-of-requires : tie.Need-tag-of-requires invariant_loop decreases_loop
+tag-of-requires c κs = seeking_stands c.before.before.before.before.before.args.text.now c.before.before.before.before.before.args.seen.now
     c.before.before.before.before.before.args.at c.before.before.before.before.before.args.tag
     c.before.before.before.before.before.requires c.before.loop.i c.before.loop.invariant c.loop-test.true
 
-place-of-requires : tie.Need-place-of-requires invariant-loop decreases-loop
-place-of-requires c κs = seeking-stands c.before.before.before.before.before.before.before.args.text.now
+place-of-requires : tie.Need-place-of-requires invariant_loop decreases_loop
+place-of-requires c κs = seeking_stands c.before.before.before.before.before.before.before.args.text.now
     c.before.before.before.before.before.before.before.args.seen.now c.before.before.before.before.before.before.before.args.at
     c.before.before.before.before.before.before.before.args.tag c.before.before.before.before.before.before.before.requires
     c.before.before.before.loop.i c.before.before.before.loop.invariant c.before.before.loop-test.true
 
-cast-place : tie.Need-overflow-cast-place invariant-loop decreases-loop
+cast-place : tie.Need-overflow-cast-place invariant_loop decreases_loop
 cast-place c = omega (
   arith,
   c.before.before.before.before.before.before.before.before.ranges.at,
-  seeking-before c.before.before.before.before.before.before.before.before.args.text.now
+  seeking_before c.before.before.before.before.before.before.before.before.args.text.now
       c.before.before.before.before.before.before.before.before.args.seen.now
       c.before.before.before.before.before.before.before.before.args.at
       c.before.before.before.before.before.before.before.before.args.tag
@@ -49,15 +49,15 @@ cast-place c = omega (
       c.before.before.before.before.loop.invariant c.before.before.before.loop-test.true _ c.place_of.ensures,
 )
 
-same-key-requires : tie.Need-same-key-requires invariant-loop decreases-loop
-same-key-requires c κs = seeking-inside c.before.before.before.before.before.before.before.before.args.text.now
+same-key-requires : tie.Need-same-key-requires invariant_loop decreases_loop
+same-key-requires c κs = seeking_inside c.before.before.before.before.before.before.before.before.args.text.now
     c.before.before.before.before.before.before.before.before.args.seen.now
     c.before.before.before.before.before.before.before.before.args.at c.before.before.before.before.before.before.before.before.args.tag
     c.before.before.before.before.before.before.before.before.requires c.before.before.before.before.loop.i
     c.before.before.before.before.loop.invariant c.before.before.before.loop-test.true _ c.place_of.ensures
 
-returns : tie.Need-returns invariant-loop decreases-loop
-returns c = seeking-finds c.before.before.before.before.before.before.before.before.before.before.args.text.now
+returns : tie.Need-returns invariant_loop decreases_loop
+returns c = seeking_finds c.before.before.before.before.before.before.before.before.before.before.args.text.now
     c.before.before.before.before.before.before.before.before.before.before.args.seen.now
     c.before.before.before.before.before.before.before.before.before.before.args.at
     c.before.before.before.before.before.before.before.before.before.before.args.tag
@@ -65,28 +65,28 @@ returns c = seeking-finds c.before.before.before.before.before.before.before.bef
     c.before.before.before.before.before.before.loop.invariant c.before.before.before.before.before.loop-test.true _
     c.before.before.place_of.ensures _ c.before.same_key.ensures c.if2.true
 
-earlier-requires : tie.Need-earlier-requires invariant-loop decreases-loop
-earlier-requires c κs = seeking-stands c.before.before.before.before.before.before.before.args.text.now
+earlier-requires : tie.Need-earlier-requires invariant_loop decreases_loop
+earlier-requires c κs = seeking_stands c.before.before.before.before.before.before.before.args.text.now
     c.before.before.before.before.before.before.before.args.seen.now c.before.before.before.before.before.before.before.args.at
     c.before.before.before.before.before.before.before.args.tag c.before.before.before.before.before.before.before.requires
     c.before.before.before.loop.i c.before.before.before.loop.invariant c.before.before.loop-test.true
 
-loop-less : tie.Need-loop-smaller invariant-loop decreases-loop
-loop-less c = seeking-falls c.before.before.before.before.before.before.before.before.args.text.now
+loop-less : tie.Need-loop-smaller invariant_loop decreases_loop
+loop-less c = seeking_falls c.before.before.before.before.before.before.before.before.args.text.now
     c.before.before.before.before.before.before.before.before.args.seen.now
     c.before.before.before.before.before.before.before.before.args.at c.before.before.before.before.before.before.before.before.args.tag
     c.before.before.before.before.before.before.before.before.requires c.before.before.before.before.loop.i
     c.before.before.before.before.loop.invariant c.before.before.before.loop-test.true _ c.earlier.ensures
 
-loop-again : tie.Need-loop-preserved invariant-loop decreases-loop
+loop-again : tie.Need-loop-preserved invariant_loop decreases_loop
 loop-again c = ⊎_elim
-    (λ y. seeking-past c.before.before.before.before.before.before.before.before.args.text.now
+    (λ y. seeking_past c.before.before.before.before.before.before.before.before.args.text.now
     c.before.before.before.before.before.before.before.before.args.seen.now
     c.before.before.before.before.before.before.before.before.args.at
     c.before.before.before.before.before.before.before.before.args.tag c.before.before.before.before.before.before.before.before.requires
     c.before.before.before.before.loop.i c.before.before.before.before.loop.invariant c.before.before.before.loop-test.true _ _ _
     y.1.ensures y.2.ensures y.3.left c.earlier.ensures)
-    (λ y. seeking-past-tag c.before.before.before.before.before.before.before.before.args.text.now
+    (λ y. seeking_past_tag c.before.before.before.before.before.before.before.before.args.text.now
     c.before.before.before.before.before.before.before.before.args.seen.now
     c.before.before.before.before.before.before.before.before.args.at
     c.before.before.before.before.before.before.before.before.args.tag c.before.before.before.before.before.before.before.before.requires
@@ -94,17 +94,17 @@ loop-again c = ⊎_elim
     c.before.before.tag_of.ensures y.left c.earlier.ensures)
     c.before.if1.branch
 
-returns-2 : tie.Need-returns-2 invariant-loop decreases-loop
-returns-2 c = seeking-ends c.before.before.before.before.before.args.text.now c.before.before.before.before.before.args.seen.now
+returns-2 : tie.Need-returns-2 invariant_loop decreases_loop
+returns-2 c = seeking_ends c.before.before.before.before.before.args.text.now c.before.before.before.before.before.args.seen.now
     c.before.before.before.before.before.args.at c.before.before.before.before.before.args.tag
     c.before.before.before.before.before.requires c.before.loop.i c.before.loop.invariant c.loop-test.false
 
-pub repeated-spec : {M : Type 1} → statement M
-repeated-spec =
+pub repeated_spec : {M : Type 1} → statement M
+repeated_spec =
     tie.close
     (tie.spec
-    invariant-loop
-    decreases-loop
+    invariant_loop
+    decreases_loop
     newest-requires
     loop-holds
     tag-of-requires

@@ -1,5 +1,5 @@
 use native.Mathlib.Omega.{arith}
-use Rattle.reader.proofs.SpellingLaws.{due-last, due-more}
+use Rattle.reader.proofs.SpellingLaws.{due_last, due_more}
 use borrow.Author.Rules.{rules}
 use Rattle.reader.proofs.spelling.due.Statement.{statement}
 use Rattle.reader.proofs.spelling.due.Tie as tie
@@ -11,7 +11,7 @@ octet-requires : tie.Need-octet-requires
 octet-requires c κs = search rules
 
 returns : tie.Need-returns
-returns c = λ text l. due-last text c.before.before.args.at c.before.before.args.character c.before.before.args.left
+returns c = λ text l. due_last text c.before.before.args.at c.before.before.args.character c.before.before.args.left
     c.before.before.args.quote l c.before.octet.result c.before.octet.ensures c.before.before.requires.1 c.before.before.requires.2
     c.if1.true
 
@@ -19,9 +19,9 @@ sub-t8 : tie.Need-overflow-sub-t8
 sub-t8 c = search rules
 
 returns-2 : tie.Need-returns-2
-returns-2 c = λ text l. due-more text c.before.before.args.at c.before.before.args.character c.before.before.args.left
+returns-2 c = λ text l. due_more text c.before.before.args.at c.before.before.args.character c.before.before.args.left
     c.before.before.args.quote l c.before.octet.result c.before.octet.ensures c.before.before.requires.1 c.before.before.requires.2
     c.before.before.requires.0 (omega (arith, c.if1.false))
 
-pub due-spec : {M : Type 1} → statement M
-due-spec = tie.close (tie.spec octet-requires returns sub-t8 returns-2)
+pub due_spec : {M : Type 1} → statement M
+due_spec = tie.close (tie.spec octet-requires returns sub-t8 returns-2)

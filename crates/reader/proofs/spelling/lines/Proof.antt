@@ -1,5 +1,5 @@
 use native.Mathlib.Omega.{arith}
-use Rattle.reader.proofs.SpellingLaws.{lines-over, lines-close, lines-byte}
+use Rattle.reader.proofs.SpellingLaws.{lines_over, lines_close, lines_byte}
 use borrow.Author.Rules.{rules}
 use Rattle.reader.proofs.spelling.lines.Statement.{statement}
 use Rattle.reader.proofs.spelling.lines.Tie as tie
@@ -9,7 +9,7 @@ use Rattle.reader.proofs.spelling.after.Reads as after-reads
 use Rattle.reader.proofs.spelling.three.Reads as three-reads
 
 returns : tie.Need-returns
-returns c = lines-over c.before.before.args.text.now c.before.before.args.at c.before.before.args.quote (omega arith) c.if1.true
+returns c = lines_over c.before.before.args.text.now c.before.before.args.at c.before.before.args.quote (omega arith) c.if1.true
 
 three-requires : tie.Need-three-requires
 three-requires c κs = search rules
@@ -22,7 +22,7 @@ after-requires c κs = let w = rw c.if2.true at c.before.three.ensures in w.0
 
 returns-2 : tie.Need-returns-2
 returns-2 c = let w = rw c.before.if2.true at c.before.before.three.ensures in
-    lines-close c.before.before.before.before.before.args.text.now c.before.before.before.before.before.args.at
+    lines_close c.before.before.before.before.before.args.text.now c.before.before.before.before.before.args.at
     c.before.before.before.before.before.args.quote (omega arith) w c.after.result c.after.ensures
 
 shared-slice-read-t9 : tie.Need-shared-slice-read-t9
@@ -33,11 +33,11 @@ add-t4 c = search rules
 
 returns-3 : tie.Need-returns-3
 returns-3 c = let w = rw c.before.if2.false at c.before.before.three.ensures in
-    lines-byte c.before.before.before.before.before.args.text.now c.before.before.before.before.before.args.at
+    lines_byte c.before.before.before.before.before.args.text.now c.before.before.before.before.before.args.at
     c.before.before.before.before.before.args.quote (omega arith) c.before.before.before.if1.false w
 
-pub lines-spec : {M : Type 1} → statement M
-lines-spec =
+pub lines_spec : {M : Type 1} → statement M
+lines_spec =
     tie.close
     (tie.spec
     returns

@@ -1,5 +1,5 @@
 use native.Mathlib.Omega.{arith}
-use Rattle.reader.proofs.SpellingLaws.{quoted-over, quoted-closes, quoted-byte}
+use Rattle.reader.proofs.SpellingLaws.{quoted_over, quoted_closes, quoted_byte}
 use borrow.Author.Rules.{rules}
 use Rattle.reader.proofs.spelling.quoted.Statement.{statement}
 use Rattle.reader.proofs.spelling.quoted.Tie as tie
@@ -9,7 +9,7 @@ use Rattle.reader.proofs.spelling.after.Reads as after-reads
 use Rattle.reader.proofs.spelling.escaped.Reads as escaped-reads
 
 returns : tie.Need-returns
-returns c = quoted-over c.before.before.args.text.now c.before.before.args.at c.before.before.args.quote (omega arith) c.if1.true
+returns c = quoted_over c.before.before.args.text.now c.before.before.args.at c.before.before.args.quote (omega arith) c.if1.true
 
 shared-slice-read-b : tie.Need-shared-slice-read-b
 shared-slice-read-b c = search rules
@@ -27,7 +27,7 @@ after-requires : tie.Need-after-requires
 after-requires c κs = search rules
 
 returns-3 : tie.Need-returns-3
-returns-3 c = quoted-closes c.before.before.before.before.before.before.args.text.now c.before.before.before.before.before.before.args.at
+returns-3 c = quoted_closes c.before.before.before.before.before.before.args.text.now c.before.before.before.before.before.before.args.at
     c.before.before.before.before.before.before.args.quote (omega arith) c.before.before.before.before.if1.false c.before.before.if2.false
     c.before.if3.true c.after.result c.after.ensures
 
@@ -35,11 +35,11 @@ add-t5 : tie.Need-overflow-add-t5
 add-t5 c = search rules
 
 returns-4 : tie.Need-returns-4
-returns-4 c = quoted-byte c.before.before.before.before.before.args.text.now c.before.before.before.before.before.args.at
+returns-4 c = quoted_byte c.before.before.before.before.before.args.text.now c.before.before.before.before.before.args.at
     c.before.before.before.before.before.args.quote (omega arith) c.before.before.before.if1.false c.before.if2.false c.if3.false
 
-pub quoted-spec : {M : Type 1} → statement M
-quoted-spec =
+pub quoted_spec : {M : Type 1} → statement M
+quoted_spec =
     tie.close
     (tie.spec
     returns

@@ -1,6 +1,6 @@
 use borrow.Author.Rules.{rules}
 use native.Mathlib.Omega.{arith}
-use Rattle.reader.proofs.SpellingLaws.{three-by}
+use Rattle.reader.proofs.SpellingLaws.{three_by}
 use Rattle.reader.proofs.spelling.three.Statement.{statement}
 use Rattle.reader.proofs.spelling.three.Tie as tie
 use Rattle.reader.proofs.spelling.three.Reads as reads
@@ -34,12 +34,12 @@ shared-slice-read-result : tie.Need-shared-slice-read-result
 shared-slice-read-result c = search rules
 
 returns-4 : tie.Need-returns-4
-returns-4 c = three-by c.before.before.before.before.before.before.args.text.now c.before.before.before.before.before.before.args.at
+returns-4 c = three_by c.before.before.before.before.before.before.args.text.now c.before.before.before.before.before.before.args.at
     c.before.before.before.before.before.before.args.quote (omega arith) (omega (arith, c.before.before.before.before.before.if1.false))
     c.before.before.before.if2.false c.before.if3.false
 
-pub three-spec : {M : Type 1} → statement M
-three-spec =
+pub three_spec : {M : Type 1} → statement M
+three_spec =
     tie.close
     (tie.spec
     sub-if1

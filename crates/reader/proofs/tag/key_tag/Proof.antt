@@ -29,8 +29,8 @@ name-tag-requires c κs = search rules
 returns-3 : tie.Need-returns-3
 returns-3 c = search rules
 
-pub key-tag-spec : {M : Type 1} → statement M
-key-tag-spec =
+pub key_tag_spec : {M : Type 1} → statement M
+key_tag_spec =
     tie.close
     (tie.spec
     shared-slice-read-b

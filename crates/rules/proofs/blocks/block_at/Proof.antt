@@ -1,7 +1,7 @@
 -- A block of ASCII after a character that has ended has no fault; another is tested byte by byte. Assumes nothing.
 use native.Mathlib.Omega.{arith}
 use Rattle.rules.specs.Between.Beside.{plain, wide, faulty}
-use Rattle.rules.proofs.Opens.{topped, ascii-32, clean-ascii}
+use Rattle.rules.proofs.Opens.{topped, ascii_32, clean_ascii}
 use borrow.Author.Rules.{rules}
 use Rattle.rules.proofs.blocks.block_at.Statement.{statement}
 use Rattle.rules.proofs.blocks.block_at.Tie as tie
@@ -40,9 +40,9 @@ returns c = faulty
 
 returns-2 : tie.Need-returns-2
 returns-2 c =
-    let a = ascii-32 _ _ _ c.before.before.before.before.before.before.before.before.requires
+    let a = ascii_32 _ _ _ c.before.before.before.before.before.before.before.before.requires
     c.before.before.before.before.before.before.greatest.ensures c.before.before.before.before.before.if1.true in
-    plain (clean-ascii _ _ _ c.before.wanted.ensures (omega arith) a)
+    plain (clean_ascii _ _ _ c.before.wanted.ensures (omega arith) a)
     (topped _ _ _ c.before.before.before.before.before.before.greatest.ensures (omega arith)) a
 
 returns-3 : tie.Need-returns-3
@@ -57,8 +57,8 @@ returns-4 c = faulty
 returns-5 : tie.Need-returns-5
 returns-5 c = wide (c.before.faults.ensures (omega arith)) (topped _ _ _ c.before.before.before.before.greatest.ensures (omega arith))
 
-pub block-at-spec : {M : Type 1} → statement M
-block-at-spec =
+pub block_at_spec : {M : Type 1} → statement M
+block_at_spec =
     tie.close
     (tie.spec
     add-greatest

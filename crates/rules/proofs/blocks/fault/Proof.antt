@@ -64,8 +64,8 @@ returns c = λ e.
     (c.before.before.before.before.before.before.equal2.ensures (omega arith))
     (c.before.before.before.before.equal3.ensures (omega arith)) (c.before.before.before.equal4.ensures (omega arith))
 
-pub fault-spec : {M : Type 1} → statement M
-fault-spec =
+pub fault_spec : {M : Type 1} → statement M
+fault_spec =
     tie.close
     (tie.spec
     wanted-requires

@@ -24,5 +24,5 @@ wide-run-requires c κs = (omega arith, c.before.begun.ensures.opened (omega ari
 returns-3 : tie.Need-returns-3
 returns-3 c = search rules
 
-pub passed-spec : {M : Type 1} → statement M
-passed-spec = tie.close (tie.spec returns begun-requires returns-2 wide-run-requires returns-3)
+pub passed_spec : {M : Type 1} → statement M
+passed_spec = tie.close (tie.spec returns begun-requires returns-2 wide-run-requires returns-3)

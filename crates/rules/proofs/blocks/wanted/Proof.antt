@@ -37,8 +37,8 @@ returns-2 c =
       fourth = λ l. refl;
     }
 
-pub wanted-spec : {M : Type 1} → statement M
-wanted-spec =
+pub wanted_spec : {M : Type 1} → statement M
+wanted_spec =
     tie.close
     (tie.spec
     over-requires

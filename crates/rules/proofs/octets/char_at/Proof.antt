@@ -2,8 +2,8 @@ use borrow.Author.Rules.{rules}
 use native.Mathlib.Omega.{arith}
 use lib.Count.{leading_le}
 use mir.Facts.{Fits-le, Fits-lit}
-use Rattle.rules.proofs.Places.{step1, down⁻, no_char, ascii-char}
-use Rattle.rules.proofs.Decided.{by-tails}
+use Rattle.rules.proofs.Places.{step1, down⁻, no_char, ascii_char}
+use Rattle.rules.proofs.Decided.{by_tails}
 use Rattle.rules.proofs.octets.char_at.Statement.{statement}
 use Rattle.rules.proofs.octets.char_at.Tie as tie
 use Rattle.rules.proofs.octets.char_at.Reads as reads
@@ -19,7 +19,7 @@ cast-n : tie.Need-overflow-cast-n
 cast-n c = Fits-le (leading_le 8 _) (Fits-lit tt)
 
 returns : tie.Need-returns
-returns c = ascii-char _ _ (omega arith) (omega (
+returns c = ascii_char _ _ (omega arith) (omega (
   arith,
   down⁻ step1 _ (c.before.shared-slice-known2.given c.before.before.before.args.at).fits
       (omega arith),
@@ -66,7 +66,7 @@ tails-requires c κs = search rules
 
 returns-9 : tie.Need-returns-9
 returns-9 c =
-    by-tails _ _ _ _ (λ z. omega arith) (omega arith)
+    by_tails _ _ _ _ (λ z. omega arith) (omega arith)
     (λ t. record {
       two = omega arith;
       four = omega arith;
@@ -81,8 +81,8 @@ returns-9 c =
     })
     c.tails.ensures
 
-pub char-at-spec : {M : Type 1} → statement M
-char-at-spec =
+pub char_at_spec : {M : Type 1} → statement M
+char_at_spec =
     tie.close
     (tie.spec
     shared-slice-read-a

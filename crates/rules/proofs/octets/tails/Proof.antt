@@ -39,8 +39,8 @@ returns-6 c = broken (λ t. omega (arith, t.fourth (omega arith)))
 returns-7 : tie.Need-returns-7
 returns-7 c = tailed (record { third = λ h. omega arith; fourth = λ h. omega arith })
 
-pub tails-spec : {M : Type 1} → statement M
-tails-spec =
+pub tails_spec : {M : Type 1} → statement M
+tails_spec =
     tie.close
     (tie.spec
     returns

@@ -8,48 +8,48 @@ use borrow.Author.Rules.{rules}
 use Rattle.samples.proofs.spelling.decode.Statement.{statement}
 use Rattle.samples.proofs.spelling.decode.Tie as tie
 
-abbrev invariant-loop : tie.invariant-loop
-invariant-loop s dots out₀ at₀ n₀ out at n = (at ≤ length s) × (n ≤ length out) × (length out ≡ length out₀)
+abbrev invariant_loop : tie.invariant-loop
+invariant_loop s dots out₀ at₀ n₀ out at n = (at ≤ length s) × (n ≤ length out) × (length out ≡ length out₀)
 
-abbrev decreases-loop : tie.decreases-loop
-decreases-loop s dots out₀ at₀ n₀ out at n = length s - at
+abbrev decreases_loop : tie.decreases-loop
+decreases_loop s dots out₀ at₀ n₀ out at n = length s - at
 
-loop-holds : tie.Need-loop-init invariant-loop decreases-loop
+loop-holds : tie.Need-loop-init invariant_loop decreases_loop
 loop-holds c = search rules
 
-same_length : tie.Need-same-length invariant-loop decreases-loop
+same_length : tie.Need-same-length invariant_loop decreases_loop
 same_length c = search rules
 
-returns : tie.Need-returns invariant-loop decreases-loop
+returns : tie.Need-returns invariant_loop decreases_loop
 returns c = prefix_len_of_le c.before.before.loop.n c.before.before.loop.out (omega arith)
 
-take-requires : tie.Need-take-requires invariant-loop decreases-loop
+take-requires : tie.Need-take-requires invariant_loop decreases_loop
 take-requires c κs = search rules
 
-slice-write-out : tie.Need-slice-write-out invariant-loop decreases-loop
+slice-write-out : tie.Need-slice-write-out invariant_loop decreases_loop
 slice-write-out c = search rules
 
-add-n : tie.Need-overflow-add-n invariant-loop decreases-loop
+add-n : tie.Need-overflow-add-n invariant_loop decreases_loop
 add-n c = search rules
 
-loop-less : tie.Need-loop-smaller invariant-loop decreases-loop
+loop-less : tie.Need-loop-smaller invariant_loop decreases_loop
 loop-less c = search rules
 
-loop-again : tie.Need-loop-preserved invariant-loop decreases-loop
+loop-again : tie.Need-loop-preserved invariant_loop decreases_loop
 loop-again c = (c.take.ensures.1, simp length-set (omega arith), simp length-set (omega arith))
 
-same-length-2 : tie.Need-same-length-2 invariant-loop decreases-loop
+same-length-2 : tie.Need-same-length-2 invariant_loop decreases_loop
 same-length-2 c = search rules
 
-returns-2 : tie.Need-returns-2 invariant-loop decreases-loop
+returns-2 : tie.Need-returns-2 invariant_loop decreases_loop
 returns-2 c = prefix_len_of_le c.before.loop.n c.before.loop.out (omega arith)
 
-pub decode-spec : {M : Type 1} → statement M
-decode-spec =
+pub decode_spec : {M : Type 1} → statement M
+decode_spec =
     tie.close
     (tie.spec
-    invariant-loop
-    decreases-loop
+    invariant_loop
+    decreases_loop
     loop-holds
     same_length
     returns

@@ -16,5 +16,5 @@ returns c = prefix_len_of_le (c.before.args.records * 16) c.before.args.tape.now
 returns-2 : tie.Need-returns-2
 returns-2 c = prefix_len_of_le (length c.before.args.tape.now) c.before.args.tape.now (omega arith)
 
-pub filled-spec : {M : Type 1} → statement M
-filled-spec = tie.close (tie.spec mul-result returns returns-2)
+pub filled_spec : {M : Type 1} → statement M
+filled_spec = tie.close (tie.spec mul-result returns returns-2)

@@ -7,39 +7,39 @@ use Rattle.io.proofs.Counting.{prefix_len_of_le}
 use Rattle.samples.proofs.spelling.find.Statement.{statement}
 use Rattle.samples.proofs.spelling.find.Tie as tie
 
-abbrev invariant-loop : tie.invariant-loop
-invariant-loop s from b i₀ i = (from ≤ i) × (i ≤ length s)
+abbrev invariant_loop : tie.invariant-loop
+invariant_loop s from b i₀ i = (from ≤ i) × (i ≤ length s)
 
-abbrev decreases-loop : tie.decreases-loop
-decreases-loop s from b i₀ i = length s - i
+abbrev decreases_loop : tie.decreases-loop
+decreases_loop s from b i₀ i = length s - i
 
-loop-holds : tie.Need-loop-init invariant-loop decreases-loop
+loop-holds : tie.Need-loop-init invariant_loop decreases_loop
 loop-holds c = search rules
 
-shared-slice-read-if1 : tie.Need-shared-slice-read-if1 invariant-loop decreases-loop
+shared-slice-read-if1 : tie.Need-shared-slice-read-if1 invariant_loop decreases_loop
 shared-slice-read-if1 c = search rules
 
-returns : tie.Need-returns invariant-loop decreases-loop
+returns : tie.Need-returns invariant_loop decreases_loop
 returns c = (omega arith, prefix_len_of_le c.before.before.before.loop.i c.before.before.before.before.args.s.now (omega arith))
 
-add-i : tie.Need-overflow-add-i invariant-loop decreases-loop
+add-i : tie.Need-overflow-add-i invariant_loop decreases_loop
 add-i c = search rules
 
-loop-less : tie.Need-loop-smaller invariant-loop decreases-loop
+loop-less : tie.Need-loop-smaller invariant_loop decreases_loop
 loop-less c = search rules
 
-loop-again : tie.Need-loop-preserved invariant-loop decreases-loop
+loop-again : tie.Need-loop-preserved invariant_loop decreases_loop
 loop-again c = search rules
 
-returns-2 : tie.Need-returns-2 invariant-loop decreases-loop
+returns-2 : tie.Need-returns-2 invariant_loop decreases_loop
 returns-2 c = (omega arith, prefix_len_of_le c.before.loop.i c.before.before.args.s.now (omega arith))
 
 pub find_spec : {M : Type 1} → statement M
 find_spec =
     tie.close
     (tie.spec
-    invariant-loop
-    decreases-loop
+    invariant_loop
+    decreases_loop
     loop-holds
     shared-slice-read-if1
     returns

@@ -1,5 +1,5 @@
 -- `fields::good_date`: what the calendar says. Assumes nothing.
-use Rattle.tape.proofs.FieldsRangeLaws.{is-date, is-no-date}
+use Rattle.tape.proofs.FieldsRangeLaws.{is_date_lem, is_no_date}
 use borrow.Author.Rules.{rules}
 use Rattle.tape.proofs.fields.good_date.Statement.{statement}
 use Rattle.tape.proofs.fields.good_date.Tie as tie
@@ -23,13 +23,13 @@ enum-told-2 : tie.Need-enum-told-2
 enum-told-2 c = search rules
 
 returns : tie.Need-returns
-returns c = is-date c.before.before.date.ensures c.enum_told.given.1
+returns c = is_date_lem c.before.before.date.ensures c.enum_told.given.1
 
 returns-2 : tie.Need-returns-2
-returns-2 c = is-no-date c.before.before.date.ensures c.enum-told2.given.1
+returns-2 c = is_no_date c.before.before.date.ensures c.enum-told2.given.1
 
-pub good-date-spec : {M : Type 1} → statement M
-good-date-spec =
+pub good_date_spec : {M : Type 1} → statement M
+good_date_spec =
     tie.close
     (tie.spec
     cast-date

@@ -27,7 +27,7 @@ returns-2 c = rw c.enum_told.given.1 (holds tt)
 returns-3 : tie.Need-returns-3
 returns-3 c = rw c.enum-told2.given.1 (holds tt)
 
-pub good-number-spec : {M : Type 1} → statement M
-good-number-spec =
+pub good_number_spec : {M : Type 1} → statement M
+good_number_spec =
     tie.close
     (tie.spec enum-known-n good-finite-requires enum_told enum-told-2 returns returns-2 returns-3)

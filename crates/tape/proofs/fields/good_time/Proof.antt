@@ -5,9 +5,9 @@ use Prim.Native.Nat.{◌≤◌, ◌<◌}
 use lib.IntN.{nat_abs}
 use mir.Syntax.{w16}
 use mir.ValLaws.{to_z-of_z}
-use Rattle.meaning.specs.Limits.{day, offsetLimit}
+use Rattle.meaning.specs.Limits.{day, offset_limit}
 use Rattle.rules.specs.Between.Tests.{Decides}
-use Rattle.rules.proofs.TestsLaws.{held, decides-as, fails-too, both-test}
+use Rattle.rules.proofs.TestsLaws.{held, decides_as, fails_too, both_test}
 use borrow.Author.Rules.{rules}
 use Rattle.tape.proofs.fields.good_time.Statement.{statement}
 use Rattle.tape.proofs.fields.good_time.Tie as tie
@@ -53,35 +53,35 @@ returns-2 c = rw c.before.before.t2.given.1 c.good-clock.ensures
 
 returns-3 : tie.Need-returns-3
 returns-3 c = let q = held c.before.before.good-clock2.ensures c.before.if1.true in
-    rw c.before.before.before.before.t3.given.1 (decides-as (λ p. (p, q)) (λ p. p.0) c.good-date2.ensures)
+    rw c.before.before.before.before.t3.given.1 (decides_as (λ p. (p, q)) (λ p. p.0) c.good-date2.ensures)
 
 returns-4 : tie.Need-returns-4
-returns-4 c = rw c.before.before.before.t3.given.1 (fails-too (λ p. p.1) c.before.good-clock2.ensures c.if1.false)
+returns-4 c = rw c.before.before.before.t3.given.1 (fails_too (λ p. p.1) c.before.good-clock2.ensures c.if1.false)
 
 -- what is known once the clock, and where that is good the offset, was tested
-clock-and-offset : (c : tie.Joined2)
+clock_and_offset : (c : tie.Joined2)
     → let fields = c.before.before.before.t4.given.0 in
-    Decides ((fields.1.0 < day) × (nat_abs fields.1.1.0 ≤ offsetLimit)) c.if2.if3
-clock-and-offset c =
+    Decides ((fields.1.0 < day) × (nat_abs fields.1.1.0 ≤ offset_limit)) c.if2.if3
+clock_and_offset c =
     let fields = c.before.before.before.t4.given.0 in
-    let both = (fields.1.0 < day) × (nat_abs fields.1.1.0 ≤ offsetLimit) in
+    let both = (fields.1.0 < day) × (nat_abs fields.1.1.0 ≤ offset_limit) in
     let fits = c.before.before.known-told4.given.1.1.0.1 in
     let clock = c.before.good-clock3.ensures in
     ⊎_elim
-    (λ w. subst (Decides both) (sym w.2) (both-test (held clock w.0.taken) (rw (to_z-of_z w16 _ (record { sfits = fits })) at w.1.ensures)))
-    (λ w. subst (Decides both) (sym w.1) (fails-too (λ p. p.0) clock w.0.left))
+    (λ w. subst (Decides both) (sym w.2) (both_test (held clock w.0.taken) (rw (to_z-of_z w16 _ (record { sfits = fits })) at w.1.ensures)))
+    (λ w. subst (Decides both) (sym w.1) (fails_too (λ p. p.0) clock w.0.left))
     c.if2.branch
 
 returns-5 : tie.Need-returns-5
 returns-5 c =
-    let q = held (clock-and-offset c.before.before) c.before.if3.true in
-    rw c.before.before.before.before.before.t4.given.1 (decides-as (λ p. (p, q.0, q.1)) (λ p. p.0) c.good-date3.ensures)
+    let q = held (clock_and_offset c.before.before) c.before.if3.true in
+    rw c.before.before.before.before.before.t4.given.1 (decides_as (λ p. (p, q.0, q.1)) (λ p. p.0) c.good-date3.ensures)
 
 returns-6 : tie.Need-returns-6
-returns-6 c = rw c.before.before.before.before.t4.given.1 (fails-too (λ p. (p.1, p.2)) (clock-and-offset c.before) c.if3.false)
+returns-6 c = rw c.before.before.before.before.t4.given.1 (fails_too (λ p. (p.1, p.2)) (clock_and_offset c.before) c.if3.false)
 
-pub good-time-spec : {M : Type 1} → statement M
-good-time-spec =
+pub good_time_spec : {M : Type 1} → statement M
+good_time_spec =
     tie.close
     (tie.spec
     enum-known-t

@@ -79,8 +79,8 @@ returns-8 c = rw c.before.before.r6.given.1 c.ends.ensures
 returns-9 : tie.Need-returns-9
 returns-9 c = rw c.before.before.r7.given.1 c.ends2.ensures
 
-pub own-fields-spec : {M : Type 1} → statement M
-own-fields-spec =
+pub own_fields_spec : {M : Type 1} → statement M
+own_fields_spec =
     tie.close
     (tie.spec
     enum_told

@@ -2,7 +2,7 @@
 use native.Mathlib.Omega.{arith}
 use Rattle.rules.specs.Between.Tests.{fails}
 use Rattle.rules.proofs.TestsLaws.{held, failed}
-use Rattle.tape.proofs.FieldsRangeLaws.{part_of, is-utf8, is-not-utf8}
+use Rattle.tape.proofs.FieldsRangeLaws.{part_of, is_utf8, is_not_utf8}
 use borrow.Author.Rules.{rules}
 use Rattle.tape.proofs.fields.utf8_inside.Statement.{statement}
 use Rattle.tape.proofs.fields.utf8_inside.Tie as tie
@@ -32,13 +32,13 @@ enum-told-2 : tie.Need-enum-told-2
 enum-told-2 c = search rules
 
 returns : tie.Need-returns
-returns c = is-utf8 _ _ _ _ _ (part_of c.before.before.before.before.before.before.before.args.length
+returns c = is_utf8 _ _ _ _ _ (part_of c.before.before.before.before.before.before.before.args.length
     c.before.before.before.before.before.before.before.args.start c.before.before.before.before.before.before.before.args.store.now)
     c.before.before.utf8.ensures (held c.before.before.before.before.before.inside.ensures c.before.before.before.before.if1.true)
     c.enum_told.given.1
 
 returns-2 : tie.Need-returns-2
-returns-2 c = is-not-utf8 _ _ _ _ _ (part_of c.before.before.before.before.before.before.before.args.length
+returns-2 c = is_not_utf8 _ _ _ _ _ (part_of c.before.before.before.before.before.before.before.args.length
     c.before.before.before.before.before.before.before.args.start c.before.before.before.before.before.before.before.args.store.now)
     c.before.before.utf8.ensures (held c.before.before.before.before.before.inside.ensures c.before.before.before.before.if1.true) _
     c.enum-told2.given.1
@@ -46,8 +46,8 @@ returns-2 c = is-not-utf8 _ _ _ _ _ (part_of c.before.before.before.before.befor
 returns-3 : tie.Need-returns-3
 returns-3 c = fails (λ p. failed c.before.inside.ensures c.if1.false p.0)
 
-pub utf8-inside-spec : {M : Type 1} → statement M
-utf8-inside-spec =
+pub utf8_inside_spec : {M : Type 1} → statement M
+utf8_inside_spec =
     tie.close
     (tie.spec
     inside-requires

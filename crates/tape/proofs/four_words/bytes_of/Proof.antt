@@ -21,5 +21,5 @@ returns-4 : tie.Need-returns-4
 returns-4 c = past _ _ _ c.before.before.before.if1.false (past _ _ _ c.before.before.if2.false
     (past _ _ _ c.before.if3.false c.time-of.ensures))
 
-pub bytes-of-spec : {M : Type 1} → statement M
-bytes-of-spec = tie.close (tie.spec returns returns-2 returns-3 time-of-requires returns-4)
+pub bytes_of_spec : {M : Type 1} → statement M
+bytes_of_spec = tie.close (tie.spec returns returns-2 returns-3 time-of-requires returns-4)

@@ -12,5 +12,5 @@ returns-2 c = simp (eq-eqb _ _ c.if2.true, ne_eqb _ _ c.before.if1.false)
 returns-3 : tie.Need-returns-3
 returns-3 c = simp (ne_eqb _ _ c.if2.false, ne_eqb _ _ c.before.if1.false)
 
-pub container-of-spec : {M : Type 1} → statement M
-container-of-spec = tie.close (tie.spec returns returns-2 returns-3)
+pub container_of_spec : {M : Type 1} → statement M
+container_of_spec = tie.close (tie.spec returns returns-2 returns-3)

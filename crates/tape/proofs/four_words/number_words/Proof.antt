@@ -5,7 +5,7 @@ use mir.Syntax.{w32}
 use mir.Val.{of_z, SFits}
 use mir.ValLaws.{to_z-of_z}
 use Rattle.meaning.specs.Between.Words.{mark_of, low_of, mid_of, high_of}
-use Rattle.tape.proofs.ShapesLaws.{flag_small, written, infinite-mid}
+use Rattle.tape.proofs.ShapesLaws.{flag_small, written, infinite_mid}
 use borrow.Author.Rules.{rules}
 use Rattle.tape.proofs.four_words.number_words.Statement.{statement}
 use Rattle.tape.proofs.four_words.number_words.Tie as tie
@@ -38,27 +38,27 @@ returns : tie.Need-returns
 unfolding mark_of low_of mid_of high_of
 returns c = let f : SFits w32 c.before.before.before.n.given.0.1.1.0 = record { sfits = c.before.before.known-told.given.1.1.0.1 } in
     rw c.before.before.before.n.given.1 (written _ _ tt (record {
-      mark-is = refl;
-      low-is = c.before.flag.ensures;
-      mid-is = c.bits32.ensures ∙ ap (of_z w32) (to_z-of_z w32 _ f);
+      mark_is = refl;
+      low_is = c.before.flag.ensures;
+      mid_is = c.bits32.ensures ∙ ap (of_z w32) (to_z-of_z w32 _ f);
       high_is = refl;
     }))
 
 returns-2 : tie.Need-returns-2
 unfolding mark_of low_of mid_of high_of
-returns-2 c = rw c.enum_told.given.1 (written _ _ tt (record { mark-is = refl; low-is = refl; mid-is = refl; high_is = refl }))
+returns-2 c = rw c.enum_told.given.1 (written _ _ tt (record { mark_is = refl; low_is = refl; mid_is = refl; high_is = refl }))
 
 returns-3 : tie.Need-returns-3
 unfolding mark_of low_of mid_of high_of
 returns-3 c = rw c.before.before.n2.given.1 (written _ _ tt (record {
-  mark-is = refl;
-  low-is = refl;
-  mid-is = infinite-mid c.before.before.n2.given.0.0 _ c.flag2.ensures;
+  mark_is = refl;
+  low_is = refl;
+  mid_is = infinite_mid c.before.before.n2.given.0.0 _ c.flag2.ensures;
   high_is = refl;
 }))
 
-pub number-words-spec : {M : Type 1} → statement M
-number-words-spec =
+pub number_words_spec : {M : Type 1} → statement M
+number_words_spec =
     tie.close
     (tie.spec
     enum-known-n

@@ -1,5 +1,5 @@
 -- `four_words::put_words`: one number after the other. Assumes nothing.
-use Rattle.tape.proofs.PuttingLaws.{words-all}
+use Rattle.tape.proofs.PuttingLaws.{words_all}
 use borrow.Author.Rules.{rules}
 use Rattle.tape.proofs.four_words.put_words.Statement.{statement}
 use Rattle.tape.proofs.four_words.put_words.Tie as tie
@@ -20,11 +20,11 @@ same_length : tie.Need-same-length
 same_length c = search rules
 
 returns : tie.Need-returns
-returns c = words-all c.before.before.before.before.before.before.before.before.before.before.before.before.before.before.before.before.before.args.bytes.now _ _ _ _ _ _ _ _ c.before.before.before.before.before.before.before.before.before.before.before.before.before.before.before.before.before.requires c.before.before.before.before.before.before.before.before.before.before.before.before.before.before.store2.ensures c.before.before.before.before.before.before.before.before.before.before.store22.ensures
+returns c = words_all c.before.before.before.before.before.before.before.before.before.before.before.before.before.before.before.before.before.args.bytes.now _ _ _ _ _ _ _ _ c.before.before.before.before.before.before.before.before.before.before.before.before.before.before.before.before.before.requires c.before.before.before.before.before.before.before.before.before.before.before.before.before.before.store2.ensures c.before.before.before.before.before.before.before.before.before.before.store22.ensures
     c.before.before.before.before.before.before.store4.ensures c.before.before.store8.ensures
 
-pub put-words-spec : {M : Type 1} → statement M
-put-words-spec =
+pub put_words_spec : {M : Type 1} → statement M
+put_words_spec =
     tie.close
     (tie.spec
     store2-requires

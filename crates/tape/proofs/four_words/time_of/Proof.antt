@@ -41,7 +41,7 @@ signed16-requires c κs = search rules
 returns-4 : tie.Need-returns-4
 returns-4 c =
     let small : c.before.before.before.before.before.before.args.w.mid / 65536 < 2 ^ 16 =
-    omega (arith, c.before.before.before.before.before.before.requires.mid-small) in
+    omega (arith, c.before.before.before.before.before.before.requires.mid_small) in
     simp (
       read_back w16 _ _ (record { fits = small }) c.signed16.ensures,
       c.before.date-of3.ensures,
@@ -58,8 +58,8 @@ returns-5 : tie.Need-returns-5
 returns-5 c = past _ _ _ c.before.before.before.before.if1.false (past _ _ _ c.before.before.before.if2.false
     (past _ _ _ c.before.before.if3.false (past _ _ _ c.before.if4.false c.container-of.ensures)))
 
-pub time-of-spec : {M : Type 1} → statement M
-time-of-spec =
+pub time_of_spec : {M : Type 1} → statement M
+time_of_spec =
     tie.close
     (tie.spec
     date-of-requires

@@ -32,8 +32,8 @@ returns c = λ k. record {
   high = c.load8.ensures k;
 }
 
-pub words-at-spec : {M : Type 1} → statement M
-words-at-spec =
+pub words_at_spec : {M : Type 1} → statement M
+words_at_spec =
     tie.close
     (tie.spec
     load2-requires

@@ -59,11 +59,11 @@ two-words-requires-5 c κs = search rules
 
 returns : tie.Need-returns
 unfolding mark_of low_of mid_of high_of
-returns c = rw c.enum_told.given.1 (written _ _ tt (record { mark-is = refl; low-is = refl; mid-is = refl; high_is = refl }))
+returns c = rw c.enum_told.given.1 (written _ _ tt (record { mark_is = refl; low_is = refl; mid_is = refl; high_is = refl }))
 
 returns-2 : tie.Need-returns-2
 unfolding mark_of low_of mid_of high_of
-returns-2 c = rw c.before.before.r.given.1 (written _ _ tt (record { mark-is = refl; low-is = refl; mid-is = c.flag.ensures; high_is = refl }))
+returns-2 c = rw c.before.before.r.given.1 (written _ _ tt (record { mark_is = refl; low_is = refl; mid_is = c.flag.ensures; high_is = refl }))
 
 returns-3 : tie.Need-returns-3
 unfolding mark_of low_of mid_of high_of
@@ -93,8 +93,8 @@ returns-9 : tie.Need-returns-9
 unfolding mark_of low_of mid_of high_of
 returns-9 c = rw c.before.before.r8.given.1 (written_as _ _ tt c.two-words5.ensures)
 
-pub words-of-spec : {M : Type 1} → statement M
-words-of-spec =
+pub words_of_spec : {M : Type 1} → statement M
+words_of_spec =
     tie.close
     (tie.spec
     enum_told

@@ -16,5 +16,5 @@ returns-3 : tie.Need-returns-3
 unfolding ended_of
 returns-3 c = simp (eq-eqb _ _ c.before.if1.false, ne_eqb _ _ c.if2.false)
 
-pub ended-spec : {M : Type 1} → statement M
-ended-spec = tie.close (tie.spec returns returns-2 returns-3)
+pub ended_spec : {M : Type 1} → statement M
+ended_spec = tie.close (tie.spec returns returns-2 returns-3)

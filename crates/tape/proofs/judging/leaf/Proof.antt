@@ -1,6 +1,6 @@
 -- `judging::leaf`: by cases. Assumes nothing.
 use mathlib.Core.Path.{refl}
-use Rattle.tape.specs.Between.Turns.{leafOf}
+use Rattle.tape.specs.Between.Turns.{leaf_of}
 use borrow.Author.Rules.{rules}
 use Rattle.tape.proofs.judging.leaf.Statement.{statement}
 use Rattle.tape.proofs.judging.leaf.Tie as tie
@@ -39,43 +39,43 @@ enum-told-7 : tie.Need-enum-told-7
 enum-told-7 c = search rules
 
 returns : tie.Need-returns
-unfolding leafOf
+unfolding leaf_of
 returns c = rw c.enum_told.given.1 refl
 
 returns-2 : tie.Need-returns-2
-unfolding leafOf
+unfolding leaf_of
 returns-2 c = rw c.enum-told2.given.1 refl
 
 returns-3 : tie.Need-returns-3
-unfolding leafOf
+unfolding leaf_of
 returns-3 c = rw c.enum-told3.given.1 refl
 
 returns-4 : tie.Need-returns-4
-unfolding leafOf
+unfolding leaf_of
 returns-4 c = rw c.before.before.r.given.1 c.pass.ensures
 
 returns-5 : tie.Need-returns-5
-unfolding leafOf
+unfolding leaf_of
 returns-5 c = rw c.before.before.r2.given.1 c.pass2.ensures
 
 returns-6 : tie.Need-returns-6
-unfolding leafOf
+unfolding leaf_of
 returns-6 c = rw c.enum-told4.given.1 refl
 
 returns-7 : tie.Need-returns-7
-unfolding leafOf
+unfolding leaf_of
 returns-7 c = rw c.enum-told5.given.1 refl
 
 returns-8 : tie.Need-returns-8
-unfolding leafOf
+unfolding leaf_of
 returns-8 c = rw c.enum-told6.given.1 refl
 
 returns-9 : tie.Need-returns-9
-unfolding leafOf
+unfolding leaf_of
 returns-9 c = rw c.enum-told7.given.1 refl
 
-pub leaf-spec : {M : Type 1} → statement M
-leaf-spec =
+pub leaf_spec : {M : Type 1} → statement M
+leaf_spec =
     tie.close
     (tie.spec
     enum_told

@@ -24,16 +24,16 @@ good-finite-requires c κs = search rules
 returns-2 : tie.Need-returns-2
 returns-2 c = passes (
   omega (arith, c.before.before.before.before.if1.false),
-  rw (read_back w32 _ _ (record { fits = c.before.before.before.before.before.before.requires.mid-small }) c.before.before.signed32.ensures) at
+  rw (read_back w32 _ _ (record { fits = c.before.before.before.before.before.before.requires.mid_small }) c.before.before.signed32.ensures) at
       (held c.before.good-finite.ensures c.if2.true),
 ) refl
 
 returns-3 : tie.Need-returns-3
 returns-3 c = fails (λ p. absurd (failed c.before.good-finite.ensures c.if2.false
-    (rw (read_back w32 _ _ (record { fits = c.before.before.before.before.before.before.requires.mid-small }) c.before.before.signed32.ensures)
+    (rw (read_back w32 _ _ (record { fits = c.before.before.before.before.before.before.requires.mid_small }) c.before.before.signed32.ensures)
     p.1)))
 
-pub number-spec : {M : Type 1} → statement M
-number-spec =
+pub number_spec : {M : Type 1} → statement M
+number_spec =
     tie.close
     (tie.spec returns cast-signed32 signed32-requires good-finite-requires returns-2 returns-3)

@@ -1,9 +1,9 @@
 -- `judging::text`: the unnamed bytes, the start, then the fields. Assumes nothing.
 use native.Mathlib.Omega.{arith}
-use Rattle.tape.specs.Between.Turns.{passes, fails, passOf}
+use Rattle.tape.specs.Between.Turns.{passes, fails, pass_of}
 use Rattle.rules.proofs.TestsLaws.{held, failed}
 use borrow.Author.Tests.{ne_eqb}
-use Rattle.tape.proofs.TurnsLaws.{pass-here}
+use Rattle.tape.proofs.TurnsLaws.{pass_here}
 use borrow.Author.Rules.{rules}
 use Rattle.tape.proofs.judging.text.Statement.{statement}
 use Rattle.tape.proofs.judging.text.Tie as tie
@@ -12,7 +12,7 @@ returns : tie.Need-returns
 returns c = fails (λ p. absurd (c.if1.true p.0))
 
 returns-2 : tie.Need-returns-2
-unfolding passOf
+unfolding pass_of
 returns-2 c = fails (λ p. simp (ne_eqb _ _ c.if2.true))
 
 utf8-inside-requires : tie.Need-utf8-inside-requires
@@ -28,10 +28,10 @@ add-t8 c = omega (
 
 returns-3 : tie.Need-returns-3
 returns-3 c = passes (c.before.before.before.if1.false, held c.before.utf8-inside.ensures c.if3.true)
-    (pass-here _ _ _ c.before.before.if2.false)
+    (pass_here _ _ _ c.before.before.if2.false)
 
 returns-4 : tie.Need-returns-4
 returns-4 c = fails (λ p. absurd (failed c.before.utf8-inside.ensures c.if3.false p.1))
 
-pub text-spec : {M : Type 1} → statement M
-text-spec = tie.close (tie.spec returns returns-2 utf8-inside-requires add-t8 returns-3 returns-4)
+pub text_spec : {M : Type 1} → statement M
+text_spec = tie.close (tie.spec returns returns-2 utf8-inside-requires add-t8 returns-3 returns-4)

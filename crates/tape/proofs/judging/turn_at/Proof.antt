@@ -1,8 +1,8 @@
 -- `judging::turn_at`: by the mark. Assumes nothing.
 use mathlib.Core.Path.{◌∙◌, sym}
 use native.Mathlib.Omega.{arith}
-use Rattle.tape.proofs.LookingLaws.{loaded-as}
-use Rattle.tape.proofs.TurnsLaws.{past_all, key-turn, no_key, not-due, text-turn, number-turn, array-turn, object-turn, leaf-turn}
+use Rattle.tape.proofs.LookingLaws.{loaded_as}
+use Rattle.tape.proofs.TurnsLaws.{past_all, key_turn, no_key, not_due, text_turn, number_turn, array_turn, object_turn, leaf_turn}
 use borrow.Author.Rules.{rules}
 use Rattle.tape.proofs.judging.turn_at.Statement.{statement}
 use Rattle.tape.proofs.judging.turn_at.Tie as tie
@@ -22,13 +22,13 @@ key-due-requires c κs = search rules
 
 text-requires : tie.Need-text-requires
 text-requires c κs = (
-  loaded-as c.before.before.before.before.before.before.before.args.tape.now _ c.before.before.before.words-at.ensures
+  loaded_as c.before.before.before.before.before.before.before.args.tape.now _ c.before.before.before.words-at.ensures
       (λ j. (c.before.before.before.before.before.before.shared-slice-known.given j).fits),
   c.before.before.before.before.before.before.before.requires,
 )
 
 returns-2 : tie.Need-returns-2
-returns-2 c = key-turn c.before.before.before.before.before.before.before.before.args.tape.now
+returns-2 c = key_turn c.before.before.before.before.before.before.before.before.args.tape.now
     c.before.before.before.before.before.before.before.before.args.store.now
     c.before.before.before.before.before.before.before.before.args.index
     c.before.before.before.before.before.before.before.before.args.rest
@@ -51,14 +51,14 @@ value-due-requires c κs = search rules
 
 text-requires-2 : tie.Need-text-requires-2
 text-requires-2 c κs = (
-  loaded-as c.before.before.before.before.before.before.before.before.args.tape.now _
+  loaded_as c.before.before.before.before.before.before.before.before.args.tape.now _
       c.before.before.before.before.words-at.ensures (λ j. (c.before.before.before.before.before.before.before.shared-slice-known.given
       j).fits),
   c.before.before.before.before.before.before.before.before.requires,
 )
 
 returns-4 : tie.Need-returns-4
-returns-4 c = text-turn c.before.before.before.before.before.before.before.before.before.args.tape.now
+returns-4 c = text_turn c.before.before.before.before.before.before.before.before.before.args.tape.now
     c.before.before.before.before.before.before.before.before.before.args.store.now
     c.before.before.before.before.before.before.before.before.before.args.index
     c.before.before.before.before.before.before.before.before.before.args.rest
@@ -69,11 +69,11 @@ returns-4 c = text-turn c.before.before.before.before.before.before.before.befor
     (sym c.before.before.before.value-due.ensures ∙ c.before.before.if4.true) c.before.if5.true c.text2.ensures
 
 number-requires : tie.Need-number-requires
-number-requires c κs = loaded-as c.before.before.before.before.before.before.before.before.before.args.tape.now _
+number-requires c κs = loaded_as c.before.before.before.before.before.before.before.before.before.args.tape.now _
     c.before.before.before.before.before.words-at.ensures (λ j. (c.before.before.before.before.before.before.before.before.shared-slice-known.given j).fits)
 
 returns-5 : tie.Need-returns-5
-returns-5 c = number-turn c.before.before.before.before.before.before.before.before.before.before.args.tape.now
+returns-5 c = number_turn c.before.before.before.before.before.before.before.before.before.before.args.tape.now
     c.before.before.before.before.before.before.before.before.before.before.args.store.now
     c.before.before.before.before.before.before.before.before.before.before.args.index
     c.before.before.before.before.before.before.before.before.before.before.args.rest
@@ -87,24 +87,24 @@ returns-5 c = number-turn c.before.before.before.before.before.before.before.bef
 mul-container : tie.Need-overflow-mul-container
 mul-container c = omega (
   arith,
-  (loaded-as c.before.before.before.before.before.before.before.before.before.before.args.tape.now _
+  (loaded_as c.before.before.before.before.before.before.before.before.before.before.args.tape.now _
       c.before.before.before.before.before.before.words-at.ensures (λ j.
-      (c.before.before.before.before.before.before.before.before.before.shared-slice-known.given j).fits)).mid-small,
+      (c.before.before.before.before.before.before.before.before.before.shared-slice-known.given j).fits)).mid_small,
 )
 
 add-container : tie.Need-overflow-add-container
 add-container c = omega (
   arith,
-  (loaded-as c.before.before.before.before.before.before.before.before.before.before.args.tape.now _
+  (loaded_as c.before.before.before.before.before.before.before.before.before.before.args.tape.now _
       c.before.before.before.before.before.before.words-at.ensures (λ j.
-      (c.before.before.before.before.before.before.before.before.before.shared-slice-known.given j).fits)).mid-small,
+      (c.before.before.before.before.before.before.before.before.before.shared-slice-known.given j).fits)).mid_small,
 )
 
 container-requires : tie.Need-container-requires
 container-requires c κs = search rules
 
 returns-6 : tie.Need-returns-6
-returns-6 c = array-turn c.before.before.before.before.before.before.before.before.before.before.before.args.tape.now
+returns-6 c = array_turn c.before.before.before.before.before.before.before.before.before.before.before.args.tape.now
     c.before.before.before.before.before.before.before.before.before.before.before.args.store.now
     c.before.before.before.before.before.before.before.before.before.before.before.args.index
     c.before.before.before.before.before.before.before.before.before.before.before.args.rest
@@ -119,32 +119,32 @@ returns-6 c = array-turn c.before.before.before.before.before.before.before.befo
 mul-container-2 : tie.Need-overflow-mul-container-2
 mul-container-2 c = omega (
   arith,
-  (loaded-as c.before.before.before.before.before.before.before.before.before.before.before.args.tape.now _
+  (loaded_as c.before.before.before.before.before.before.before.before.before.before.before.args.tape.now _
       c.before.before.before.before.before.before.before.words-at.ensures
-      (λ j. (c.before.before.before.before.before.before.before.before.before.before.shared-slice-known.given j).fits)).mid-small,
+      (λ j. (c.before.before.before.before.before.before.before.before.before.before.shared-slice-known.given j).fits)).mid_small,
 )
 
 add-container-2 : tie.Need-overflow-add-container-2
 add-container-2 c = omega (
   arith,
-  (loaded-as c.before.before.before.before.before.before.before.before.before.before.before.args.tape.now _
+  (loaded_as c.before.before.before.before.before.before.before.before.before.before.before.args.tape.now _
       c.before.before.before.before.before.before.before.words-at.ensures
-      (λ j. (c.before.before.before.before.before.before.before.before.before.before.shared-slice-known.given j).fits)).mid-small,
+      (λ j. (c.before.before.before.before.before.before.before.before.before.before.shared-slice-known.given j).fits)).mid_small,
 )
 
 add-container-3 : tie.Need-overflow-add-container-3
 add-container-3 c = omega (
   arith,
-  (loaded-as c.before.before.before.before.before.before.before.before.before.before.before.args.tape.now _
+  (loaded_as c.before.before.before.before.before.before.before.before.before.before.before.args.tape.now _
       c.before.before.before.before.before.before.before.words-at.ensures
-      (λ j. (c.before.before.before.before.before.before.before.before.before.before.shared-slice-known.given j).fits)).mid-small,
+      (λ j. (c.before.before.before.before.before.before.before.before.before.before.shared-slice-known.given j).fits)).mid_small,
 )
 
 container-requires-2 : tie.Need-container-requires-2
 container-requires-2 c κs = search rules
 
 returns-7 : tie.Need-returns-7
-returns-7 c = object-turn c.before.before.before.before.before.before.before.before.before.before.before.before.args.tape.now
+returns-7 c = object_turn c.before.before.before.before.before.before.before.before.before.before.before.before.args.tape.now
     c.before.before.before.before.before.before.before.before.before.before.before.before.args.store.now
     c.before.before.before.before.before.before.before.before.before.before.before.before.args.index
     c.before.before.before.before.before.before.before.before.before.before.before.before.args.rest
@@ -160,7 +160,7 @@ any-leaf-requires : tie.Need-any-leaf-requires
 any-leaf-requires c κs = search rules
 
 returns-8 : tie.Need-returns-8
-returns-8 c = leaf-turn c.before.before.before.before.before.before.before.before.before.before.before.before.args.tape.now
+returns-8 c = leaf_turn c.before.before.before.before.before.before.before.before.before.before.before.before.args.tape.now
     c.before.before.before.before.before.before.before.before.before.before.before.before.args.store.now
     c.before.before.before.before.before.before.before.before.before.before.before.before.args.index
     c.before.before.before.before.before.before.before.before.before.before.before.before.args.rest
@@ -173,15 +173,15 @@ returns-8 c = leaf-turn c.before.before.before.before.before.before.before.befor
     c.before.before.before.before.before.before.before.if2.false c.before.before.if7.false c.before.if8.false c.any-leaf.ensures
 
 returns-9 : tie.Need-returns-9
-returns-9 c = not-due c.before.before.before.before.before.before.before.args.tape.now
+returns-9 c = not_due c.before.before.before.before.before.before.before.args.tape.now
     c.before.before.before.before.before.before.before.args.store.now c.before.before.before.before.before.before.before.args.index
     c.before.before.before.before.before.before.before.args.rest c.before.before.before.before.before.before.before.args.at
     c.before.before.before.before.before.before.before.args.depth (λ j.
     (c.before.before.before.before.before.before.shared-slice-known.given j).fits) (omega (arith, c.before.before.before.before.if1.false)) _
     c.before.before.before.words-at.ensures (sym c.before.value-due.ensures ∙ c.if4.false) c.before.before.if2.false
 
-pub turn-at-spec : {M : Type 1} → statement M
-turn-at-spec =
+pub turn_at_spec : {M : Type 1} → statement M
+turn_at_spec =
     tie.close
     (tie.spec
     returns

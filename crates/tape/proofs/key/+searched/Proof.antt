@@ -1,7 +1,7 @@
 -- `key::searched`: window after window, in so many rounds. Assumes nothing.
 use mathlib.Core.Path.{refl}
 use native.Mathlib.Omega.{arith}
-use Rattle.once.proofs.WindowsLaws.{search-ends}
+use Rattle.once.proofs.WindowsLaws.{search_ends}
 use Prim.Native.Nat.{ℕ, ◌<◌}
 use borrow.Fn.Kinds.{In}
 use borrow.Fn.PlainCycle.{Measures, is, falls, and}
@@ -16,29 +16,29 @@ use Rattle.tape.proofs.key.+searched.Tie.{close}
 abbrev μ-searched : Measures 2 searched-kinds.ps ℕ
 μ-searched κs a = a.1.1.1.1.0
 
-abbrev searched-at : ℕ → In 2 searched-kinds.ps
-searched-at t = and 2 searched-kinds.ps (is 2 searched-kinds.ps μ-searched t) searched.Pre
+abbrev searched_at : ℕ → In 2 searched-kinds.ps
+searched_at t = and 2 searched-kinds.ps (is 2 searched-kinds.ps μ-searched t) searched.Pre
 
-abbrev searched-below : ℕ → In 2 searched-kinds.ps
-searched-below t =
+abbrev searched_below : ℕ → In 2 searched-kinds.ps
+searched_below t =
     and 2 searched-kinds.ps (falls 2 searched-kinds.ps ◌<◌ μ-searched t) searched.Pre
 
-abbrev searched-calls : ℕ → searched-lts.Claims
-searched-calls t = (widest-reads.Asked, widest-reads.Learnt, next-window-reads.Asked, next-window-reads.Learnt, searched-below t, searched.Post)
+abbrev searched_calls : ℕ → searched-lts.Claims
+searched_calls t = (widest-reads.Asked, widest-reads.Learnt, next-window-reads.Asked, next-window-reads.Learnt, searched_below t, searched.Post)
 
-searched-returns : (t : ℕ) → searched-lts.Need-returns (searched-calls t) (searched-at t) searched.Post
-searched-returns t c = search-ends c.before.before.before.before.requires.1.1 c.if1.true
+searched-returns : (t : ℕ) → searched-lts.Need-returns (searched_calls t) (searched_at t) searched.Post
+searched-returns t c = search_ends c.before.before.before.before.requires.1.1 c.if1.true
 
-searched-widest-requires : (t : ℕ) → searched-lts.Need-widest-requires (searched-calls t) (searched-at t) searched.Post
+searched-widest-requires : (t : ℕ) → searched-lts.Need-widest-requires (searched_calls t) (searched_at t) searched.Post
 searched-widest-requires t c κs = c.before.before.before.before.before.requires.1
 
-searched-returns-2 : (t : ℕ) → searched-lts.Need-returns-2 (searched-calls t) (searched-at t) searched.Post
+searched-returns-2 : (t : ℕ) → searched-lts.Need-returns-2 (searched_calls t) (searched_at t) searched.Post
 searched-returns-2 t c = c.widest.ensures
 
-searched-slice-aggregate-next-window : (t : ℕ) → searched-lts.Need-slice-aggregate-next-window (searched-calls t) (searched-at t) searched.Post
+searched-slice-aggregate-next-window : (t : ℕ) → searched-lts.Need-slice-aggregate-next-window (searched_calls t) (searched_at t) searched.Post
 searched-slice-aggregate-next-window t c = refl
 
-searched-next-window-requires : (t : ℕ) → searched-lts.Need-next-window-requires (searched-calls t) (searched-at t) searched.Post
+searched-next-window-requires : (t : ℕ) → searched-lts.Need-next-window-requires (searched_calls t) (searched_at t) searched.Post
 searched-next-window-requires t c κs = (
   c.before.before.before.before.before.before.requires.1.0,
   c.before.before.before.before.before.before.requires.1.1,
@@ -47,10 +47,10 @@ searched-next-window-requires t c κs = (
   omega arith,
 )
 
-searched-sub-searched : (t : ℕ) → searched-lts.Need-overflow-sub-searched (searched-calls t) (searched-at t) searched.Post
+searched-sub-searched : (t : ℕ) → searched-lts.Need-overflow-sub-searched (searched_calls t) (searched_at t) searched.Post
 searched-sub-searched t c = omega (arith, c.before.before.before.if2.false)
 
-searched-searched-requires : (t : ℕ) → searched-lts.Need-searched-requires (searched-calls t) (searched-at t) searched.Post
+searched-searched-requires : (t : ℕ) → searched-lts.Need-searched-requires (searched_calls t) (searched_at t) searched.Post
 searched-searched-requires t c κs = (
   omega (
     arith,
@@ -59,16 +59,16 @@ searched-searched-requires t c κs = (
   ),
   (
     c.before.before.before.before.before.before.before.before.requires.1.0,
-    c.before.next-window.ensures.windowed,
+    c.before.next_window.ensures.windowed,
   ),
 )
 
-searched-returns-3 : (t : ℕ) → searched-lts.Need-returns-3 (searched-calls t) (searched-at t) searched.Post
+searched-returns-3 : (t : ℕ) → searched-lts.Need-returns-3 (searched_calls t) (searched_at t) searched.Post
 searched-returns-3 t c = c.searched.ensures
 
-pub +searched-spec : {M : Type 1} → statement M
-+searched-spec = close μ-searched λ t. searched-lts.spec (searched-calls t)
-    (searched-at t)
+pub +searched_spec : {M : Type 1} → statement M
++searched_spec = close μ-searched λ t. searched-lts.spec (searched_calls t)
+    (searched_at t)
     searched.Post
     (searched-returns t)
     (searched-widest-requires t)

@@ -1,7 +1,7 @@
 -- `key::first_repeat`: the first window, and the others where one is left. Assumes nothing.
 use native.Mathlib.Omega.{arith}
-use Rattle.once.proofs.WindowsLaws.{search-ends}
-use Rattle.tape.proofs.KeyWindowLaws.{zeroes-empty, first-window}
+use Rattle.once.proofs.WindowsLaws.{search_ends}
+use Rattle.tape.proofs.KeyWindowLaws.{zeroes_empty, first_window}
 use borrow.Author.Rules.{rules}
 use Rattle.tape.proofs.key.first_repeat.Statement.{statement}
 use Rattle.tape.proofs.key.first_repeat.Tie as tie
@@ -10,7 +10,7 @@ slice-aggregate-pass : tie.Need-slice-aggregate-pass
 slice-aggregate-pass c = search rules
 
 pass-requires : tie.Need-pass-requires
-pass-requires c κs = (c.before.before.before.requires, zeroes-empty _ _ 520 (omega arith) (omega arith))
+pass-requires c κs = (c.before.before.before.requires, zeroes_empty _ _ 520 (omega arith) (omega arith))
 
 slice-aggregate-first-twice : tie.Need-slice-aggregate-first-twice
 slice-aggregate-first-twice c = search rules
@@ -28,21 +28,21 @@ further-requires : tie.Need-further-requires
 further-requires c κs = search rules
 
 returns : tie.Need-returns
-returns c = search-ends (first-window c.before.before.before.before.before.before.before.pass.ensures
+returns c = search_ends (first_window c.before.before.before.before.before.before.before.pass.ensures
     c.before.before.before.before.first-twice.ensures c.before.before.stopped.ensures c.before.further.ensures) c.if1.true
 
 searched-requires : tie.Need-searched-requires
 searched-requires c κs = (
   c.before.before.before.before.before.before.before.before.before.before.before.requires,
-  first-window c.before.before.before.before.before.before.before.pass.ensures c.before.before.before.before.first-twice.ensures
+  first_window c.before.before.before.before.before.before.before.pass.ensures c.before.before.before.before.first-twice.ensures
       c.before.before.stopped.ensures c.before.further.ensures,
 )
 
 returns-2 : tie.Need-returns-2
 returns-2 c = search rules
 
-pub first-repeat-spec : {M : Type 1} → statement M
-first-repeat-spec =
+pub first_repeat_spec : {M : Type 1} → statement M
+first_repeat_spec =
     tie.close
     (tie.spec
     slice-aggregate-pass

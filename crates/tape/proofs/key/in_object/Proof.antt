@@ -1,5 +1,5 @@
 -- `key::in_object`: the last number that stands is odd. Assumes nothing.
-use Rattle.tape.proofs.KeyLaws.{none_open, some-open}
+use Rattle.tape.proofs.KeyLaws.{none_open, some_open}
 use borrow.Author.Rules.{rules}
 use Rattle.tape.proofs.key.in_object.Statement.{statement}
 use Rattle.tape.proofs.key.in_object.Tie as tie
@@ -17,8 +17,8 @@ shared-slice-read-result : tie.Need-shared-slice-read-result
 shared-slice-read-result c = search rules
 
 returns-2 : tie.Need-returns-2
-returns-2 c = some-open _ _ c.before.if1.false
+returns-2 c = some_open _ _ c.before.if1.false
 
-pub in-object-spec : {M : Type 1} → statement M
-in-object-spec =
+pub in_object_spec : {M : Type 1} → statement M
+in_object_spec =
     tie.close (tie.spec returns sub-result mul-result shared-slice-read-result returns-2)

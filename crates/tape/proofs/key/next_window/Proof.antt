@@ -1,5 +1,5 @@
 -- `key::next_window`: an empty table, and a pass. Assumes nothing.
-use Rattle.tape.proofs.KeyWindowLaws.{begun-empty, later-window}
+use Rattle.tape.proofs.KeyWindowLaws.{begun_empty, later_window}
 use borrow.Author.Rules.{rules}
 use Rattle.tape.proofs.key.next_window.Statement.{statement}
 use Rattle.tape.proofs.key.next_window.Tie as tie
@@ -13,7 +13,7 @@ begin-requires c κs = search rules
 pass-requires : tie.Need-pass-requires
 pass-requires c κs = (
   c.before.before.before.before.before.before.before.before.before.requires.0,
-  begun-empty _ _ c.before.before.before.before.before.before.before.before.before.args.seen.now _ _ c.before.before.before.begin.ensures
+  begun_empty _ _ c.before.before.before.before.before.before.before.before.before.args.seen.now _ _ c.before.before.before.begin.ensures
       c.before.before.before.before.before.before.before.before.before.requires.3,
 )
 
@@ -33,11 +33,11 @@ same_length : tie.Need-same-length
 same_length c = search rules
 
 returns : tie.Need-returns
-returns c = later-window _ c.before.before.before.before.before.before.before.before.before.before.before.before.before.before.before.before.before.before.requires.1 c.before.before.before.before.before.before.before.before.before.before.before.before.before.before.before.before.before.before.requires.2 c.before.before.before.before.before.before.before.before.pass.ensures
+returns c = later_window _ c.before.before.before.before.before.before.before.before.before.before.before.before.before.before.before.before.before.before.requires.1 c.before.before.before.before.before.before.before.before.before.before.before.before.before.before.before.before.before.before.requires.2 c.before.before.before.before.before.before.before.before.pass.ensures
     c.before.before.before.before.first-twice.ensures c.before.stopped.ensures c.before.before.before.least.ensures c.further.ensures
 
-pub next-window-spec : {M : Type 1} → statement M
-next-window-spec =
+pub next_window_spec : {M : Type 1} → statement M
+next_window_spec =
     tie.close
     (tie.spec
     cast-begin

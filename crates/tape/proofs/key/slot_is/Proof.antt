@@ -20,9 +20,9 @@ key-is-requires : tie.Need-key-is-requires
 key-is-requires c κs = c.before.before.before.before.before.before.before.requires.1 _ c.place_of.ensures
 
 returns-2 : tie.Need-returns-2
-returns-2 c = told _ c.before.place_of.ensures c.key-is.ensures
+returns-2 c = told _ c.before.place_of.ensures c.key_is.ensures
 
-pub slot-is-spec : {M : Type 1} → statement M
-slot-is-spec =
+pub slot_is_spec : {M : Type 1} → statement M
+slot_is_spec =
     tie.close
     (tie.spec tag-of-requires returns place-of-requires cast-key-is key-is-requires returns-2)

@@ -1,9 +1,9 @@
 -- `key::step`: by the mark. Assumes nothing.
 use native.Mathlib.Omega.{arith}
-use Rattle.tape.proofs.KeyLaws.{key-inside}
-use Rattle.tape.proofs.KeyWalkLaws.{walk-opens, ready-within, ready-inside, array-room, object-room, key-there, key-comes, walk-idle, walk-array}
-use Rattle.tape.proofs.KeyWalkLaws.{walk-object}
-use Rattle.tape.proofs.KeyWalkLaws.{walk-no-key, walk-key}
+use Rattle.tape.proofs.KeyLaws.{key_inside}
+use Rattle.tape.proofs.KeyWalkLaws.{walk_opens, ready_within, ready_inside, array_room, object_room, key_there, key_comes, walk_idle, walk_array}
+use Rattle.tape.proofs.KeyWalkLaws.{walk_object}
+use Rattle.tape.proofs.KeyWalkLaws.{walk_no_key, walk_key}
 use borrow.Author.Rules.{rules}
 use Rattle.tape.proofs.key.step.Statement.{statement}
 use Rattle.tape.proofs.key.step.Tie as tie
@@ -12,7 +12,7 @@ mul-words-at : tie.Need-overflow-mul-words-at
 mul-words-at c = search rules
 
 words-at-requires : tie.Need-words-at-requires
-words-at-requires c κs = ready-within c.before.before.before.before.requires.1
+words-at-requires c κs = ready_within c.before.before.before.before.requires.1
 
 in-object-requires : tie.Need-in-object-requires
 in-object-requires c κs = search rules
@@ -20,7 +20,7 @@ in-object-requires c κs = search rules
 add-end : tie.Need-overflow-add-end
 add-end c = omega (
   arith,
-  key-inside (key-there c.before.before.before.before.before.before.before.before.before.before.requires.1
+  key_inside (key_there c.before.before.before.before.before.before.before.before.before.before.requires.1
       c.before.before.before.before.before.words-at.ensures c.before.before.before.if1.true)
       c.before.before.before.before.before.words-at.ensures,
 )
@@ -34,7 +34,7 @@ part-note-start c = search rules
 part-note-end : tie.Need-slice-bounds-note-end
 part-note-end c = omega (
   arith,
-  key-inside (key-there c.before.before.before.before.before.before.before.before.before.before.requires.1
+  key_inside (key_there c.before.before.before.before.before.before.before.before.before.before.requires.1
       c.before.before.before.before.before.words-at.ensures c.before.before.before.if1.true)
       c.before.before.before.before.before.words-at.ensures,
 )
@@ -42,9 +42,9 @@ part-note-end c = omega (
 note-requires : tie.Need-note-requires
 note-requires c κs = (
   _,
-  key-comes c.before.before.before.before.before.before.before.before.before.before.before.before.requires.1
+  key_comes c.before.before.before.before.before.before.before.before.before.before.before.before.requires.1
       c.before.before.before.before.before.before.before.words-at.ensures c.before.before.before.before.before.if1.true
-      (ready-inside c.before.before.before.before.before.before.before.before.before.before.before.before.requires.1
+      (ready_inside c.before.before.before.before.before.before.before.before.before.before.before.before.requires.1
       c.before.before.before.in-object.ensures c.before.before.if2.true),
 )
 
@@ -55,32 +55,32 @@ same-length-2 : tie.Need-same-length-2
 same-length-2 c = search rules
 
 returns : tie.Need-returns
-returns c = λ bound h. walk-key h c.before.before.before.before.before.before.before.before.before.before.words-at.ensures
+returns c = λ bound h. walk_key h c.before.before.before.before.before.before.before.before.before.before.words-at.ensures
     c.before.before.before.before.before.before.before.before.if1.true
-    (ready-inside h c.before.before.before.before.before.before.in-object.ensures c.before.before.before.before.before.if2.true) _
+    (ready_inside h c.before.before.before.before.before.before.in-object.ensures c.before.before.before.before.before.if2.true) _
     c.before.before.note.ensures
 
 same-length-3 : tie.Need-same-length-3
 same-length-3 c = search rules
 
 returns-2 : tie.Need-returns-2
-returns-2 c = λ bound h. walk-no-key h c.before.before.before.before.before.words-at.ensures c.before.before.before.if1.true
-    (ready-inside h c.before.in-object.ensures c.if2.false)
+returns-2 c = λ bound h. walk_no_key h c.before.before.before.before.before.words-at.ensures c.before.before.before.if1.true
+    (ready_inside h c.before.in-object.ensures c.if2.false)
 
 opened-requires : tie.Need-opened-requires
-opened-requires c κs = walk-opens c.before.before.before.before.before.before.before.before.before.before.requires.1.walks
+opened-requires c κs = walk_opens c.before.before.before.before.before.before.before.before.before.before.requires.1.walks
 
 mul-ends : tie.Need-overflow-mul-ends
 mul-ends c = omega (
   arith,
-  object-room c.before.before.before.before.before.before.before.before.before.before.before.before.before.requires.1
+  object_room c.before.before.before.before.before.before.before.before.before.before.before.before.before.requires.1
       c.before.before.before.before.before.before.before.before.words-at.ensures c.before.before.before.before.if3.true,
 )
 
 add-ends : tie.Need-overflow-add-ends
 add-ends c = omega (
   arith,
-  object-room c.before.before.before.before.before.before.before.before.before.before.before.before.before.requires.1
+  object_room c.before.before.before.before.before.before.before.before.before.before.before.before.before.requires.1
       c.before.before.before.before.before.before.before.before.words-at.ensures c.before.before.before.before.if3.true,
 )
 
@@ -90,7 +90,7 @@ mul-ends-2 c = search rules
 slice-write-ends : tie.Need-slice-write-ends
 slice-write-ends c = omega (
   arith,
-  object-room c.before.before.before.before.before.before.before.before.before.before.before.before.before.requires.1 c.before.before.before.before.before.before.before.before.words-at.ensures c.before.before.before.before.if3.true,
+  object_room c.before.before.before.before.before.before.before.before.before.before.before.before.before.requires.1 c.before.before.before.before.before.before.before.before.words-at.ensures c.before.before.before.before.if3.true,
   c.before.before.before.before.before.before.before.before.before.before.before.before.before.requires.1.walks.1.long,
 )
 
@@ -104,13 +104,13 @@ same-length-5 : tie.Need-same-length-5
 same-length-5 c = search rules
 
 returns-3 : tie.Need-returns-3
-returns-3 c = λ bound h. walk-object h c.before.before.before.before.before.before.before.before.words-at.ensures
+returns-3 c = λ bound h. walk_object h c.before.before.before.before.before.before.before.before.words-at.ensures
     c.before.before.before.before.if3.true _ c.before.before.opened.ensures
 
 mul-ends-3 : tie.Need-overflow-mul-ends-3
 mul-ends-3 c = omega (
   arith,
-  array-room c.before.before.before.before.before.before.before.before.before.before.before.requires.1
+  array_room c.before.before.before.before.before.before.before.before.before.before.before.requires.1
       c.before.before.before.before.before.before.words-at.ensures c.if4.true,
 )
 
@@ -120,7 +120,7 @@ mul-ends-4 c = search rules
 slice-write-ends-2 : tie.Need-slice-write-ends-2
 slice-write-ends-2 c = omega (
   arith,
-  array-room c.before.before.before.before.before.before.before.before.before.before.before.requires.1
+  array_room c.before.before.before.before.before.before.before.before.before.before.before.requires.1
       c.before.before.before.before.before.before.words-at.ensures c.if4.true,
   c.before.before.before.before.before.before.before.before.before.before.before.requires.1.walks.1.long,
 )
@@ -132,10 +132,10 @@ same-length-6 : tie.Need-same-length-6
 same-length-6 c = search rules
 
 returns-4 : tie.Need-returns-4
-returns-4 c = λ bound h. walk-array h c.before.before.before.before.before.before.words-at.ensures c.if4.true
+returns-4 c = λ bound h. walk_array h c.before.before.before.before.before.before.words-at.ensures c.if4.true
 
 returns-5 : tie.Need-returns-5
-returns-5 c = λ bound h. walk-idle h c.before.before.before.before.before.before.words-at.ensures c.before.before.before.before.if1.false
+returns-5 c = λ bound h. walk_idle h c.before.before.before.before.before.before.words-at.ensures c.before.before.before.before.if1.false
     c.if4.false c.before.before.if3.false
 
 pub step_spec : {M : Type 1} → statement M

@@ -50,8 +50,8 @@ returns c = omega (
       (c.before.before.before.before.before.args.at + 1),
 )
 
-pub load2-spec : {M : Type 1} → statement M
-load2-spec =
+pub load2_spec : {M : Type 1} → statement M
+load2_spec =
     tie.close
     (tie.spec
     shared-slice-read-wide

@@ -27,6 +27,6 @@ returns c = (
   omega (arith, c.before.load2.ensures.1, c.load22.ensures.1),
 )
 
-pub load4-spec : {M : Type 1} → statement M
-load4-spec =
+pub load4_spec : {M : Type 1} → statement M
+load4_spec =
     tie.close (tie.spec load2-requires add-load2 load2-requires-2 mul-result add-result returns)

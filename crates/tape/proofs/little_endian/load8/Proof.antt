@@ -24,6 +24,6 @@ returns : tie.Need-returns
 returns c = got 4 4 c.before.before.before.args.bytes.now c.before.before.before.args.at _ _ c.before.load4.ensures.0
     c.load42.ensures.0
 
-pub load8-spec : {M : Type 1} → statement M
-load8-spec =
+pub load8_spec : {M : Type 1} → statement M
+load8_spec =
     tie.close (tie.spec load4-requires add-load4 load4-requires-2 mul-result add-result returns)

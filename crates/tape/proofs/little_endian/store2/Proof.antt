@@ -1,7 +1,7 @@
 -- `little_endian::store2`: two bytes. Assumes nothing.
 use native.Mathlib.Omega.{arith}
 use lib.ListN.{length-set}
-use Rattle.tape.proofs.LittleEndianLaws.{stored-two}
+use Rattle.tape.proofs.LittleEndianLaws.{stored_two}
 use borrow.Author.Rules.{rules}
 use Rattle.tape.proofs.little_endian.store2.Statement.{statement}
 use Rattle.tape.proofs.little_endian.store2.Tie as tie
@@ -25,10 +25,10 @@ same_length : tie.Need-same-length
 same_length c = search rules
 
 returns : tie.Need-returns
-returns c = stored-two c.args.bytes.now c.args.at c.args.v
+returns c = stored_two c.args.bytes.now c.args.at c.args.v
 
-pub store2-spec : {M : Type 1} → statement M
-store2-spec =
+pub store2_spec : {M : Type 1} → statement M
+store2_spec =
     tie.close
     (tie.spec
     cast-bytes

@@ -22,5 +22,5 @@ returns c = stored 2 2 c.before.before.before.before.before.before.before.before
     c.before.before.before.before.before.before.before.before.before.args.v c.before.before.before.before.before.before.store2.ensures
     c.before.before.store22.ensures
 
-pub store4-spec : {M : Type 1} → statement M
-store4-spec = tie.close (tie.spec store2-requires add-store2 store2-requires-2 same_length returns)
+pub store4_spec : {M : Type 1} → statement M
+store4_spec = tie.close (tie.spec store2-requires add-store2 store2-requires-2 same_length returns)

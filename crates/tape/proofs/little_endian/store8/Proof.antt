@@ -22,5 +22,5 @@ returns c = stored 4 4 c.before.before.before.before.before.before.before.before
     c.before.before.before.before.before.before.before.before.before.args.v c.before.before.before.before.before.before.store4.ensures
     c.before.before.store42.ensures
 
-pub store8-spec : {M : Type 1} → statement M
-store8-spec = tie.close (tie.spec store4-requires add-store4 store4-requires-2 same_length returns)
+pub store8_spec : {M : Type 1} → statement M
+store8_spec = tie.close (tie.spec store4-requires add-store4 store4-requires-2 same_length returns)

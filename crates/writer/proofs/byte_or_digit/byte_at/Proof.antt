@@ -16,5 +16,5 @@ same_length c = search rules
 returns : tie.Need-returns
 returns c = put_byte c.args.b c.args.at c.args.out.now c.requires
 
-pub byte-at-spec : {M : Type 1} → statement M
-byte-at-spec = tie.close (tie.spec slice-write-out add-result same_length returns)
+pub byte_at_spec : {M : Type 1} → statement M
+byte_at_spec = tie.close (tie.spec slice-write-out add-result same_length returns)

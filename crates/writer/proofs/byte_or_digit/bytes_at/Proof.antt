@@ -1,5 +1,5 @@
 -- `byte_or_digit::bytes_at`: the part that was lent, come back. Assumes nothing.
-use Rattle.writer.proofs.LaidLaws.{put-tail}
+use Rattle.writer.proofs.LaidLaws.{put_tail}
 use borrow.Author.Rules.{rules}
 use Rattle.writer.proofs.byte_or_digit.bytes_at.Statement.{statement}
 use Rattle.writer.proofs.byte_or_digit.bytes_at.Tie as tie
@@ -23,10 +23,10 @@ same_length : tie.Need-same-length
 same_length c = search rules
 
 returns : tie.Need-returns
-returns c = put-tail c.before.before.write_bytes.ensures
+returns c = put_tail c.before.before.write_bytes.ensures
 
-pub bytes-at-spec : {M : Type 1} → statement M
-bytes-at-spec =
+pub bytes_at_spec : {M : Type 1} → statement M
+bytes_at_spec =
     tie.close
     (tie.spec
     sub-write-bytes

@@ -3,7 +3,7 @@ use mathlib.Core.Path.{sym, ap, ◌∙◌}
 use Prim.Native.Nat.{ℕ}
 use Rattle.meaning.specs.Canonical.{fixed}
 use Rattle.writer.proofs.LaidLaws.{put_at_as}
-use Rattle.writer.proofs.ByteOrDigitLaws.{decimal-fixed}
+use Rattle.writer.proofs.ByteOrDigitLaws.{decimal_fixed}
 use borrow.Author.Rules.{rules}
 use Rattle.writer.proofs.byte_or_digit.decimal_at.Statement.{statement}
 use Rattle.writer.proofs.byte_or_digit.decimal_at.Tie as tie
@@ -22,7 +22,7 @@ returns c =
     let args = c.before.before.before.before.before.before.args in
     let decimal-len = c.before.before.before.decimal-len in
     let digits-at = c.before.before.digits-at in
-    put_at_as (ap (λ (k : ℕ). fixed k args.n) decimal-len.ensures.0 ∙ sym (decimal-fixed args.n)) digits-at.ensures
+    put_at_as (ap (λ (k : ℕ). fixed k args.n) decimal-len.ensures.0 ∙ sym (decimal_fixed args.n)) digits-at.ensures
 
-pub decimal-at-spec : {M : Type 1} → statement M
-decimal-at-spec = tie.close (tie.spec decimal-len-requires digits-at-requires same_length returns)
+pub decimal_at_spec : {M : Type 1} → statement M
+decimal_at_spec = tie.close (tie.spec decimal-len-requires digits-at-requires same_length returns)

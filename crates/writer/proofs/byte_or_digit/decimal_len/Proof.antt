@@ -2,7 +2,7 @@
 use native.Mathlib.Omega.{arith}
 use lib.Count.{leading_le}
 use mir.Facts.{Fits-le, Fits-lit}
-use Rattle.writer.proofs.ByteOrDigitLaws.{size-by-bits}
+use Rattle.writer.proofs.ByteOrDigitLaws.{size_by_bits}
 use borrow.Author.Rules.{rules}
 use Rattle.writer.proofs.byte_or_digit.decimal_len.Statement.{statement}
 use Rattle.writer.proofs.byte_or_digit.decimal_len.Tie as tie
@@ -26,9 +26,9 @@ add-result : tie.Need-overflow-add-result
 add-result c = search rules
 
 returns : tie.Need-returns
-returns c = size-by-bits c.before.before.args.n _ _ (omega (arith, c.before.before.ranges)) c.before.power.ensures c.reaches.ensures
+returns c = size_by_bits c.before.before.args.n _ _ (omega (arith, c.before.before.ranges)) c.before.power.ensures c.reaches.ensures
 
-pub decimal-len-spec : {M : Type 1} → statement M
-decimal-len-spec =
+pub decimal_len_spec : {M : Type 1} → statement M
+decimal_len_spec =
     tie.close
     (tie.spec cast-bits sub-bits mul-t power-requires reaches-requires add-result returns)

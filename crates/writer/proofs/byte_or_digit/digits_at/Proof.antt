@@ -1,7 +1,7 @@
 -- `byte_or_digit::digits_at`: the part that was lent, come back. Assumes nothing.
 use native.Mathlib.Omega.{arith}
-use Rattle.meaning.proofs.Digits.{fixed-length}
-use Rattle.writer.proofs.LaidLaws.{put-tail}
+use Rattle.meaning.proofs.Digits.{fixed_length}
+use Rattle.writer.proofs.LaidLaws.{put_tail}
 use borrow.Author.Rules.{rules}
 use Rattle.writer.proofs.byte_or_digit.digits_at.Statement.{statement}
 use Rattle.writer.proofs.byte_or_digit.digits_at.Tie as tie
@@ -22,8 +22,8 @@ add-result : tie.Need-overflow-add-result
 add-result c = omega (
   arith,
   c.before.before.before.before.before.requires,
-  c.before.before.before.before.before.well-formed,
-  fixed-length c.before.before.before.before.before.args.w c.before.before.before.before.before.args.n,
+  c.before.before.before.before.before.well_formed,
+  fixed_length c.before.before.before.before.before.args.w c.before.before.before.before.before.args.n,
   c.before.before.write-digits.ensures.size,
 )
 
@@ -31,10 +31,10 @@ same_length : tie.Need-same-length
 same_length c = search rules
 
 returns : tie.Need-returns
-returns c = put-tail c.before.before.write-digits.ensures
+returns c = put_tail c.before.before.write-digits.ensures
 
-pub digits-at-spec : {M : Type 1} → statement M
-digits-at-spec =
+pub digits_at_spec : {M : Type 1} → statement M
+digits_at_spec =
     tie.close
     (tie.spec
     sub-write-digits

@@ -3,7 +3,7 @@ use Prim.Native.Nat.{◌-◌, ◌/◌, ◌%◌}
 use native.Mathlib.Omega.{arith}
 use lib.ListN.{set, length-set}
 use Rattle.meaning.specs.Canonical.{digit}
-use Rattle.writer.proofs.ByteOrDigitLaws.{whole-begin, fill-two, whole-under}
+use Rattle.writer.proofs.ByteOrDigitLaws.{whole_begin, fill_two, whole_under}
 use borrow.Author.Rules.{rules}
 use Rattle.writer.proofs.byte_or_digit.few_digits.Statement.{statement}
 use Rattle.writer.proofs.byte_or_digit.few_digits.Tie as tie
@@ -53,12 +53,12 @@ same-length-2 c = omega (
 )
 
 returns-2 : tie.Need-returns-2
-returns-2 c = whole-under _ _ _ (fill-two _ _ _ _ (whole-begin _ _ _) c.before.before.before.before.if1.false
+returns-2 c = whole_under _ _ _ (fill_two _ _ _ _ (whole_begin _ _ _) c.before.before.before.before.if1.false
     (omega (arith, c.before.before.before.before.before.before.requires.1))) c.before.before.one-digit2.ensures
     c.before.before.before.before.before.before.requires.1
 
-pub few-digits-spec : {M : Type 1} → statement M
-few-digits-spec =
+pub few_digits_spec : {M : Type 1} → statement M
+few_digits_spec =
     tie.close
     (tie.spec
     one-digit-requires

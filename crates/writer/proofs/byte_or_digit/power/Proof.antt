@@ -1,11 +1,11 @@
 -- `byte_or_digit::power`: by its arms. Assumes nothing.
 use native.Mathlib.Omega.{arith}
-use Rattle.writer.proofs.ByteOrDigitLaws.{power-none, power_at, less}
+use Rattle.writer.proofs.ByteOrDigitLaws.{power_none, power_at, less}
 use Rattle.writer.proofs.byte_or_digit.power.Statement.{statement}
 use Rattle.writer.proofs.byte_or_digit.power.Tie as tie
 
 returns : tie.Need-returns
-returns c = power-none _ c.match.keys1
+returns c = power_none _ c.match.keys1
 
 returns-2 : tie.Need-returns-2
 returns-2 c = power_at _ 1 (omega arith) c.match.keys2
@@ -79,8 +79,8 @@ returns-21 c = absurd (omega (
       c.match.rest.0.0.0.0.0.0.0.0.0.0.0.0.0.0.0.0.0.0.1) c.match.rest.0.0.0.0.0.0.0.0.0.0.0.0.0.0.0.0.0.0.0.1),
 ))
 
-pub power-spec : {M : Type 1} → statement M
-power-spec =
+pub power_spec : {M : Type 1} → statement M
+power_spec =
     tie.close
     (tie.spec
     returns

@@ -2,8 +2,8 @@
 use mathlib.Core.Path.{sym, ap, ◌∙◌}
 use native.Mathlib.Omega.{arith}
 use lib.ListN.{length}
-use Rattle.writer.proofs.NumberSignLaws.{power-held}
-use Rattle.writer.proofs.NumberFormLaws.{form-held, point-text, zeros-size, power_size, pointed-size, zeros-few, point-few}
+use Rattle.writer.proofs.NumberSignLaws.{power_held}
+use Rattle.writer.proofs.NumberFormLaws.{form_held, point_text, zeros_size, power_size, pointed_size, zeros_few, point_few}
 use borrow.Author.Rules.{rules}
 use Rattle.writer.proofs.number.finite_len.Statement.{statement}
 use Rattle.writer.proofs.number.finite_len.Tie as tie
@@ -20,7 +20,7 @@ enum-known-zeros c = search rules
 add-result : tie.Need-overflow-add-result
 add-result c = omega (
   arith,
-  zeros-few (form-held _ c.before.before.before.before.before.ranges.power c.before.zeros.given.1
+  zeros_few (form_held _ c.before.before.before.before.before.ranges.power c.before.zeros.given.1
       c.before.before.before.form.ensures),
 )
 
@@ -30,7 +30,7 @@ enum-known-n c = search rules
 pointed-len-requires : tie.Need-pointed-len-requires
 pointed-len-requires c κs = (
   c.before.before.before.before.decimal-len.ensures.1,
-  (point-few (form-held _ c.before.before.before.before.before.ranges.power c.before.n.given.1 c.before.before.before.form.ensures)).1,
+  (point_few (form_held _ c.before.before.before.before.before.ranges.power c.before.n.given.1 c.before.before.before.form.ensures)).1,
 )
 
 enum_told : tie.Need-enum-told
@@ -46,20 +46,20 @@ returns : tie.Need-returns
 returns c = (
   omega (
     arith,
-    zeros-size _ _ c.before.before.before.before.decimal-len.ensures.0
-        (form-held _ c.before.before.before.before.before.ranges.power c.before.zeros.given.1 c.before.before.before.form.ensures),
+    zeros_size _ _ c.before.before.before.before.decimal-len.ensures.0
+        (form_held _ c.before.before.before.before.before.ranges.power c.before.zeros.given.1 c.before.before.before.form.ensures),
   ),
   omega (
     arith,
-    zeros-few (form-held _ c.before.before.before.before.before.ranges.power c.before.zeros.given.1
+    zeros_few (form_held _ c.before.before.before.before.before.ranges.power c.before.zeros.given.1
         c.before.before.before.form.ensures),
   ),
 )
 
 returns-2 : tie.Need-returns-2
 returns-2 c = (
-  pointed-size _ _ c.before.before.before.before.before.decimal-len.ensures.0 c.pointed-len.ensures
-      ∙ sym (ap length (point-text _ (form-held _ c.before.before.before.before.before.before.ranges.power c.before.before.n.given.1
+  pointed_size _ _ c.before.before.before.before.before.decimal-len.ensures.0 c.pointed-len.ensures
+      ∙ sym (ap length (point_text _ (form_held _ c.before.before.before.before.before.before.ranges.power c.before.before.n.given.1
       c.before.before.before.before.form.ensures))),
   omega (arith, c.pointed-len.ensures.small),
 )
@@ -69,15 +69,15 @@ returns-3 c = (
   omega (
     arith,
     power_size _ _ c.before.before.before.before.decimal-len.ensures.0
-        (form-held _ c.before.before.before.before.before.ranges.power c.before.enum_told.given.1 c.before.before.before.form.ensures),
-    ap length (power-held _ c.before.before.before.before.before.ranges.power),
+        (form_held _ c.before.before.before.before.before.ranges.power c.before.enum_told.given.1 c.before.before.before.form.ensures),
+    ap length (power_held _ c.before.before.before.before.before.ranges.power),
     c.power-len.ensures.0,
   ),
   omega (arith, c.before.before.before.before.decimal-len.ensures.1, c.power-len.ensures.1),
 )
 
-pub finite-len-spec : {M : Type 1} → statement M
-finite-len-spec =
+pub finite_len_spec : {M : Type 1} → statement M
+finite_len_spec =
     tie.close
     (tie.spec
     decimal-len-requires

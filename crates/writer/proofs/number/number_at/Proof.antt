@@ -1,5 +1,5 @@
 -- `number::number_at`: the part that was lent, come back. Assumes nothing.
-use Rattle.writer.proofs.LaidLaws.{put-tail}
+use Rattle.writer.proofs.LaidLaws.{put_tail}
 use borrow.Author.Rules.{rules}
 use Rattle.writer.proofs.number.number_at.Statement.{statement}
 use Rattle.writer.proofs.number.number_at.Tie as tie
@@ -23,10 +23,10 @@ same_length : tie.Need-same-length
 same_length c = search rules
 
 returns : tie.Need-returns
-returns c = put-tail c.before.before.write-number.ensures
+returns c = put_tail c.before.before.write-number.ensures
 
-pub number-at-spec : {M : Type 1} → statement M
-number-at-spec =
+pub number_at_spec : {M : Type 1} → statement M
+number_at_spec =
     tie.close
     (tie.spec
     sub-write-number

@@ -3,9 +3,9 @@ use mathlib.Core.Path.{sym, ap, ◌∙◌}
 use native.Mathlib.Omega.{arith}
 use lib.ListN.{length, length-append}
 use Rattle.meaning.specs.Letters.{letters}
-use Rattle.meaning.specs.Canonical.{minusText, finiteText, numberText}
-use Rattle.writer.proofs.NumberSignLaws.{finite-held}
-use Rattle.writer.proofs.PiecesLaws.{finite-text, nan-text, infinite-text}
+use Rattle.meaning.specs.Canonical.{minus_text, finite_text, number_text}
+use Rattle.writer.proofs.NumberSignLaws.{finite_held}
+use Rattle.writer.proofs.PiecesLaws.{finite_text_lem, nan_text, infinite_text}
 use borrow.Author.Rules.{rules}
 use Rattle.writer.proofs.number.number_len.Statement.{statement}
 use Rattle.writer.proofs.number.number_len.Tie as tie
@@ -40,34 +40,34 @@ returns c = (
     arith,
     c.before.minus-len.ensures,
     c.finite-len.ensures.0,
-    ap length (finite-held c.before.before.before.n.given.0.1.0 c.before.before.before.n.given.0.1.1.0
+    ap length (finite_held c.before.before.before.n.given.0.1.0 c.before.before.before.n.given.0.1.1.0
         (record { sfits = c.before.before.known-told.given.1.1.0.1 })),
     ap length
-        (ap numberText c.before.before.before.n.given.1 ∙ finite-text c.before.before.before.n.given.0.0
+        (ap number_text c.before.before.before.n.given.1 ∙ finite_text_lem c.before.before.before.n.given.0.0
         c.before.before.before.n.given.0.1.0 c.before.before.before.n.given.0.1.1.0),
-    length-append (minusText c.before.before.before.n.given.0.0) (finiteText c.before.before.before.n.given.0.1.0
+    length-append (minus_text c.before.before.before.n.given.0.0) (finite_text c.before.before.before.n.given.0.1.0
         c.before.before.before.n.given.0.1.1.0),
   ),
   omega (arith, c.before.minus-len.ensures, c.finite-len.ensures.1),
 )
 
 returns-2 : tie.Need-returns-2
-returns-2 c = (sym (ap length (ap numberText c.enum_told.given.1 ∙ nan-text)), omega arith)
+returns-2 c = (sym (ap length (ap number_text c.enum_told.given.1 ∙ nan_text)), omega arith)
 
 returns-3 : tie.Need-returns-3
 returns-3 c = (
   omega (
     arith,
     c.minus-len2.ensures,
-    ap length (ap numberText c.before.before.n2.given.1
-        ∙ infinite-text c.before.before.n2.given.0.0),
-    length-append (minusText c.before.before.n2.given.0.0) (letters "Infinity"),
+    ap length (ap number_text c.before.before.n2.given.1
+        ∙ infinite_text c.before.before.n2.given.0.0),
+    length-append (minus_text c.before.before.n2.given.0.0) (letters "Infinity"),
   ),
   omega (arith, c.minus-len2.ensures),
 )
 
-pub number-len-spec : {M : Type 1} → statement M
-number-len-spec =
+pub number_len_spec : {M : Type 1} → statement M
+number_len_spec =
     tie.close
     (tie.spec
     enum-known-n

@@ -3,9 +3,9 @@ use mathlib.Core.Path.{sym, ap}
 use native.Mathlib.Omega.{arith}
 use lib.ListN.{length}
 use Rattle.meaning.specs.Letters.{letters}
-use Rattle.meaning.specs.Canonical.{decimal, minusText}
-use Rattle.writer.proofs.NumberSignLaws.{held-sign}
-use Rattle.writer.proofs.PiecesLaws.{length_three, power-at-zero, power-split}
+use Rattle.meaning.specs.Canonical.{decimal, minus_text}
+use Rattle.writer.proofs.NumberSignLaws.{held_sign}
+use Rattle.writer.proofs.PiecesLaws.{length_three, power_at_zero, power_split}
 use borrow.Author.Rules.{rules}
 use Rattle.writer.proofs.number.power_len.Statement.{statement}
 use Rattle.writer.proofs.number.power_len.Tie as tie
@@ -17,7 +17,7 @@ returns : tie.Need-returns
 returns c =
     let sign-and-size = c.before.sign-and-size in
     let fits = c.before.before.ranges in
-    (sym (ap length (power-at-zero _ sign-and-size.result (held-sign _ _ fits.power sign-and-size.ensures) c.if1.true)), omega arith)
+    (sym (ap length (power_at_zero _ sign-and-size.result (held_sign _ _ fits.power sign-and-size.ensures) c.if1.true)), omega arith)
 
 minus-len-requires : tie.Need-minus-len-requires
 minus-len-requires c κs = search rules
@@ -41,16 +41,16 @@ returns-2 c =
         arith,
         minus-len.ensures,
         c.decimal-len.ensures,
-        ap length (power-split _ sign-and-size.result
-            (held-sign _ _ fits.power sign-and-size.ensures) if1.false),
-        length_three (letters "e") (minusText sign-and-size.result.minus)
+        ap length (power_split _ sign-and-size.result
+            (held_sign _ _ fits.power sign-and-size.ensures) if1.false),
+        length_three (letters "e") (minus_text sign-and-size.result.minus)
             (decimal sign-and-size.result.size),
       ),
       omega (arith, minus-len.ensures, c.decimal-len.ensures),
     )
 
-pub power-len-spec : {M : Type 1} → statement M
-power-len-spec =
+pub power_len_spec : {M : Type 1} → statement M
+power_len_spec =
     tie.close
     (tie.spec
     sign-and-size-requires

@@ -3,10 +3,10 @@ use mathlib.Core.Path.{sym, ap, ◌∙◌}
 use native.Mathlib.Omega.{arith}
 use lib.ListN.{length, length-append}
 use Rattle.meaning.specs.Letters.{letters}
-use Rattle.meaning.specs.Canonical.{minusText, finiteText, numberText}
+use Rattle.meaning.specs.Canonical.{minus_text, finite_text, number_text}
 use Rattle.writer.proofs.LaidLaws.{put_as, put_at_as, put_next, put_whole}
-use Rattle.writer.proofs.NumberSignLaws.{finite-held}
-use Rattle.writer.proofs.PiecesLaws.{finite-text, nan-text, infinite-text}
+use Rattle.writer.proofs.NumberSignLaws.{finite_held}
+use Rattle.writer.proofs.PiecesLaws.{finite_text_lem, nan_text, infinite_text}
 use borrow.Author.Rules.{rules}
 use Rattle.writer.proofs.number.write_number.Statement.{statement}
 use Rattle.writer.proofs.number.write_number.Tie as tie
@@ -18,26 +18,26 @@ minus-at-requires : tie.Need-minus-at-requires
 minus-at-requires c κs = omega (
   arith,
   c.before.before.before.before.before.requires,
-  ap length (ap numberText c.before.before.n.given.1 ∙ finite-text c.before.before.n.given.0.0 c.before.before.n.given.0.1.0
+  ap length (ap number_text c.before.before.n.given.1 ∙ finite_text_lem c.before.before.n.given.0.0 c.before.before.n.given.0.1.0
       c.before.before.n.given.0.1.1.0),
-  length-append (minusText c.before.before.n.given.0.0)
-      (finiteText c.before.before.n.given.0.1.0 c.before.before.n.given.0.1.1.0),
+  length-append (minus_text c.before.before.n.given.0.0)
+      (finite_text c.before.before.n.given.0.1.0 c.before.before.n.given.0.1.1.0),
 )
 
 finite-at-requires : tie.Need-finite-at-requires
 finite-at-requires c κs = omega (
   arith,
   c.before.before.before.before.before.before.before.before.before.requires,
-  ap length (ap numberText c.before.before.before.before.before.before.n.given.1
-      ∙ finite-text c.before.before.before.before.before.before.n.given.0.0
+  ap length (ap number_text c.before.before.before.before.before.before.n.given.1
+      ∙ finite_text_lem c.before.before.before.before.before.before.n.given.0.0
       c.before.before.before.before.before.before.n.given.0.1.0
       c.before.before.before.before.before.before.n.given.0.1.1.0),
-  length-append (minusText c.before.before.before.before.before.before.n.given.0.0)
-      (finiteText c.before.before.before.before.before.before.n.given.0.1.0
+  length-append (minus_text c.before.before.before.before.before.before.n.given.0.0)
+      (finite_text c.before.before.before.before.before.before.n.given.0.1.0
       c.before.before.before.before.before.before.n.given.0.1.1.0),
   c.before.before.before.minus-at.ensures.next,
   c.before.before.before.minus-at.auto.0,
-  ap length (finite-held c.before.before.before.before.before.before.n.given.0.1.0
+  ap length (finite_held c.before.before.before.before.before.before.n.given.0.1.0
       c.before.before.before.before.before.before.n.given.0.1.1.0 (record
       { sfits = c.before.before.before.before.before.known-told.given.1.1.0.1 })),
 )
@@ -52,7 +52,7 @@ bytes-at-requires : tie.Need-bytes-at-requires
 bytes-at-requires c κs = omega (
   arith,
   c.before.before.before.before.before.requires,
-  ap length (ap numberText c.before.before.enum_told.given.1 ∙ nan-text),
+  ap length (ap number_text c.before.before.enum_told.given.1 ∙ nan_text),
 )
 
 enum-known-n-2 : tie.Need-enum-known-n-2
@@ -62,8 +62,8 @@ minus-at-requires-2 : tie.Need-minus-at-requires-2
 minus-at-requires-2 c κs = omega (
   arith,
   c.before.before.before.before.before.requires,
-  ap length (ap numberText c.before.before.n2.given.1 ∙ infinite-text c.before.before.n2.given.0.0),
-  length-append (minusText c.before.before.n2.given.0.0) (letters "Infinity"),
+  ap length (ap number_text c.before.before.n2.given.1 ∙ infinite_text c.before.before.n2.given.0.0),
+  length-append (minus_text c.before.before.n2.given.0.0) (letters "Infinity"),
 )
 
 slice-aggregate-bytes-at-2 : tie.Need-slice-aggregate-bytes-at-2
@@ -73,9 +73,9 @@ bytes-at-requires-2 : tie.Need-bytes-at-requires-2
 bytes-at-requires-2 c κs = omega (
   arith,
   c.before.before.before.before.before.before.before.before.before.before.requires,
-  ap length (ap numberText c.before.before.before.before.before.before.before.n2.given.1
-      ∙ infinite-text c.before.before.before.before.before.before.before.n2.given.0.0),
-  length-append (minusText c.before.before.before.before.before.before.before.n2.given.0.0) (letters "Infinity"),
+  ap length (ap number_text c.before.before.before.before.before.before.before.n2.given.1
+      ∙ infinite_text c.before.before.before.before.before.before.before.n2.given.0.0),
+  length-append (minus_text c.before.before.before.before.before.before.before.n2.given.0.0) (letters "Infinity"),
   c.before.before.before.before.minus-at2.ensures.next,
   c.before.before.before.before.minus-at2.auto.0,
 )
@@ -84,12 +84,12 @@ same_length : tie.Need-same-length
 same_length c = search rules
 
 returns : tie.Need-returns
-returns c = put_as (sym (ap numberText c.before.before.before.before.before.before.before.before.before.n.given.1
-    ∙ finite-text c.before.before.before.before.before.before.before.before.before.n.given.0.0
+returns c = put_as (sym (ap number_text c.before.before.before.before.before.before.before.before.before.n.given.1
+    ∙ finite_text_lem c.before.before.before.before.before.before.before.before.before.n.given.0.0
     c.before.before.before.before.before.before.before.before.before.n.given.0.1.0
     c.before.before.before.before.before.before.before.before.before.n.given.0.1.1.0))
     (put_whole (put_next (omega arith) c.before.before.before.before.before.before.minus-at.ensures
-    (put_at_as (finite-held c.before.before.before.before.before.before.before.before.before.n.given.0.1.0
+    (put_at_as (finite_held c.before.before.before.before.before.before.before.before.before.n.given.0.1.0
     c.before.before.before.before.before.before.before.before.before.n.given.0.1.1.0
     (record { sfits = c.before.before.before.before.before.before.before.before.known-told.given.1.1.0.1 }))
     c.before.before.finite-at.ensures)))
@@ -98,19 +98,19 @@ same-length-2 : tie.Need-same-length-2
 same-length-2 c = search rules
 
 returns-2 : tie.Need-returns-2
-returns-2 c = put_as (sym (ap numberText c.before.before.before.before.before.enum_told.given.1 ∙ nan-text))
+returns-2 c = put_as (sym (ap number_text c.before.before.before.before.before.enum_told.given.1 ∙ nan_text))
     (put_whole c.before.before.bytes-at.ensures)
 
 same-length-3 : tie.Need-same-length-3
 same-length-3 c = search rules
 
 returns-3 : tie.Need-returns-3
-returns-3 c = put_as (sym (ap numberText c.before.before.before.before.before.before.before.before.before.before.n2.given.1
-    ∙ infinite-text c.before.before.before.before.before.before.before.before.before.before.n2.given.0.0))
+returns-3 c = put_as (sym (ap number_text c.before.before.before.before.before.before.before.before.before.before.n2.given.1
+    ∙ infinite_text c.before.before.before.before.before.before.before.before.before.before.n2.given.0.0))
     (put_whole (put_next (omega arith) c.before.before.before.before.before.before.before.minus-at2.ensures c.before.before.bytes-at2.ensures))
 
-pub write-number-spec : {M : Type 1} → statement M
-write-number-spec =
+pub write_number_spec : {M : Type 1} → statement M
+write_number_spec =
     tie.close
     (tie.spec
     enum-known-n

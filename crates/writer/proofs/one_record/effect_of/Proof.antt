@@ -68,8 +68,8 @@ returns-9 : tie.Need-returns-9
 unfolding effect_of
 returns-9 c = sym (ap effect_of c.before.r2.given.1)
 
-pub effect-of-spec : {M : Type 1} → statement M
-effect-of-spec =
+pub effect_of_spec : {M : Type 1} → statement M
+effect_of_spec =
     tie.close
     (tie.spec
     enum_told

@@ -4,7 +4,7 @@ use mathlib.Core.List.{List}
 use lib.ListN.{length}
 use Prim.Native.Nat.{ℕ}
 use Rattle.meaning.specs.Canonical.{quoted}
-use Rattle.writer.proofs.PiecesLaws.{part-to}
+use Rattle.writer.proofs.PiecesLaws.{part_to}
 use borrow.Author.Rules.{rules}
 use Rattle.writer.proofs.one_record.part_len.Statement.{statement}
 use Rattle.writer.proofs.one_record.part_len.Tie as tie
@@ -27,10 +27,10 @@ string-len-requires c κs = search rules
 returns : tie.Need-returns
 returns c =
     let args = c.before.before.before.args in
-    c.string_len.ensures ∙ ap (λ (l : List ℕ). length (quoted l)) (part-to args.store.now args.start args.length)
+    c.string_len.ensures ∙ ap (λ (l : List ℕ). length (quoted l)) (part_to args.store.now args.start args.length)
 
-pub part-len-spec : {M : Type 1} → statement M
-part-len-spec =
+pub part_len_spec : {M : Type 1} → statement M
+part_len_spec =
     tie.close
     (tie.spec
     add-end

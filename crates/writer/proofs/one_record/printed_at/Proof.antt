@@ -4,11 +4,11 @@ use native.Mathlib.Omega.{arith}
 use lib.ListN.{length, length-append}
 use Rattle.meaning.specs.Letters.{letters}
 use Rattle.meaning.specs.Canonical.{quoted}
-use Rattle.tape.specs.Between.Turns.{bytesEnd}
+use Rattle.tape.specs.Between.Turns.{bytes_end}
 use Rattle.writer.specs.Between.Walk.{part}
 use Rattle.writer.proofs.LaidLaws.{put_at_as, put_next}
-use Rattle.writer.proofs.OneRecordLaws.{null-printed, bool-printed, number-printed, string-printed, key-printed, binary-printed, time-printed}
-use Rattle.writer.proofs.OneRecordLaws.{array-printed, object-printed}
+use Rattle.writer.proofs.OneRecordLaws.{null_printed, bool_printed, number_printed, string_printed, key_printed, binary_printed, time_printed}
+use Rattle.writer.proofs.OneRecordLaws.{array_printed, object_printed}
 use borrow.Author.Rules.{rules}
 use Rattle.writer.proofs.one_record.printed_at.Statement.{statement}
 use Rattle.writer.proofs.one_record.printed_at.Tie as tie
@@ -24,7 +24,7 @@ bytes-at-requires c κs =
     let pre = c.before.before.before.before.before.before.requires in
     let args = c.before.before.before.before.before.before.args in
     let enum_told = c.before.before.enum_told in
-    omega (arith, pre.1, ap length (null-printed args.store.now enum_told.given.1))
+    omega (arith, pre.1, ap length (null_printed args.store.now enum_told.given.1))
 
 enum-known-r : tie.Need-enum-known-r
 enum-known-r c = search rules
@@ -34,7 +34,7 @@ bool-at-requires c κs =
     let pre = c.before.before.before.before.before.before.requires in
     let args = c.before.before.before.before.before.before.args in
     let r = c.before.before.r in
-    omega (arith, pre.1, ap length (bool-printed args.store.now r.given.1))
+    omega (arith, pre.1, ap length (bool_printed args.store.now r.given.1))
 
 enum-known-r-2 : tie.Need-enum-known-r-2
 enum-known-r-2 c = search rules
@@ -44,7 +44,7 @@ number-at-requires c κs =
     let pre = c.before.before.before.before.before.before.requires in
     let args = c.before.before.before.before.before.before.args in
     let r2 = c.before.before.r2 in
-    omega (arith, pre.1, ap length (number-printed args.store.now r2.given.1))
+    omega (arith, pre.1, ap length (number_printed args.store.now r2.given.1))
 
 enum-known-r-3 : tie.Need-enum-known-r-3
 enum-known-r-3 c = search rules
@@ -54,7 +54,7 @@ string-at-requires c κs =
     let pre = c.before.before.before.before.before.before.requires in
     let r3 = c.before.before.r3 in
     let args = c.before.before.before.before.before.before.args in
-    (omega (arith, pre.0, ap bytesEnd r3.given.1), omega (arith, pre.1, ap length (string-printed args.store.now r3.given.1)))
+    (omega (arith, pre.0, ap bytes_end r3.given.1), omega (arith, pre.1, ap length (string_printed args.store.now r3.given.1)))
 
 enum-known-r-4 : tie.Need-enum-known-r-4
 enum-known-r-4 c = search rules
@@ -64,11 +64,11 @@ string-at-requires-2 c κs =
     let pre = c.before.before.before.before.before.before.requires in
     let r4 = c.before.before.r4 in
     let args = c.before.before.before.before.before.before.args in (
-      omega (arith, pre.0, ap bytesEnd r4.given.1),
+      omega (arith, pre.0, ap bytes_end r4.given.1),
       omega (
         arith,
         pre.1,
-        ap length (key-printed args.store.now r4.given.1),
+        ap length (key_printed args.store.now r4.given.1),
         length-append (quoted (part args.store.now r4.given.0.0 r4.given.0.1.0)) (letters ":"),
       ),
     )
@@ -82,7 +82,7 @@ byte-at-requires c κs =
     omega (
       arith,
       pre.1,
-      ap length (key-printed args.store.now r4.given.1),
+      ap length (key_printed args.store.now r4.given.1),
       length-append (quoted (part args.store.now r4.given.0.0 r4.given.0.1.0)) (letters ":"),
       string-at2.ensures.next,
       string-at2.auto.0,
@@ -96,7 +96,7 @@ binary-at-requires c κs =
     let pre = c.before.before.before.before.before.before.requires in
     let r5 = c.before.before.r5 in
     let args = c.before.before.before.before.before.before.args in
-    (omega (arith, pre.0, ap bytesEnd r5.given.1), omega (arith, pre.1, ap length (binary-printed args.store.now r5.given.1)))
+    (omega (arith, pre.0, ap bytes_end r5.given.1), omega (arith, pre.1, ap length (binary_printed args.store.now r5.given.1)))
 
 enum-known-r-6 : tie.Need-enum-known-r-6
 enum-known-r-6 c = search rules
@@ -106,7 +106,7 @@ time-at-requires c κs =
     let pre = c.before.before.before.before.before.before.requires in
     let args = c.before.before.before.before.before.before.args in
     let r6 = c.before.before.r6 in
-    omega (arith, pre.1, ap length (time-printed args.store.now r6.given.1))
+    omega (arith, pre.1, ap length (time_printed args.store.now r6.given.1))
 
 enum-told-2 : tie.Need-enum-told-2
 enum-told-2 c = search rules
@@ -115,7 +115,7 @@ byte-at-requires-2 : tie.Need-byte-at-requires-2
 byte-at-requires-2 c κs =
     let pre = c.before.before.before.before.before.requires in
     let args = c.before.before.before.before.before.args in
-    omega (arith, pre.1, ap length (array-printed args.store.now c.before.enum-told2.given.1))
+    omega (arith, pre.1, ap length (array_printed args.store.now c.before.enum-told2.given.1))
 
 enum-told-3 : tie.Need-enum-told-3
 enum-told-3 c = search rules
@@ -124,7 +124,7 @@ byte-at-requires-3 : tie.Need-byte-at-requires-3
 byte-at-requires-3 c κs =
     let pre = c.before.before.before.before.before.requires in
     let args = c.before.before.before.before.before.args in
-    omega (arith, pre.1, ap length (object-printed args.store.now c.before.enum-told3.given.1))
+    omega (arith, pre.1, ap length (object_printed args.store.now c.before.enum-told3.given.1))
 
 same_length : tie.Need-same-length
 same_length c = search rules
@@ -134,7 +134,7 @@ returns c =
     let args = c.before.before.before.before.before.before.before.before.before.args in
     let enum_told = c.before.before.before.before.before.enum_told in
     let bytes-at = c.before.before.bytes-at in
-    put_at_as (sym (null-printed args.store.now enum_told.given.1)) bytes-at.ensures
+    put_at_as (sym (null_printed args.store.now enum_told.given.1)) bytes-at.ensures
 
 same-length-2 : tie.Need-same-length-2
 same-length-2 c = search rules
@@ -144,7 +144,7 @@ returns-2 c =
     let args = c.before.before.before.before.before.before.before.before.before.args in
     let r = c.before.before.before.before.before.r in
     let bool_at = c.before.before.bool_at in
-    put_at_as (sym (bool-printed args.store.now r.given.1)) bool_at.ensures
+    put_at_as (sym (bool_printed args.store.now r.given.1)) bool_at.ensures
 
 same-length-3 : tie.Need-same-length-3
 same-length-3 c = search rules
@@ -154,7 +154,7 @@ returns-3 c =
     let args = c.before.before.before.before.before.before.before.before.before.args in
     let r2 = c.before.before.before.before.before.r2 in
     let number_at = c.before.before.number_at in
-    put_at_as (sym (number-printed args.store.now r2.given.1)) number_at.ensures
+    put_at_as (sym (number_printed args.store.now r2.given.1)) number_at.ensures
 
 same-length-4 : tie.Need-same-length-4
 same-length-4 c = search rules
@@ -164,7 +164,7 @@ returns-4 c =
     let args = c.before.before.before.before.before.before.before.before.before.args in
     let r3 = c.before.before.before.before.before.r3 in
     let string-at = c.before.before.string-at in
-    put_at_as (sym (string-printed args.store.now r3.given.1)) string-at.ensures
+    put_at_as (sym (string_printed args.store.now r3.given.1)) string-at.ensures
 
 same-length-5 : tie.Need-same-length-5
 same-length-5 c = search rules
@@ -176,7 +176,7 @@ returns-5 c =
     let pre = c.before.before.before.before.before.before.before.before.before.before.before.before.before.requires in
     let string-at2 = c.before.before.before.before.before.before.string-at2 in
     let byte_at = c.before.before.byte_at in
-    put_at_as (sym (key-printed args.store.now r4.given.1)) (put_next (omega (arith, pre.1)) string-at2.ensures byte_at.ensures)
+    put_at_as (sym (key_printed args.store.now r4.given.1)) (put_next (omega (arith, pre.1)) string-at2.ensures byte_at.ensures)
 
 same-length-6 : tie.Need-same-length-6
 same-length-6 c = search rules
@@ -186,7 +186,7 @@ returns-6 c =
     let args = c.before.before.before.before.before.before.before.before.before.args in
     let r5 = c.before.before.before.before.before.r5 in
     let binary-at = c.before.before.binary-at in
-    put_at_as (sym (binary-printed args.store.now r5.given.1)) binary-at.ensures
+    put_at_as (sym (binary_printed args.store.now r5.given.1)) binary-at.ensures
 
 same-length-7 : tie.Need-same-length-7
 same-length-7 c = search rules
@@ -196,7 +196,7 @@ returns-7 c =
     let args = c.before.before.before.before.before.before.before.before.before.args in
     let r6 = c.before.before.before.before.before.r6 in
     let time-at = c.before.before.time-at in
-    put_at_as (sym (time-printed args.store.now r6.given.1)) time-at.ensures
+    put_at_as (sym (time_printed args.store.now r6.given.1)) time-at.ensures
 
 same-length-8 : tie.Need-same-length-8
 same-length-8 c = search rules
@@ -206,7 +206,7 @@ returns-8 c =
     let args = c.before.before.before.before.before.before.before.before.args in
     let enum-told2 = c.before.before.before.before.enum-told2 in
     let byte-at2 = c.before.before.byte-at2 in
-    put_at_as (sym (array-printed args.store.now enum-told2.given.1)) byte-at2.ensures
+    put_at_as (sym (array_printed args.store.now enum-told2.given.1)) byte-at2.ensures
 
 same-length-9 : tie.Need-same-length-9
 same-length-9 c = search rules
@@ -216,10 +216,10 @@ returns-9 c =
     let args = c.before.before.before.before.before.before.before.before.args in
     let enum-told3 = c.before.before.before.before.enum-told3 in
     let byte-at3 = c.before.before.byte-at3 in
-    put_at_as (sym (object-printed args.store.now enum-told3.given.1)) byte-at3.ensures
+    put_at_as (sym (object_printed args.store.now enum-told3.given.1)) byte-at3.ensures
 
-pub printed-at-spec : {M : Type 1} → statement M
-printed-at-spec =
+pub printed_at_spec : {M : Type 1} → statement M
+printed_at_spec =
     tie.close
     (tie.spec
     enum_told

@@ -1,5 +1,5 @@
 -- `plain_run::ease`: far from each of them. Assumes nothing.
-use Rattle.writer.proofs.PlainRunLaws.{ease-of}
+use Rattle.writer.proofs.PlainRunLaws.{ease_of}
 use borrow.Author.Rules.{rules}
 use Rattle.writer.proofs.plain_run.ease.Statement.{statement}
 use Rattle.writer.proofs.plain_run.ease.Tie as tie
@@ -20,11 +20,11 @@ lesser-requires-2 : tie.Need-lesser-requires-2
 lesser-requires-2 c κs = search rules
 
 returns : tie.Need-returns
-returns c = ease-of _ _ _ _ _ _ c.before.before.before.before.above.ensures c.before.before.before.apart.ensures
+returns c = ease_of _ _ _ _ _ _ c.before.before.before.before.above.ensures c.before.before.before.apart.ensures
     c.before.before.apart2.ensures c.before.lesser.ensures c.lesser2.ensures
 
-pub ease-spec : {M : Type 1} → statement M
-ease-spec =
+pub ease_spec : {M : Type 1} → statement M
+ease_spec =
     tie.close
     (tie.spec
     above-requires

@@ -20,5 +20,5 @@ returns-2 c = last_none _
 returns-3 : tie.Need-returns-3
 returns-3 c = last_block _ _ (omega (arith, c.before.before.if1.false)) c.before.block.ensures c.if2.false
 
-pub plain-last-spec : {M : Type 1} → statement M
-plain-last-spec = tie.close (tie.spec returns sub-block block-requires returns-2 returns-3)
+pub plain_last_spec : {M : Type 1} → statement M
+plain_last_spec = tie.close (tie.spec returns sub-block block-requires returns-2 returns-3)

@@ -2,9 +2,9 @@
 use mathlib.Core.Path.{ap}
 use native.Mathlib.Omega.{arith}
 use lib.ListN.{length}
-use Rattle.meaning.specs.Canonical.{binaryText}
-use Rattle.writer.proofs.LaidLaws.{put-tail, put_at_as, tail-length}
-use Rattle.writer.proofs.PiecesLaws.{part-to}
+use Rattle.meaning.specs.Canonical.{binary_text}
+use Rattle.writer.proofs.LaidLaws.{put_tail, put_at_as, tail_length}
+use Rattle.writer.proofs.PiecesLaws.{part_to}
 use borrow.Author.Rules.{rules}
 use Rattle.writer.proofs.string_or_binary.binary_at.Statement.{statement}
 use Rattle.writer.proofs.string_or_binary.binary_at.Tie as tie
@@ -34,15 +34,15 @@ write-binary-requires : tie.Need-write-binary-requires
 write-binary-requires c κs =
     let pre = c.before.before.before.before.requires in
     let args = c.before.before.before.before.args in
-    omega (arith, pre.1, ap length (ap binaryText (part-to args.store.now args.start args.length)), tail-length args.at args.out.now)
+    omega (arith, pre.1, ap length (ap binary_text (part_to args.store.now args.start args.length)), tail_length args.at args.out.now)
 
 add-result : tie.Need-overflow-add-result
 add-result c =
     let pre = c.before.before.before.before.before.before.before.requires in
-    let good = c.before.before.before.before.before.before.before.well-formed in
+    let good = c.before.before.before.before.before.before.before.well_formed in
     let args = c.before.before.before.before.before.before.before.args in
     let write-binary = c.before.before.write-binary in
-    omega (arith, pre.1, good, ap length (ap binaryText (part-to args.store.now args.start args.length)), write-binary.ensures.size)
+    omega (arith, pre.1, good, ap length (ap binary_text (part_to args.store.now args.start args.length)), write-binary.ensures.size)
 
 same_length : tie.Need-same-length
 same_length c = search rules
@@ -51,10 +51,10 @@ returns : tie.Need-returns
 returns c =
     let args = c.before.before.before.before.before.before.before.args in
     let write-binary = c.before.before.write-binary in
-    put_at_as (ap binaryText (part-to args.store.now args.start args.length)) (put-tail write-binary.ensures)
+    put_at_as (ap binary_text (part_to args.store.now args.start args.length)) (put_tail write-binary.ensures)
 
-pub binary-at-spec : {M : Type 1} → statement M
-binary-at-spec =
+pub binary_at_spec : {M : Type 1} → statement M
+binary_at_spec =
     tie.close
     (tie.spec
     add-end

@@ -16,5 +16,5 @@ returns c = simp (lt-ltb _ _ c.if1.true)
 returns-2 : tie.Need-returns-2
 returns-2 c = simp (le-ltb _ _ c.if1.false)
 
-pub hex-digit-spec : {M : Type 1} → statement M
-hex-digit-spec = tie.close (tie.spec add-result add-result-2 returns returns-2)
+pub hex_digit_spec : {M : Type 1} → statement M
+hex_digit_spec = tie.close (tie.spec add-result add-result-2 returns returns-2)

@@ -32,8 +32,8 @@ returns c =
     let byte-at2 = c.before.before.byte-at2 in
     put_at_as (ap₂ (λ (x y : ℕ). x ∷ y ∷ []) hex-digit.ensures hex-digit2.ensures) (put_next (omega (arith, pre)) byte_at.ensures byte-at2.ensures)
 
-pub pair-at-spec : {M : Type 1} → statement M
-pair-at-spec =
+pub pair_at_spec : {M : Type 1} → statement M
+pair_at_spec =
     tie.close
     (tie.spec
     hex-digit-requires

@@ -3,8 +3,8 @@ use mathlib.Core.Path.{ap}
 use native.Mathlib.Omega.{arith}
 use lib.ListN.{length}
 use Rattle.meaning.specs.Canonical.{quoted}
-use Rattle.writer.proofs.LaidLaws.{put-tail, put_at_as, tail-length}
-use Rattle.writer.proofs.PiecesLaws.{part-to}
+use Rattle.writer.proofs.LaidLaws.{put_tail, put_at_as, tail_length}
+use Rattle.writer.proofs.PiecesLaws.{part_to}
 use borrow.Author.Rules.{rules}
 use Rattle.writer.proofs.string_or_binary.string_at.Statement.{statement}
 use Rattle.writer.proofs.string_or_binary.string_at.Tie as tie
@@ -34,15 +34,15 @@ write-string-requires : tie.Need-write-string-requires
 write-string-requires c κs =
     let pre = c.before.before.before.before.requires in
     let args = c.before.before.before.before.args in
-    omega (arith, pre.1, ap length (ap quoted (part-to args.store.now args.start args.length)), tail-length args.at args.out.now)
+    omega (arith, pre.1, ap length (ap quoted (part_to args.store.now args.start args.length)), tail_length args.at args.out.now)
 
 add-result : tie.Need-overflow-add-result
 add-result c =
     let pre = c.before.before.before.before.before.before.before.requires in
-    let good = c.before.before.before.before.before.before.before.well-formed in
+    let good = c.before.before.before.before.before.before.before.well_formed in
     let args = c.before.before.before.before.before.before.before.args in
     let write-string = c.before.before.write-string in
-    omega (arith, pre.1, good, ap length (ap quoted (part-to args.store.now args.start args.length)), write-string.ensures.size)
+    omega (arith, pre.1, good, ap length (ap quoted (part_to args.store.now args.start args.length)), write-string.ensures.size)
 
 same_length : tie.Need-same-length
 same_length c = search rules
@@ -51,10 +51,10 @@ returns : tie.Need-returns
 returns c =
     let args = c.before.before.before.before.before.before.before.args in
     let write-string = c.before.before.write-string in
-    put_at_as (ap quoted (part-to args.store.now args.start args.length)) (put-tail write-string.ensures)
+    put_at_as (ap quoted (part_to args.store.now args.start args.length)) (put_tail write-string.ensures)
 
-pub string-at-spec : {M : Type 1} → statement M
-string-at-spec =
+pub string_at_spec : {M : Type 1} → statement M
+string_at_spec =
     tie.close
     (tie.spec
     add-end

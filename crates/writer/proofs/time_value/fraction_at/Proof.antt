@@ -4,15 +4,15 @@ use mathlib.Core.List.{List, ◌++◌}
 use native.Mathlib.Omega.{arith}
 use lib.ListN.{length}
 use Rattle.meaning.specs.Letters.{letters}
-use Rattle.meaning.proofs.Digits.{fixed-length}
-use Rattle.writer.proofs.LaidLaws.{put_at_as, put-none, put_next}
-use Rattle.writer.proofs.PiecesLaws.{fraction-none, fraction-some}
+use Rattle.meaning.proofs.Digits.{fixed_length}
+use Rattle.writer.proofs.LaidLaws.{put_at_as, put_none, put_next}
+use Rattle.writer.proofs.PiecesLaws.{fraction_none, fraction_some}
 use borrow.Author.Rules.{rules}
 use Rattle.writer.proofs.time_value.fraction_at.Statement.{statement}
 use Rattle.writer.proofs.time_value.fraction_at.Tie as tie
 
 returns : tie.Need-returns
-returns c = put_at_as (sym (fraction-none c.before.before.args.n c.if1.true)) (put-none _ _)
+returns c = put_at_as (sym (fraction_none c.before.before.args.n c.if1.true)) (put_none _ _)
 
 trimmed-requires : tie.Need-trimmed-requires
 trimmed-requires c κs = search rules
@@ -26,8 +26,8 @@ byte-at-requires c κs =
     omega (
       arith,
       pre,
-      ap length (fraction-some args.n if1.false ∙ ap (λ (l : List _). letters "." ++ l) trimmed.ensures.text),
-      fixed-length trimmed.result.count trimmed.result.digits,
+      ap length (fraction_some args.n if1.false ∙ ap (λ (l : List _). letters "." ++ l) trimmed.ensures.text),
+      fixed_length trimmed.result.count trimmed.result.digits,
     )
 
 digits-at-requires : tie.Need-digits-at-requires
@@ -40,8 +40,8 @@ digits-at-requires c κs =
     omega (
       arith,
       pre,
-      ap length (fraction-some args.n if1.false ∙ ap (λ (l : List _). letters "." ++ l) trimmed.ensures.text),
-      fixed-length trimmed.result.count trimmed.result.digits,
+      ap length (fraction_some args.n if1.false ∙ ap (λ (l : List _). letters "." ++ l) trimmed.ensures.text),
+      fixed_length trimmed.result.count trimmed.result.digits,
       byte_at.ensures.next,
       byte_at.auto.0,
     )
@@ -57,10 +57,10 @@ returns-2 c =
     let pre = c.before.before.before.before.before.before.before.before.before.before.before.requires in
     let byte_at = c.before.before.before.before.before.before.byte_at in
     let digits-at = c.before.before.digits-at in
-    put_at_as (sym (fraction-some args.n if1.false ∙ ap (λ (l : List _). letters "." ++ l) trimmed.ensures.text))
+    put_at_as (sym (fraction_some args.n if1.false ∙ ap (λ (l : List _). letters "." ++ l) trimmed.ensures.text))
     (put_next (omega (arith, pre)) byte_at.ensures digits-at.ensures)
 
-pub fraction-at-spec : {M : Type 1} → statement M
-fraction-at-spec =
+pub fraction_at_spec : {M : Type 1} → statement M
+fraction_at_spec =
     tie.close
     (tie.spec returns trimmed-requires byte-at-requires digits-at-requires same_length returns-2)

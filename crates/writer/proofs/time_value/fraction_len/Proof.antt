@@ -4,14 +4,14 @@ use mathlib.Core.List.{List, ◌++◌}
 use native.Mathlib.Omega.{arith}
 use lib.ListN.{length}
 use Rattle.meaning.specs.Letters.{letters}
-use Rattle.meaning.proofs.Digits.{fixed-length}
-use Rattle.writer.proofs.PiecesLaws.{fraction-none, fraction-some}
+use Rattle.meaning.proofs.Digits.{fixed_length}
+use Rattle.writer.proofs.PiecesLaws.{fraction_none, fraction_some}
 use borrow.Author.Rules.{rules}
 use Rattle.writer.proofs.time_value.fraction_len.Statement.{statement}
 use Rattle.writer.proofs.time_value.fraction_len.Tie as tie
 
 returns : tie.Need-returns
-returns c = (sym (ap length (fraction-none c.before.args.n c.if1.true)), omega arith)
+returns c = (sym (ap length (fraction_none c.before.args.n c.if1.true)), omega arith)
 
 trimmed-requires : tie.Need-trimmed-requires
 trimmed-requires c κs = search rules
@@ -26,11 +26,11 @@ returns-2 c =
     let trimmed = c.before.trimmed in (
       omega (
         arith,
-        ap length (fraction-some args.n if1.false ∙ ap (λ (l : List _). letters "." ++ l) trimmed.ensures.text),
-        fixed-length trimmed.result.count trimmed.result.digits,
+        ap length (fraction_some args.n if1.false ∙ ap (λ (l : List _). letters "." ++ l) trimmed.ensures.text),
+        fixed_length trimmed.result.count trimmed.result.digits,
       ),
       omega (arith, trimmed.ensures.few),
     )
 
-pub fraction-len-spec : {M : Type 1} → statement M
-fraction-len-spec = tie.close (tie.spec returns trimmed-requires add-result returns-2)
+pub fraction_len_spec : {M : Type 1} → statement M
+fraction_len_spec = tie.close (tie.spec returns trimmed-requires add-result returns-2)

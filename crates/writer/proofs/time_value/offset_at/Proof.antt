@@ -3,14 +3,14 @@ use mathlib.Core.Path.{sym, ap}
 use native.Mathlib.Omega.{arith}
 use lib.ListN.{length}
 use Rattle.writer.proofs.LaidLaws.{put_at_as, put_next}
-use Rattle.writer.proofs.NumberSignLaws.{offset-cast, offset-sign}
-use Rattle.writer.proofs.PiecesLaws.{offset-at-zero, offset-below, offset-above}
+use Rattle.writer.proofs.NumberSignLaws.{offset_cast, offset_sign}
+use Rattle.writer.proofs.PiecesLaws.{offset_at_zero, offset_below, offset_above}
 use borrow.Author.Rules.{rules}
 use Rattle.writer.proofs.time_value.offset_at.Statement.{statement}
 use Rattle.writer.proofs.time_value.offset_at.Tie as tie
 
 cast-sign-and-size : tie.Need-overflow-cast-sign-and-size
-cast-sign-and-size c = offset-cast _ c.before.ranges.offset
+cast-sign-and-size c = offset_cast _ c.before.ranges.offset
 
 sign-and-size-requires : tie.Need-sign-and-size-requires
 sign-and-size-requires c κs = search rules
@@ -20,7 +20,7 @@ byte-at-requires c κs =
     let pre = c.before.before.before.before.requires in
     let sign-and-size = c.before.before.sign-and-size in
     let fits = c.before.before.before.before.ranges in
-    omega (arith, pre, ap length (offset-at-zero _ sign-and-size.result (offset-sign _ fits.offset _ sign-and-size.ensures) c.before.if1.true))
+    omega (arith, pre, ap length (offset_at_zero _ sign-and-size.result (offset_sign _ fits.offset _ sign-and-size.ensures) c.before.if1.true))
 
 same_length : tie.Need-same-length
 same_length c = search rules
@@ -31,7 +31,7 @@ returns c =
     let fits = c.before.before.before.before.before.before.before.ranges in
     let if1 = c.before.before.before.before.if1 in
     let byte_at = c.before.before.byte_at in
-    put_at_as (sym (offset-at-zero _ sign-and-size.result (offset-sign _ fits.offset _ sign-and-size.ensures) if1.true)) byte_at.ensures
+    put_at_as (sym (offset_at_zero _ sign-and-size.result (offset_sign _ fits.offset _ sign-and-size.ensures) if1.true)) byte_at.ensures
 
 byte-at-requires-2 : tie.Need-byte-at-requires-2
 byte-at-requires-2 c κs =
@@ -42,7 +42,7 @@ byte-at-requires-2 c κs =
     omega (
       arith,
       pre,
-      ap length (offset-below _ sign-and-size.result (offset-sign _ fits.offset _ sign-and-size.ensures) if1.false
+      ap length (offset_below _ sign-and-size.result (offset_sign _ fits.offset _ sign-and-size.ensures) if1.false
           c.before.if2.true),
     )
 
@@ -57,7 +57,7 @@ minutes-at-requires c κs =
     omega (
       arith,
       pre,
-      ap length (offset-below _ sign-and-size.result (offset-sign _ fits.offset _ sign-and-size.ensures) if1.false if2.true),
+      ap length (offset_below _ sign-and-size.result (offset_sign _ fits.offset _ sign-and-size.ensures) if1.false if2.true),
       byte-at2.ensures.next,
       byte-at2.auto.0,
     )
@@ -74,7 +74,7 @@ returns-2 c =
     let pre = c.before.before.before.before.before.before.before.before.before.before.before.before.requires in
     let byte-at2 = c.before.before.before.before.before.before.byte-at2 in
     let minutes-at = c.before.before.minutes-at in
-    put_at_as (sym (offset-below _ sign-and-size.result (offset-sign _ fits.offset _ sign-and-size.ensures) if1.false if2.true))
+    put_at_as (sym (offset_below _ sign-and-size.result (offset_sign _ fits.offset _ sign-and-size.ensures) if1.false if2.true))
     (put_next (omega (arith, pre)) byte-at2.ensures minutes-at.ensures)
 
 byte-at-requires-3 : tie.Need-byte-at-requires-3
@@ -86,7 +86,7 @@ byte-at-requires-3 c κs =
     omega (
       arith,
       pre,
-      ap length (offset-above _ sign-and-size.result (offset-sign _ fits.offset _ sign-and-size.ensures) if1.false
+      ap length (offset_above _ sign-and-size.result (offset_sign _ fits.offset _ sign-and-size.ensures) if1.false
           c.before.if2.false),
     )
 
@@ -101,7 +101,7 @@ minutes-at-requires-2 c κs =
     omega (
       arith,
       pre,
-      ap length (offset-above _ sign-and-size.result (offset-sign _ fits.offset _ sign-and-size.ensures) if1.false if2.false),
+      ap length (offset_above _ sign-and-size.result (offset_sign _ fits.offset _ sign-and-size.ensures) if1.false if2.false),
       byte-at3.ensures.next,
       byte-at3.auto.0,
     )
@@ -118,11 +118,11 @@ returns-3 c =
     let pre = c.before.before.before.before.before.before.before.before.before.before.before.before.requires in
     let byte-at3 = c.before.before.before.before.before.before.byte-at3 in
     let minutes-at2 = c.before.before.minutes-at2 in
-    put_at_as (sym (offset-above _ sign-and-size.result (offset-sign _ fits.offset _ sign-and-size.ensures) if1.false if2.false))
+    put_at_as (sym (offset_above _ sign-and-size.result (offset_sign _ fits.offset _ sign-and-size.ensures) if1.false if2.false))
     (put_next (omega (arith, pre)) byte-at3.ensures minutes-at2.ensures)
 
-pub offset-at-spec : {M : Type 1} → statement M
-offset-at-spec =
+pub offset_at_spec : {M : Type 1} → statement M
+offset_at_spec =
     tie.close
     (tie.spec
     cast-sign-and-size

@@ -1,5 +1,5 @@
 -- `time_value::time_at`: the part that was lent, come back. Assumes nothing.
-use Rattle.writer.proofs.LaidLaws.{put-tail}
+use Rattle.writer.proofs.LaidLaws.{put_tail}
 use borrow.Author.Rules.{rules}
 use Rattle.writer.proofs.time_value.time_at.Statement.{statement}
 use Rattle.writer.proofs.time_value.time_at.Tie as tie
@@ -23,10 +23,10 @@ same_length : tie.Need-same-length
 same_length c = search rules
 
 returns : tie.Need-returns
-returns c = put-tail c.before.before.write-time.ensures
+returns c = put_tail c.before.before.write-time.ensures
 
-pub time-at-spec : {M : Type 1} → statement M
-time-at-spec =
+pub time_at_spec : {M : Type 1} → statement M
+time_at_spec =
     tie.close
     (tie.spec
     sub-write-time

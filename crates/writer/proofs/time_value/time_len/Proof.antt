@@ -4,10 +4,10 @@ use native.Mathlib.Omega.{arith}
 use lib.ListN.{length}
 use mir.Syntax.{w16}
 use mir.Val.{SFits}
-use Rattle.meaning.specs.Canonical.{timeText}
-use Rattle.meaning.proofs.Text.{date-length}
-use Rattle.writer.proofs.NumberSignLaws.{offset-held}
-use Rattle.writer.proofs.PiecesLaws.{date-alone, clock-alone, local-date-time-length, offset-date-time-length}
+use Rattle.meaning.specs.Canonical.{time_text}
+use Rattle.meaning.proofs.Text.{date_length}
+use Rattle.writer.proofs.NumberSignLaws.{offset_held}
+use Rattle.writer.proofs.PiecesLaws.{date_alone, clock_alone, local_date_time_length, offset_date_time_length}
 use borrow.Author.Rules.{rules}
 use Rattle.writer.proofs.time_value.time_len.Statement.{statement}
 use Rattle.writer.proofs.time_value.time_len.Tie as tie
@@ -46,15 +46,15 @@ add-result-3 : tie.Need-overflow-add-result-3
 add-result-3 c = search rules
 
 returns : tie.Need-returns
-returns c = sym (ap length (ap timeText c.enum_told.given.1 ∙ date-alone _) ∙ date-length _)
+returns c = sym (ap length (ap time_text c.enum_told.given.1 ∙ date_alone _) ∙ date_length _)
 
 returns-2 : tie.Need-returns-2
-returns-2 c = c.clock-len.ensures.0 ∙ sym (ap length (ap timeText c.before.before.t.given.1 ∙ clock-alone _))
+returns-2 c = c.clock-len.ensures.0 ∙ sym (ap length (ap time_text c.before.before.t.given.1 ∙ clock_alone _))
 
 returns-3 : tie.Need-returns-3
 returns-3 c =
     let t2 = c.before.before.t2 in
-    omega (arith, c.clock-len2.ensures.0, ap length (ap timeText t2.given.1), local-date-time-length t2.given.0.0 t2.given.0.1.0)
+    omega (arith, c.clock-len2.ensures.0, ap length (ap time_text t2.given.1), local_date_time_length t2.given.0.0 t2.given.0.1.0)
 
 returns-4 : tie.Need-returns-4
 returns-4 c =
@@ -65,13 +65,13 @@ returns-4 c =
       arith,
       c.before.clock-len3.ensures.0,
       c.offset-len.ensures.0,
-      ap length (offset-held t3.given.0.1.1.0 f),
-      ap length (ap timeText t3.given.1),
-      offset-date-time-length t3.given.0.0 t3.given.0.1.0 t3.given.0.1.1.0,
+      ap length (offset_held t3.given.0.1.1.0 f),
+      ap length (ap time_text t3.given.1),
+      offset_date_time_length t3.given.0.0 t3.given.0.1.0 t3.given.0.1.1.0,
     )
 
-pub time-len-spec : {M : Type 1} → statement M
-time-len-spec =
+pub time_len_spec : {M : Type 1} → statement M
+time_len_spec =
     tie.close
     (tie.spec
     enum_told

@@ -2,11 +2,11 @@
 use mathlib.Core.Path.{sym, ap, ◌∙◌}
 use native.Mathlib.Omega.{arith}
 use lib.ListN.{length}
-use Rattle.meaning.specs.Canonical.{timeText}
-use Rattle.meaning.proofs.Text.{date-length}
+use Rattle.meaning.specs.Canonical.{time_text}
+use Rattle.meaning.proofs.Text.{date_length}
 use Rattle.writer.proofs.LaidLaws.{put_as, put_at_as, put_next, put_whole}
-use Rattle.writer.proofs.NumberSignLaws.{offset-held}
-use Rattle.writer.proofs.PiecesLaws.{date-alone, clock-alone, local-date-time, offset-date-time, local-date-time-length, offset-date-time-length}
+use Rattle.writer.proofs.NumberSignLaws.{offset_held}
+use Rattle.writer.proofs.PiecesLaws.{date_alone, clock_alone, local_date_time, offset_date_time, local_date_time_length, offset_date_time_length}
 use borrow.Author.Rules.{rules}
 use Rattle.writer.proofs.time_value.write_time.Statement.{statement}
 use Rattle.writer.proofs.time_value.write_time.Tie as tie
@@ -18,7 +18,7 @@ date-at-requires : tie.Need-date-at-requires
 date-at-requires c κs =
     let pre = c.before.before.before.before.before.requires in
     let t = c.before.before.t in
-    omega (arith, pre, ap length (ap timeText t.given.1 ∙ date-alone t.given.0.0))
+    omega (arith, pre, ap length (ap time_text t.given.1 ∙ date_alone t.given.0.0))
 
 enum-known-t-2 : tie.Need-enum-known-t-2
 enum-known-t-2 c = search rules
@@ -27,7 +27,7 @@ clock-at-requires : tie.Need-clock-at-requires
 clock-at-requires c κs =
     let pre = c.before.before.before.before.before.requires in
     let t2 = c.before.before.t2 in
-    omega (arith, pre, ap length (ap timeText t2.given.1 ∙ clock-alone t2.given.0.0))
+    omega (arith, pre, ap length (ap time_text t2.given.1 ∙ clock_alone t2.given.0.0))
 
 enum-known-t-3 : tie.Need-enum-known-t-3
 enum-known-t-3 c = search rules
@@ -36,7 +36,7 @@ date-at-requires-2 : tie.Need-date-at-requires-2
 date-at-requires-2 c κs =
     let pre = c.before.before.before.before.before.requires in
     let t3 = c.before.before.t3 in
-    omega (arith, pre, ap length (ap timeText t3.given.1), local-date-time-length t3.given.0.0 t3.given.0.1.0, date-length t3.given.0.0)
+    omega (arith, pre, ap length (ap time_text t3.given.1), local_date_time_length t3.given.0.0 t3.given.0.1.0, date_length t3.given.0.0)
 
 byte-at-requires : tie.Need-byte-at-requires
 byte-at-requires c κs =
@@ -46,9 +46,9 @@ byte-at-requires c κs =
     omega (
       arith,
       pre,
-      ap length (ap timeText t3.given.1),
-      local-date-time-length t3.given.0.0 t3.given.0.1.0,
-      date-length t3.given.0.0,
+      ap length (ap time_text t3.given.1),
+      local_date_time_length t3.given.0.0 t3.given.0.1.0,
+      date_length t3.given.0.0,
       date-at2.ensures.next,
       date-at2.auto.0,
     )
@@ -62,9 +62,9 @@ clock-at-requires-2 c κs =
     omega (
       arith,
       pre,
-      ap length (ap timeText t3.given.1),
-      local-date-time-length t3.given.0.0 t3.given.0.1.0,
-      date-length t3.given.0.0,
+      ap length (ap time_text t3.given.1),
+      local_date_time_length t3.given.0.0 t3.given.0.1.0,
+      date_length t3.given.0.0,
       date-at2.ensures.next,
       date-at2.auto.0,
       byte_at.ensures.next,
@@ -81,9 +81,9 @@ date-at-requires-3 c κs =
     omega (
       arith,
       pre,
-      ap length (ap timeText t4.given.1),
-      offset-date-time-length t4.given.0.0 t4.given.0.1.0 t4.given.0.1.1.0,
-      date-length t4.given.0.0,
+      ap length (ap time_text t4.given.1),
+      offset_date_time_length t4.given.0.0 t4.given.0.1.0 t4.given.0.1.1.0,
+      date_length t4.given.0.0,
     )
 
 byte-at-requires-2 : tie.Need-byte-at-requires-2
@@ -94,9 +94,9 @@ byte-at-requires-2 c κs =
     omega (
       arith,
       pre,
-      ap length (ap timeText t4.given.1),
-      offset-date-time-length t4.given.0.0 t4.given.0.1.0 t4.given.0.1.1.0,
-      date-length t4.given.0.0,
+      ap length (ap time_text t4.given.1),
+      offset_date_time_length t4.given.0.0 t4.given.0.1.0 t4.given.0.1.1.0,
+      date_length t4.given.0.0,
       date-at3.ensures.next,
       date-at3.auto.0,
     )
@@ -110,9 +110,9 @@ clock-at-requires-3 c κs =
     omega (
       arith,
       pre,
-      ap length (ap timeText t4.given.1),
-      offset-date-time-length t4.given.0.0 t4.given.0.1.0 t4.given.0.1.1.0,
-      date-length t4.given.0.0,
+      ap length (ap time_text t4.given.1),
+      offset_date_time_length t4.given.0.0 t4.given.0.1.0 t4.given.0.1.1.0,
+      date_length t4.given.0.0,
       date-at3.ensures.next,
       date-at3.auto.0,
       byte-at2.ensures.next,
@@ -130,16 +130,16 @@ offset-at-requires c κs =
     omega (
       arith,
       pre,
-      ap length (ap timeText t4.given.1),
-      offset-date-time-length t4.given.0.0 t4.given.0.1.0 t4.given.0.1.1.0,
-      date-length t4.given.0.0,
+      ap length (ap time_text t4.given.1),
+      offset_date_time_length t4.given.0.0 t4.given.0.1.0 t4.given.0.1.1.0,
+      date_length t4.given.0.0,
       date-at3.ensures.next,
       date-at3.auto.0,
       byte-at2.ensures.next,
       byte-at2.auto.0,
       clock-at3.ensures.next,
       clock-at3.auto.0,
-      ap length (offset-held t4.given.0.1.1.0 (record { sfits = known-told4.given.1.1.0.1 })),
+      ap length (offset_held t4.given.0.1.1.0 (record { sfits = known-told4.given.1.1.0.1 })),
     )
 
 same_length : tie.Need-same-length
@@ -149,7 +149,7 @@ returns : tie.Need-returns
 returns c =
     let t = c.before.before.before.before.before.t in
     let date-at = c.before.before.date-at in
-    put_as (sym (ap timeText t.given.1 ∙ date-alone t.given.0.0)) (put_whole date-at.ensures)
+    put_as (sym (ap time_text t.given.1 ∙ date_alone t.given.0.0)) (put_whole date-at.ensures)
 
 same-length-2 : tie.Need-same-length-2
 same-length-2 c = search rules
@@ -158,7 +158,7 @@ returns-2 : tie.Need-returns-2
 returns-2 c =
     let t2 = c.before.before.before.before.before.t2 in
     let clock-at = c.before.before.clock-at in
-    put_as (sym (ap timeText t2.given.1 ∙ clock-alone t2.given.0.0)) (put_whole clock-at.ensures)
+    put_as (sym (ap time_text t2.given.1 ∙ clock_alone t2.given.0.0)) (put_whole clock-at.ensures)
 
 same-length-3 : tie.Need-same-length-3
 same-length-3 c = search rules
@@ -169,7 +169,7 @@ returns-3 c =
     let date-at2 = c.before.before.before.before.before.before.before.before.before.before.date-at2 in
     let byte_at = c.before.before.before.before.before.before.byte_at in
     let clock-at2 = c.before.before.clock-at2 in
-    put_as (sym (ap timeText t3.given.1 ∙ local-date-time t3.given.0.0 t3.given.0.1.0))
+    put_as (sym (ap time_text t3.given.1 ∙ local_date_time t3.given.0.0 t3.given.0.1.0))
     (put_whole (put_next (omega arith) (put_next (omega arith) date-at2.ensures byte_at.ensures) clock-at2.ensures))
 
 same-length-4 : tie.Need-same-length-4
@@ -183,12 +183,12 @@ returns-4 c =
     let clock-at3 = c.before.before.before.before.before.before.clock-at3 in
     let known-told4 = c.before.before.before.before.before.before.before.before.before.before.before.before.before.before.before.before.known-told4 in
     let offset_at = c.before.before.offset_at in
-    put_as (sym (ap timeText t4.given.1 ∙ offset-date-time t4.given.0.0 t4.given.0.1.0 t4.given.0.1.1.0))
+    put_as (sym (ap time_text t4.given.1 ∙ offset_date_time t4.given.0.0 t4.given.0.1.0 t4.given.0.1.1.0))
     (put_whole (put_next (omega arith) (put_next (omega arith) (put_next (omega arith) date-at3.ensures byte-at2.ensures) clock-at3.ensures)
-    (put_at_as (offset-held t4.given.0.1.1.0 (record { sfits = known-told4.given.1.1.0.1 })) offset_at.ensures)))
+    (put_at_as (offset_held t4.given.0.1.1.0 (record { sfits = known-told4.given.1.1.0.1 })) offset_at.ensures)))
 
-pub write-time-spec : {M : Type 1} → statement M
-write-time-spec =
+pub write_time_spec : {M : Type 1} → statement M
+write_time_spec =
     tie.close
     (tie.spec
     enum-known-t

@@ -1,4 +1,4 @@
-use Rattle.reader.proofs.CursorBracketLaws.{after-broken, after-end, after-comma, after-close, after-wrong}
+use Rattle.reader.proofs.CursorBracketLaws.{after_broken, after_end, after_comma, after_close, after_wrong}
 use borrow.Author.Rules.{rules}
 use Rattle.reader.proofs.cursor.Cursor.after.Statement.{statement}
 use Rattle.reader.proofs.cursor.Cursor.after.Tie as tie
@@ -20,7 +20,7 @@ returns c =
     let a = c.before.before.before.before.before.before.args in
     let pass = c.before.before.before.before.pass in
     let at' = c.before.before.at in
-    after-end a.text.now a.self a.closing at'.given.0.0 (rw at'.given.1 at pass.ensures) c.if1.true
+    after_end a.text.now a.self a.closing at'.given.0.0 (rw at'.given.1 at pass.ensures) c.if1.true
 
 shared-slice-read-b : tie.Need-shared-slice-read-b
 shared-slice-read-b c = search rules
@@ -33,7 +33,7 @@ returns-2 c =
     let a = c.before.before.before.before.before.before.before.before.args in
     let pass = c.before.before.before.before.before.before.pass in
     let at' = c.before.before.before.before.at in
-    after-comma a.text.now a.self a.closing at'.given.0.0 (rw at'.given.1 at pass.ensures)
+    after_comma a.text.now a.self a.closing at'.given.0.0 (rw at'.given.1 at pass.ensures)
     c.before.before.if1.false c.if2.true
 
 add-t17 : tie.Need-overflow-add-t17
@@ -44,13 +44,13 @@ returns-3 c =
     let a = c.before.before.before.before.before.before.before.before.before.args in
     let pass = c.before.before.before.before.before.before.before.pass in
     let at' = c.before.before.before.before.before.at in
-    after-close a.text.now a.self a.closing at'.given.0.0 (rw at'.given.1 at pass.ensures)
+    after_close a.text.now a.self a.closing at'.given.0.0 (rw at'.given.1 at pass.ensures)
     c.before.before.before.if1.false c.if3.true
 
 returns-4 : tie.Need-returns-4
 returns-4 c =
     let a = c.before.before.before.before.before.args in
-    after-broken a.text.now a.self a.closing c.before.p.given.0.0
+    after_broken a.text.now a.self a.closing c.before.p.given.0.0
     (rw c.before.p.given.1 at c.before.before.before.pass.ensures)
 
 returns-5 : tie.Need-returns-5
@@ -58,11 +58,11 @@ returns-5 c =
     let a = c.before.before.before.before.before.before.before.before.before.args in
     let pass = c.before.before.before.before.before.before.before.pass in
     let at' = c.before.before.before.before.before.at in
-    after-wrong a.text.now a.self a.closing at'.given.0.0 (rw at'.given.1 at pass.ensures)
+    after_wrong a.text.now a.self a.closing at'.given.0.0 (rw at'.given.1 at pass.ensures)
     c.before.before.before.if1.false c.before.if2.false c.if3.false
 
-pub after-spec : {M : Type 1} → statement M
-after-spec =
+pub after_spec : {M : Type 1} → statement M
+after_spec =
     tie.close
     (tie.spec
     pass-requires

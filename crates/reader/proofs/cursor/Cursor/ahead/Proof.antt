@@ -1,4 +1,4 @@
-use Rattle.reader.proofs.CursorBracketLaws.{ahead-broken, ahead-end, ahead-close, ahead_more}
+use Rattle.reader.proofs.CursorBracketLaws.{ahead_broken, ahead_end, ahead_close, ahead_more}
 use borrow.Author.Rules.{rules}
 use Rattle.reader.proofs.cursor.Cursor.ahead.Statement.{statement}
 use Rattle.reader.proofs.cursor.Cursor.ahead.Tie as tie
@@ -20,7 +20,7 @@ returns c =
     let a = c.before.before.before.before.before.before.args in
     let pass = c.before.before.before.before.pass in
     let at' = c.before.before.at in
-    ahead-end a.text.now a.self a.closing at'.given.0.0 (rw at'.given.1 at pass.ensures) c.if1.true
+    ahead_end a.text.now a.self a.closing at'.given.0.0 (rw at'.given.1 at pass.ensures) c.if1.true
 
 shared-slice-read-if2 : tie.Need-shared-slice-read-if2
 shared-slice-read-if2 c = search rules
@@ -33,13 +33,13 @@ returns-2 c =
     let a = c.before.before.before.before.before.before.before.before.args in
     let pass = c.before.before.before.before.before.before.pass in
     let at' = c.before.before.before.before.at in
-    ahead-close a.text.now a.self a.closing at'.given.0.0 (rw at'.given.1 at pass.ensures)
+    ahead_close a.text.now a.self a.closing at'.given.0.0 (rw at'.given.1 at pass.ensures)
     c.before.before.if1.false c.if2.true
 
 returns-3 : tie.Need-returns-3
 returns-3 c =
     let a = c.before.before.before.before.before.args in
-    ahead-broken a.text.now a.self a.closing c.before.p.given.0.0
+    ahead_broken a.text.now a.self a.closing c.before.p.given.0.0
     (rw c.before.p.given.1 at c.before.before.before.pass.ensures)
 
 returns-4 : tie.Need-returns-4
@@ -50,8 +50,8 @@ returns-4 c =
     ahead_more a.text.now a.self a.closing at'.given.0.0 (rw at'.given.1 at pass.ensures)
     c.before.before.if1.false c.if2.false
 
-pub ahead-spec : {M : Type 1} → statement M
-ahead-spec =
+pub ahead_spec : {M : Type 1} → statement M
+ahead_spec =
     tie.close
     (tie.spec
     pass-requires

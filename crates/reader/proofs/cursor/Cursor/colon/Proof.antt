@@ -1,4 +1,4 @@
-use Rattle.reader.proofs.CursorBracketLaws.{colon-broken, colon-end, colon-wrong, colon-breaks, colon-key}
+use Rattle.reader.proofs.CursorBracketLaws.{colon_broken, colon_end, colon_wrong, colon_breaks, colon_key}
 use borrow.Author.Rules.{rules}
 use Rattle.reader.proofs.cursor.Cursor.colon.Statement.{statement}
 use Rattle.reader.proofs.cursor.Cursor.colon.Tie as tie
@@ -20,7 +20,7 @@ returns c =
     let a = c.before.before.before.before.before.before.args in
     let pass = c.before.before.before.before.pass in
     let at' = c.before.before.at in
-    colon-end a.text.now a.self a.n at'.given.0.0 (rw at'.given.1 at pass.ensures) c.if1.true
+    colon_end a.text.now a.self a.n at'.given.0.0 (rw at'.given.1 at pass.ensures) c.if1.true
 
 shared-slice-read-if2 : tie.Need-shared-slice-read-if2
 shared-slice-read-if2 c = search rules
@@ -30,7 +30,7 @@ returns-2 c =
     let a = c.before.before.before.before.before.before.before.before.args in
     let pass = c.before.before.before.before.before.before.pass in
     let at' = c.before.before.before.before.at in
-    colon-wrong a.text.now a.self a.n at'.given.0.0 (rw at'.given.1 at pass.ensures)
+    colon_wrong a.text.now a.self a.n at'.given.0.0 (rw at'.given.1 at pass.ensures)
     c.before.before.if1.false c.if2.true
 
 add-pass : tie.Need-overflow-add-pass
@@ -48,7 +48,7 @@ enum-known-next c = search rules
 returns-3 : tie.Need-returns-3
 returns-3 c =
     let a = c.before.before.before.before.before.args in
-    colon-broken a.text.now a.self a.n c.before.p.given.0.0
+    colon_broken a.text.now a.self a.n c.before.p.given.0.0
     (rw c.before.p.given.1 at c.before.before.before.pass.ensures)
 
 returns-4 : tie.Need-returns-4
@@ -58,7 +58,7 @@ returns-4 c =
     let at' = c.before.before.before.before.before.before.before.before.at in
     let if1 = c.before.before.before.before.before.before.if1 in
     let if2 = c.before.before.before.before.if2 in
-    colon-breaks a.text.now a.self a.n at'.given.0.0 (rw at'.given.1 at pass.ensures) if1.false
+    colon_breaks a.text.now a.self a.n at'.given.0.0 (rw at'.given.1 at pass.ensures) if1.false
     if2.false c.before.p2.given.0.0 (rw c.before.p2.given.1 at c.before.before.before.pass2.ensures)
 
 returns-5 : tie.Need-returns-5
@@ -68,12 +68,12 @@ returns-5 c =
     let at' = c.before.before.before.before.before.before.before.before.at in
     let if1 = c.before.before.before.before.before.before.if1 in
     let if2 = c.before.before.before.before.if2 in
-    colon-key a.text.now a.self a.n at'.given.0.0 (rw at'.given.1 at pass.ensures) if1.false
+    colon_key a.text.now a.self a.n at'.given.0.0 (rw at'.given.1 at pass.ensures) if1.false
     if2.false c.before.next.given.0.0
     (rw c.before.next.given.1 at c.before.before.before.pass2.ensures)
 
-pub colon-spec : {M : Type 1} → statement M
-colon-spec =
+pub colon_spec : {M : Type 1} → statement M
+colon_spec =
     tie.close
     (tie.spec
     pass-requires

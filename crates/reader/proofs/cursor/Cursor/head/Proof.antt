@@ -1,7 +1,7 @@
 use native.Mathlib.Omega.{arith}
 use mathlib.Core.Path.{refl, ap, ◌≡◌}
 use Prim.Native.Nat.{◌+◌}
-use Rattle.reader.proofs.CursorBracketLaws.{none-wanted, opens-array, opens-object}
+use Rattle.reader.proofs.CursorBracketLaws.{none_wanted, opens_array, opens_object}
 use borrow.Author.Rules.{rules}
 use Rattle.reader.proofs.cursor.Cursor.head.Statement.{statement}
 use Rattle.reader.proofs.cursor.Cursor.head.Tie as tie
@@ -11,7 +11,7 @@ use Rattle.reader.proofs.cursor.scalar.Reads as scalar-reads
 use Rattle.reader.proofs.cursor.stored_by.Reads as stored-by-reads
 
 returns : tie.Need-returns
-returns c = none-wanted c.before.before.before.args.text.now c.before.before.before.args.self c.if1.true
+returns c = none_wanted c.before.before.before.args.text.now c.before.before.before.args.self c.if1.true
 
 shared-slice-read-b : tie.Need-shared-slice-read-b
 shared-slice-read-b c = search rules
@@ -22,7 +22,7 @@ add-t14 c = search rules
 returns-2 : tie.Need-returns-2
 returns-2 c =
     let a = c.before.before.before.before.before.args in
-    (opens-array a.text.now a.self c.before.before.if1.false c.if2.true, refl)
+    (opens_array a.text.now a.self c.before.before.if1.false c.if2.true, refl)
 
 add-t16 : tie.Need-overflow-add-t16
 add-t16 c = search rules
@@ -30,7 +30,7 @@ add-t16 c = search rules
 returns-3 : tie.Need-returns-3
 returns-3 c =
     let a = c.before.before.before.before.before.before.args in
-    (opens-object a.text.now a.self c.before.before.before.if1.false c.if3.true, refl)
+    (opens_object a.text.now a.self c.before.before.before.if1.false c.if3.true, refl)
 
 scalar-requires : tie.Need-scalar-requires
 scalar-requires c κs = search rules

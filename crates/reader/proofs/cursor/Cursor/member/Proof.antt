@@ -1,5 +1,5 @@
 use native.Mathlib.Omega.{arith}
-use Rattle.reader.proofs.CursorBracketLaws.{member-refused, member-says}
+use Rattle.reader.proofs.CursorBracketLaws.{member_refused, member_says}
 use borrow.Author.Rules.{rules}
 use Rattle.reader.proofs.cursor.Cursor.member.Statement.{statement}
 use Rattle.reader.proofs.cursor.Cursor.member.Tie as tie
@@ -41,7 +41,7 @@ returns c =
     let a = c.before.before.before.before.before.before.before.before.before.args in
     let pre = c.before.before.before.before.before.before.before.before.before.requires in
     let key = c.before.before.before.before.before.key in
-    member-refused a.text.now a.self a.store.now pre c.before.why.given.0.0
+    member_refused a.text.now a.self a.store.now pre c.before.why.given.0.0
     (rw c.before.why.given.1 at key.ensures)
 
 same-length-2 : tie.Need-same-length-2
@@ -52,11 +52,11 @@ returns-2 c =
     let a = c.before.before.before.before.before.before.before.before.before.before.before.before.args in
     let key = c.before.before.before.before.before.before.before.before.key in
     let n = c.before.before.before.before.n in
-    member-says a.text.now a.self a.store.now _ n.given.0.1.0 n.given.0.0
+    member_says a.text.now a.self a.store.now _ n.given.0.1.0 n.given.0.0
     (rw n.given.1 at key.ensures) c.colon.result c.colon.ensures
 
-pub member-spec : {M : Type 1} → statement M
-member-spec =
+pub member_spec : {M : Type 1} → statement M
+member_spec =
     tie.close
     (tie.spec
     key-requires

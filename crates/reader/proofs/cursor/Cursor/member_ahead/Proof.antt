@@ -1,5 +1,5 @@
 use mathlib.Core.Path.{refl}
-use Rattle.reader.proofs.CursorBracketLaws.{member-at, member-none, member-key, member-tabled, member-begins}
+use Rattle.reader.proofs.CursorBracketLaws.{member_at, member_none, member_key, member_tabled, member_begins}
 use borrow.Author.Rules.{rules}
 use Rattle.reader.proofs.cursor.Cursor.member_ahead.Statement.{statement}
 use Rattle.reader.proofs.cursor.Cursor.member_ahead.Tie as tie
@@ -23,7 +23,7 @@ enum-known-first : tie.Need-enum-known-first
 enum-known-first c = search rules
 
 member-requires : tie.Need-member-requires
-member-requires c κs = member-at _ _ _ (rw c.before.before.first.given.1 at c.before.before.before.before.ahead.ensures)
+member-requires c κs = member_at _ _ _ (rw c.before.before.first.given.1 at c.before.before.before.before.ahead.ensures)
     c.before.before.before.before.before.before.before.before.before.requires.0
 
 enum-known-why-2 : tie.Need-enum-known-why-2
@@ -38,9 +38,9 @@ put-record-requires c κs = search rules
 note-requires : tie.Need-note-requires
 note-requires c κs = let h = rw c.before.before.before.before.before.before.before.before.before.before.before.before.before.first.given.1 at
     c.before.before.before.before.before.before.before.before.before.before.before.before.before.before.before.ahead.ensures in (
-      member-key _ _ _ h _ _ _ _ c.before.before.before.before.before.before.before.before.before.before.before.before.before.before.before.before.before.before.before.before.requires.0 (rw c.before.before.before.before.before.before.n.given.1 at
+      member_key _ _ _ h _ _ _ _ c.before.before.before.before.before.before.before.before.before.before.before.before.before.before.before.before.before.before.before.before.requires.0 (rw c.before.before.before.before.before.before.n.given.1 at
           c.before.before.before.before.before.before.before.before.before.before.member.ensures),
-      member-tabled _ _ _ h _ c.before.before.before.before.before.before.before.before.before.before.before.before.before.before.before.before.before.before.before.before.requires.0 c.before.before.before.before.before.before.before.before.before.before.before.before.before.before.before.before.before.before.before.before.requires.1,
+      member_tabled _ _ _ h _ c.before.before.before.before.before.before.before.before.before.before.before.before.before.before.before.before.before.before.before.before.requires.0 c.before.before.before.before.before.before.before.before.before.before.before.before.before.before.before.before.before.before.before.before.requires.1,
     )
 
 returns : tie.Need-returns
@@ -53,7 +53,7 @@ same_length : tie.Need-same-length
 same_length c = search rules
 
 returns-3 : tie.Need-returns-3
-returns-3 c = member-none _ _ _ (rw c.before.before.before.before.before.before.before.before.first.given.1 at
+returns-3 c = member_none _ _ _ (rw c.before.before.before.before.before.before.before.before.first.given.1 at
     c.before.before.before.before.before.before.before.before.before.before.ahead.ensures) _
     (rw c.before.why2.given.1 at c.before.before.before.before.before.member.ensures)
 
@@ -68,13 +68,13 @@ same-length-4 c = search rules
 
 returns-4 : tie.Need-returns-4
 returns-4 c = let h = rw c.before.before.before.before.before.before.before.before.before.before.before.before.before.before.before.before.first.given.1 at c.before.before.before.before.before.before.before.before.before.before.before.before.before.before.before.before.before.before.ahead.ensures in
-    member-begins _ _ _ h _ _ _ _ _ _ _ _ c.before.before.before.before.before.before.before.before.before.before.before.before.before.before.before.before.before.before.before.before.before.before.before.requires.0
+    member_begins _ _ _ h _ _ _ _ _ _ _ _ c.before.before.before.before.before.before.before.before.before.before.before.before.before.before.before.before.before.before.before.before.before.before.before.requires.0
     (rw c.before.before.before.before.before.before.before.before.before.n.given.1 at
     c.before.before.before.before.before.before.before.before.before.before.before.before.before.member.ensures)
     c.before.before.before.before.before.before.put_record.ensures c.before.before.note.ensures
 
-pub member-ahead-spec : {M : Type 1} → statement M
-member-ahead-spec =
+pub member_ahead_spec : {M : Type 1} → statement M
+member_ahead_spec =
     tie.close
     (tie.spec
     ahead-requires

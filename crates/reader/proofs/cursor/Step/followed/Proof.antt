@@ -27,6 +27,6 @@ returns-2 : tie.Need-returns-2
 returns-2 c = subst (λ (s : Step). FollowedSays c.before.before.before.before.before.args.text.now s
     c.before.before.before.before.before.args.closing c.after.result) (sym c.before.before.self2.given.1) c.after.ensures
 
-pub followed-spec : {M : Type 1} → statement M
-followed-spec =
+pub followed_spec : {M : Type 1} → statement M
+followed_spec =
     tie.close (tie.spec enum-known-self enum-known-self-2 after-requires returns returns-2)
