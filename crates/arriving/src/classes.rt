@@ -4,7 +4,7 @@ ghost use Rattle.machine.specs.Machine.{class_of, note_of};
 ghost use Rattle.arriving.specs.Between.Classes.{class_is, note_is};
 
 // A byte where no item stands. Three letters begin a word; `$` begins a binary part or an identifier.
-#[derive(Drop)]
+#[derive(Clone, Copy)]
 pub enum Class {
     Blank,
     Hash,
@@ -26,7 +26,7 @@ pub enum Class {
 }
 
 // A byte in a comment.
-#[derive(Drop)]
+#[derive(Clone, Copy)]
 pub enum Note {
     LineEnd,
     Star,

@@ -23,7 +23,7 @@ use meaning::DEPTH_LIMIT;
 
 // Bytes that leave the check where it stands: between items, in a line comment, in a block comment, between the quotes of a part
 // with one, and with three.
-#[derive(Drop)]
+#[derive(Clone, Copy)]
 enum Run {
     Blank,
     Line,
@@ -33,7 +33,7 @@ enum Run {
 }
 
 // A place of the part where no item stands, and what is due there, by number: a byte in a struct of words would be copied in pieces.
-#[derive(Drop)]
+#[derive(Clone, Copy)]
 pub struct Spot {
     pub at: usize,
     pub due: usize,
@@ -43,7 +43,7 @@ pub struct Spot {
 }
 
 // The state at a place of the part.
-#[derive(Drop)]
+#[derive(Clone, Copy)]
 pub struct Reached {
     pub here: Here,
     pub at: usize,

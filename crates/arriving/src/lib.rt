@@ -23,7 +23,7 @@ use reader::Answer;
 use states::{Due, Here, Mode};
 
 // All but the kinds of the open brackets: how many bytes have come, one more than the longest text where they are too many.
-#[derive(Drop)]
+#[derive(Clone, Copy)]
 pub struct Core {
     pub length: usize,
     pub utf: Utf,
@@ -31,7 +31,7 @@ pub struct Core {
 }
 
 // A check: its state, and the kinds of the open brackets.
-#[derive(Drop)]
+#[derive(Clone, Copy)]
 pub struct Check {
     pub core: Core,
     pub kinds: [u8; DEPTH_LIMIT],

@@ -7,7 +7,7 @@ use rules::Utf8Answer;
 
 // How many bytes of a character are still to come, between which bounds the next one lies, and the character's first place; the place
 // of the first fault, where there is one.
-#[derive(Drop)]
+#[derive(Clone, Copy)]
 pub struct Utf {
     pub left: u8,
     pub low: u8,

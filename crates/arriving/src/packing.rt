@@ -16,7 +16,7 @@ use meaning::Refusal;
 use tape::little_endian;
 
 // A mode by numbers: which, which of its cases, and their fields; those that a case has not are 0.
-#[derive(Drop)]
+#[derive(Clone, Copy)]
 pub struct Flat {
     pub kind: u8,
     pub sort: u8,

@@ -4,7 +4,7 @@ use meaning::Refusal;
 
 // What may come where no item stands: a value or a closing bracket; a key or a closing brace; the next part after a plus; or what
 // follows a value, a key, or a part of either that a plus may still join.
-#[derive(Drop)]
+#[derive(Clone, Copy)]
 pub enum Due {
     Value,
     Key,
@@ -19,7 +19,7 @@ pub enum Due {
 }
 
 // A decimal number: its first place, its digits, how many of them are a fraction's.
-#[derive(Drop)]
+#[derive(Clone, Copy)]
 pub struct Decimal {
     pub first: usize,
     pub acc: Acc,
@@ -27,7 +27,7 @@ pub struct Decimal {
 }
 
 // A number, or digits that may yet be a time. Each holds the number's first place.
-#[derive(Drop)]
+#[derive(Clone, Copy)]
 pub enum Figure {
     Sign(usize),
     Nought(usize),
@@ -57,7 +57,7 @@ pub enum Figure {
 }
 
 // A time value so far: its first place, whether a date stands in it, and whether all fields that are whole are in range.
-#[derive(Drop)]
+#[derive(Clone, Copy)]
 pub struct Stamp {
     pub first: usize,
     pub dated: bool,
@@ -65,7 +65,7 @@ pub struct Stamp {
 }
 
 // A field of two digits; that of the month with the year, that of the day with both.
-#[derive(Drop)]
+#[derive(Clone, Copy)]
 pub enum Slot {
     Month(u16),
     Day { year: u16, month: u8 },
@@ -77,7 +77,7 @@ pub enum Slot {
 }
 
 // Inside a field: how many digits are left, and its value; or between fields.
-#[derive(Drop)]
+#[derive(Clone, Copy)]
 pub enum Moment {
     Field { slot: Slot, left: u8, value: u8 },
     Spaced,
@@ -87,7 +87,7 @@ pub enum Moment {
 }
 
 // A string part: its quote; the backslash of its first bad escape, and of a high surrogate that waits, each one more than its place, 0 for none.
-#[derive(Drop)]
+#[derive(Clone, Copy)]
 pub struct Quoted {
     pub quote: u8,
     pub bad: usize,
@@ -95,7 +95,7 @@ pub struct Quoted {
 }
 
 // Where in a string part; an escape holds one more than the place of its backslash.
-#[derive(Drop)]
+#[derive(Clone, Copy)]
 pub enum Inner {
     One,
     Two,
@@ -112,7 +112,7 @@ pub enum Inner {
 }
 
 // Where in a binary part.
-#[derive(Drop)]
+#[derive(Clone, Copy)]
 pub enum Octets {
     Dollar,
     Text(u8),
@@ -126,7 +126,7 @@ pub enum Octets {
 }
 
 // Between items, in a comment between items, in an item; or refused. A word is known by the place of its next letter in the list of words.
-#[derive(Drop)]
+#[derive(Clone, Copy)]
 pub enum Mode {
     At,
     Slash,
@@ -143,7 +143,7 @@ pub enum Mode {
 }
 
 // What a byte does to an item: it is taken, and so many store bytes come; the item stops before it; or the item breaks.
-#[derive(Drop)]
+#[derive(Clone, Copy)]
 pub enum Out {
     Takes(Mode, usize),
     Stops,
@@ -151,7 +151,7 @@ pub enum Out {
 }
 
 // Where the grammar stands, but for the kinds of the open brackets: what is due here, or after the comment or item.
-#[derive(Drop)]
+#[derive(Clone, Copy)]
 pub struct Here {
     pub mode: Mode,
     pub due: Due,

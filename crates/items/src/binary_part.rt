@@ -8,14 +8,14 @@ ghost use Rattle.items.specs.Between.BinaryPart.{PairSays, EscapeSays, OneByteSa
 use crate::{hex_digit, store};
 
 // What a part comes to: how many bytes it means and the place after it, or the byte that no rule allows.
-#[derive(Drop)]
+#[derive(Clone, Copy)]
 pub enum Piece {
     Closed { bytes: usize, end: usize },
     NotGrammar(usize),
 }
 
 // After a pair: the first digit of the next one, the part's end, or the byte that no rule allows.
-#[derive(Drop)]
+#[derive(Clone, Copy)]
 enum Pair {
     Digit(usize),
     End(usize),
@@ -23,7 +23,7 @@ enum Pair {
 }
 
 // A byte of the quoted form and the place after it, or the byte that no rule allows.
-#[derive(Drop)]
+#[derive(Clone, Copy)]
 enum Octet {
     Byte { value: u8, next: usize },
     NotGrammar(usize),

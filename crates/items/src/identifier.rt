@@ -4,7 +4,7 @@ ghost use Rattle.machine.specs.Names.{class_of};
 ghost use Rattle.items.specs.Between.Identifier.{sort_is, NameEnds};
 
 // A byte in an identifier.
-#[derive(Drop)]
+#[derive(Clone, Copy)]
 pub enum Sort {
     Letter,
     Figure,

@@ -12,7 +12,7 @@ pub mod word;
 use meaning::{Number, Refusal, Time};
 
 // One value that is no array and no object; a string or binary with how many store bytes it has.
-#[derive(Drop)]
+#[derive(Clone, Copy)]
 pub enum Item {
     Null,
     Bool(bool),
@@ -23,7 +23,7 @@ pub enum Item {
 }
 
 // An item and the place after it, or a refusal.
-#[derive(Drop)]
+#[derive(Clone, Copy)]
 pub enum Scanned {
     Item(Item, usize),
     Refused(Refusal),

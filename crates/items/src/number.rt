@@ -26,7 +26,7 @@ const SIXTEENTH: u64 = COEFFICIENT_MOST / 16;
 const EXACT: usize = 1000000000;
 
 // A coefficient that does not end in 0 (or is 0), or is too large to keep, and how many zeros follow it.
-#[derive(Drop)]
+#[derive(Clone, Copy)]
 pub struct Acc {
     pub c: u64,
     pub over: bool,
@@ -48,35 +48,35 @@ const OVER: Acc = Acc {
 };
 
 // A coefficient that fits, or that is too large to keep.
-#[derive(Drop)]
+#[derive(Clone, Copy)]
 enum Coef {
     Fits(u64),
     Over,
 }
 
 // Digits so far, and the place after them.
-#[derive(Drop)]
+#[derive(Clone, Copy)]
 struct Run {
     acc: Acc,
     at: usize,
 }
 
 // Plain digits: their value, and the place after them.
-#[derive(Drop)]
+#[derive(Clone, Copy)]
 pub struct Plain {
     pub v: u64,
     pub at: usize,
 }
 
 // An exponent's digits, and the place after them.
-#[derive(Drop)]
+#[derive(Clone, Copy)]
 struct Power {
     e: usize,
     at: usize,
 }
 
 // A hexadecimal number, whether it is 2^64 or more, and the place after it.
-#[derive(Drop)]
+#[derive(Clone, Copy)]
 pub struct Hex {
     pub v: u64,
     pub over: bool,

@@ -11,7 +11,7 @@ use crate::{Item, Scanned, number, time_value, word};
 use meaning::{Number, Refusal, Time};
 
 // Up to four digits with no sign: how many, their value twice, and the place after them.
-#[derive(Drop)]
+#[derive(Clone, Copy)]
 struct Few {
     n: usize,
     v: u16,
@@ -20,7 +20,7 @@ struct Few {
 }
 
 // What digits with no sign begin: a number; a hexadecimal one; an hour or a year, and the place after its mark; nothing.
-#[derive(Drop)]
+#[derive(Clone, Copy)]
 enum Lead {
     Number(Acc, usize),
     Hex(usize),
@@ -30,7 +30,7 @@ enum Lead {
 }
 
 // What a byte makes of the digits before it.
-#[derive(Drop)]
+#[derive(Clone, Copy)]
 enum Mark {
     Colon,
     Dash,

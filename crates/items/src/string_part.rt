@@ -9,7 +9,7 @@ use crate::{hex_digit, store};
 
 // What a part comes to: the store bytes put and the bytes taken; the backslash of the first bad escape; a byte that no
 // rule allows.
-#[derive(Drop)]
+#[derive(Clone, Copy)]
 pub enum Part {
     Closed { bytes: usize, taken: usize },
     BadEscape(usize),
@@ -17,7 +17,7 @@ pub enum Part {
 }
 
 // What one escape is: half of a pair or a unit of its own; a character; a bad one; or no escape.
-#[derive(Drop)]
+#[derive(Clone, Copy)]
 enum Escape {
     Half { unit: u32, next: usize },
     Code { character: u32, next: usize },
@@ -26,7 +26,7 @@ enum Escape {
 }
 
 // What the escapes at a backslash come to: a character, a bad one, or a byte that no rule allows.
-#[derive(Drop)]
+#[derive(Clone, Copy)]
 pub enum Char {
     Whole { character: u32, next: usize },
     BadEscape(usize),
@@ -34,7 +34,7 @@ pub enum Char {
 }
 
 // The end of a multiline part: its last three quotes, or what breaks it.
-#[derive(Drop)]
+#[derive(Clone, Copy)]
 enum Lines {
     Last(usize),
     NotGrammar(usize),

@@ -16,21 +16,21 @@ use meaning::{Date, FRACTION_DIGITS, Refusal, SECOND, Time};
 use rules::DateAnswer;
 
 // A field of two digits and the place after it, or the byte that no rule allows.
-#[derive(Drop)]
+#[derive(Clone, Copy)]
 enum Field {
     Got { value: u8, at: usize },
     NotGrammar(usize),
 }
 
 // What stands before a time of day.
-#[derive(Drop)]
+#[derive(Clone, Copy)]
 pub enum When {
     Alone,
     On(Date),
 }
 
 // A time of day as it is written: each part is a number of digits, in range or not.
-#[derive(Drop)]
+#[derive(Clone, Copy)]
 struct Clock {
     hour: u8,
     minute: u8,
@@ -39,7 +39,7 @@ struct Clock {
 }
 
 // A fraction's digits of which `left` more would count, and the place after them.
-#[derive(Drop)]
+#[derive(Clone, Copy)]
 struct Nanos {
     v: u64,
     left: usize,
@@ -47,7 +47,7 @@ struct Nanos {
 }
 
 // A second's fraction in nanoseconds and the place after it, or the byte that no rule allows.
-#[derive(Drop)]
+#[derive(Clone, Copy)]
 enum Fraction {
     Got { nanos: u64, at: usize },
     NotGrammar(usize),

@@ -3,7 +3,7 @@ ghost use Rattle.std.specs.Prelude.{◌≤◌, length};
 ghost use Rattle.items.specs.Between.Spelling.{WordSays};
 
 // The place after a word, or the first where it is broken off.
-#[derive(Drop)]
+#[derive(Clone, Copy)]
 pub enum Word {
     Whole(usize),
     NotGrammar(usize),

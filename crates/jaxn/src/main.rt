@@ -16,7 +16,7 @@ const ROOM: usize = 65536;
 const MORE: usize = ROOM + 1;
 
 // What standard input gave: so many bytes, or a read that failed.
-#[derive(Drop)]
+#[derive(Clone, Copy)]
 enum Input {
     Bytes(usize),
     Failed,

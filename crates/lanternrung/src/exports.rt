@@ -15,7 +15,7 @@ use writer::Written;
 
 // A refusal's number, 0 where there is none, and its place.
 #[repr(C)]
-#[derive(Drop)]
+#[derive(Clone, Copy)]
 pub struct Status {
     pub refused: u32,
     pub place: u64,
@@ -23,7 +23,7 @@ pub struct Status {
 
 // The same, and what a text needs or has filled.
 #[repr(C)]
-#[derive(Drop)]
+#[derive(Clone, Copy)]
 pub struct Sizes {
     pub refused: u32,
     pub place: u64,
@@ -33,7 +33,7 @@ pub struct Sizes {
 
 // The same, and how many bytes were written.
 #[repr(C)]
-#[derive(Drop)]
+#[derive(Clone, Copy)]
 pub struct Text {
     pub refused: u32,
     pub place: u64,
@@ -42,7 +42,7 @@ pub struct Text {
 
 // The same, and a record with its fields; those that its kind has not are 0.
 #[repr(C)]
-#[derive(Drop)]
+#[derive(Clone, Copy)]
 pub struct Fields {
     pub refused: u32,
     pub place: u64,

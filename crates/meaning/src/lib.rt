@@ -35,7 +35,7 @@ pub const STORE_LIMIT: usize = 16777216;
 pub const RECORD_SIZE: usize = 16;
 
 // A number: finite with its sign, coefficient and power of ten; not a number; or infinite with its sign.
-#[derive(Drop)]
+#[derive(Clone, Copy)]
 pub enum Number {
     Finite {
         minus: bool,
@@ -49,7 +49,7 @@ pub enum Number {
 }
 
 // A date: that there is such a day is tested where it is read.
-#[derive(Drop)]
+#[derive(Clone, Copy)]
 pub struct Date {
     pub year: u16,
     pub month: u8,
@@ -57,7 +57,7 @@ pub struct Date {
 }
 
 // The four time types. A time of day counts nanoseconds, an offset minutes.
-#[derive(Drop)]
+#[derive(Clone, Copy)]
 pub enum Time {
     LocalDate(Date),
     LocalTime(u64),
@@ -66,7 +66,7 @@ pub enum Time {
 }
 
 // The refusals (docs/FORMAT.md, 10.1), each with what its place is made of.
-#[derive(Drop)]
+#[derive(Clone, Copy)]
 pub enum Refusal {
     TextTooLong,
     NotUtf8(usize),
@@ -87,7 +87,7 @@ pub enum Refusal {
 
 // One record of the tape. A string's start is its place in the store, a count how many elements or members are directly inside,
 // an end the index just after the last record inside.
-#[derive(Drop)]
+#[derive(Clone, Copy)]
 pub enum Record {
     Null,
     Bool(bool),

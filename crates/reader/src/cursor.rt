@@ -17,7 +17,7 @@ use meaning::{Record, Refusal};
 use tape::put_record;
 
 // A place in the text, and how many records and store bytes have been put before it.
-#[derive(Drop)]
+#[derive(Clone, Copy)]
 pub struct Cursor {
     pub at: usize,
     pub records: usize,
@@ -25,14 +25,14 @@ pub struct Cursor {
 }
 
 // A value has been read, or a refusal is given.
-#[derive(Drop)]
+#[derive(Clone, Copy)]
 pub enum Step {
     Value(Cursor),
     Refused(Refusal),
 }
 
 // What begins where a value is wanted: an item, or an opening bracket.
-#[derive(Drop)]
+#[derive(Clone, Copy)]
 enum Head {
     Item(Item, Cursor),
     Array(Cursor),
@@ -41,7 +41,7 @@ enum Head {
 }
 
 // In a container, where an element or a member may stand.
-#[derive(Drop)]
+#[derive(Clone, Copy)]
 enum Ahead {
     Close(Cursor),
     More(Cursor),
@@ -49,7 +49,7 @@ enum Ahead {
 }
 
 // After an element or a member.
-#[derive(Drop)]
+#[derive(Clone, Copy)]
 enum After {
     Comma(Cursor),
     Close(Cursor),
@@ -57,7 +57,7 @@ enum After {
 }
 
 // A key and its colon, with how many store bytes it has; the next cursor stands at the value.
-#[derive(Drop)]
+#[derive(Clone, Copy)]
 enum Member {
     Key(usize, Cursor),
     Refused(Refusal),

@@ -15,7 +15,7 @@ use items::{binary_part, string_part};
 use meaning::Refusal;
 
 // What follows a part: the next one's place, after a plus; none, and where the layout ends; or what breaks the layout.
-#[derive(Drop)]
+#[derive(Clone, Copy)]
 pub enum Join {
     Next(usize),
     Last(usize),
@@ -23,7 +23,7 @@ pub enum Join {
 }
 
 // A part of so many bytes and what follows it: the next one's place; none, and where the layout ends; or a refusal.
-#[derive(Drop)]
+#[derive(Clone, Copy)]
 enum Link {
     Next { bytes: usize, at: usize },
     Last { bytes: usize, end: usize },
@@ -31,7 +31,7 @@ enum Link {
 }
 
 // Joined bytes, or a key's: how many, and the place after them and the layout that follows; or a refusal.
-#[derive(Drop)]
+#[derive(Clone, Copy)]
 pub enum Bytes {
     Whole { bytes: usize, end: usize },
     Refused(Refusal),

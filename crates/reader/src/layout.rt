@@ -6,14 +6,14 @@ ghost use Rattle.machine.specs.Machine.{class_of, blank_c, note_of, line_end, sl
 ghost use Rattle.reader.specs.Between.Layout.{CommentSays, MaybeSays, Blanks, LayoutSays};
 
 // Where the layout from a place on ends, or the byte that breaks it.
-#[derive(Drop)]
+#[derive(Clone, Copy)]
 pub enum Layout {
     Ended(usize),
     NotGrammar(usize),
 }
 
 // What a comment at a place comes to: there is none, its end, or the byte that breaks it.
-#[derive(Drop)]
+#[derive(Clone, Copy)]
 enum Comment {
     Absent,
     Ended(usize),

@@ -19,7 +19,7 @@ use meaning::{DEPTH_LIMIT, RECORD_SIZE, Refusal, TEXT_LIMIT};
 use rules::Utf8Answer;
 
 // What `measure` and `read` answer: how many records and store bytes, or a refusal.
-#[derive(Drop)]
+#[derive(Clone, Copy)]
 pub enum Answer {
     Counts { records: usize, bytes: usize },
     Refused(Refusal),
@@ -76,14 +76,14 @@ fn answered(twice: usize, records: usize, bytes: usize) -> Answer
 }
 
 // After a window: the first key so far that repeats one, and where the next window begins, 0 for none.
-#[derive(Drop)]
+#[derive(Clone, Copy)]
 enum Windowed {
     Next { best: usize, from: usize },
     Refused(Refusal),
 }
 
 // After all windows: the first key that repeats one, 0 for none.
-#[derive(Drop)]
+#[derive(Clone, Copy)]
 enum Search {
     Done(usize),
     Refused(Refusal),

@@ -15,7 +15,7 @@ use items::{identifier, string_part};
 
 // Where a key is being spelled: among an identifier's letters; where a string part begins; in a part, or in one of many
 // lines; in a character of which so many bytes are left, before the place where the part goes on.
-#[derive(Drop)]
+#[derive(Clone, Copy)]
 pub enum Spelling {
     Name(usize),
     Opening(usize),
@@ -36,7 +36,7 @@ pub enum Spelling {
 }
 
 // What comes next: a byte; none yet; or the key's end.
-#[derive(Drop)]
+#[derive(Clone, Copy)]
 enum Spelt {
     Byte(u8, Spelling),
     On(Spelling),
@@ -44,7 +44,7 @@ enum Spelt {
 }
 
 // The next byte, or the key's end.
-#[derive(Drop)]
+#[derive(Clone, Copy)]
 pub enum Letter {
     Byte(u8, Spelling),
     Over,

@@ -8,7 +8,7 @@ ghost use Rattle.rules.specs.Between.Beside.{Greater, IsTail, Wanted, Barred, Be
 use crate::octets;
 
 // What a block is beside the three bytes before it.
-#[derive(Drop)]
+#[derive(Clone, Copy)]
 enum Block {
     Plain,
     Wide,

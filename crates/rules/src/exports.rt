@@ -5,7 +5,7 @@ use crate::{DateAnswer, Utf8Answer};
 
 // A refusal's number (docs/FORMAT.md, 10.1), 0 where there is none, and its place.
 #[repr(C)]
-#[derive(Drop)]
+#[derive(Clone, Copy)]
 pub struct Status {
     pub refused: u32,
     pub place: u64,

@@ -8,14 +8,14 @@ ghost use Rattle.rules.specs.Rfc3339.{Dated};
 ghost use Rattle.rules.specs.Rfc3629.{Judged};
 
 // What `utf8` answers: the bytes are UTF-8, or the place of the first ill-formed sequence (refusal 2).
-#[derive(Drop)]
+#[derive(Clone, Copy)]
 pub enum Utf8Answer {
     Done,
     IllFormed(usize),
 }
 
 // What `date` answers: a date in years 0000 to 9999, or none (refusal 5 at 0).
-#[derive(Drop)]
+#[derive(Clone, Copy)]
 pub enum DateAnswer {
     Done,
     NoDate,

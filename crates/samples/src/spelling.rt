@@ -3,7 +3,7 @@ ghost use Rattle.std.specs.Prelude.{◌≤◌, ◌<◌, ◌≡◌, length};
 ghost use Rattle.io.specs.Counts.{IsPrefixLen};
 
 // A byte, and where what follows it begins.
-#[derive(Drop)]
+#[derive(Clone, Copy)]
 struct Spelled {
     byte: u8,
     next: usize,

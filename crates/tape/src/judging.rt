@@ -23,7 +23,7 @@ const NONE: usize = 1099511627776;
 
 // What a record does to the judge: nothing good; a value or a key is passed, with the next store place; a container opens, with
 // its end and what is to come in it.
-#[derive(Drop)]
+#[derive(Clone, Copy)]
 enum Turn {
     No,
     Pass(usize),

@@ -10,7 +10,7 @@ use crate::four_words;
 use meaning::{DEPTH_LIMIT, RECORD_SIZE};
 
 // What a window leaves to do: the first repeated key so far, and where the next window begins; 0 for none.
-#[derive(Drop)]
+#[derive(Clone, Copy)]
 struct Window {
     best: usize,
     from: usize,

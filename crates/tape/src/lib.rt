@@ -15,7 +15,7 @@ pub use judging::judge;
 use meaning::{RECORD_SIZE, Record, Refusal};
 
 // A record's sixteen bytes as four numbers of 2, 2, 4 and 8 bytes.
-#[derive(Drop)]
+#[derive(Clone, Copy)]
 struct Words {
     mark: u64,
     low: u64,
@@ -24,21 +24,21 @@ struct Words {
 }
 
 // What stands in sixteen bytes: a record, whatever its fields hold, or none.
-#[derive(Drop)]
+#[derive(Clone, Copy)]
 enum Shape {
     Record(Record),
     Junk,
 }
 
 // What `look` answers.
-#[derive(Drop)]
+#[derive(Clone, Copy)]
 pub enum Looked {
     Record(Record),
     Refused(Refusal),
 }
 
 // What `judge` answers: refusal 10 at 0 where the tape and store are not well formed.
-#[derive(Drop)]
+#[derive(Clone, Copy)]
 pub enum Judged {
     Well,
     Ill,

@@ -329,7 +329,7 @@ fn fill_last(t: &mut [u8]) {
 // ---- the comparison
 
 // What `look` makes of a record: it is refused; taken, and its bytes come back; taken, and they do not.
-#[derive(Drop)]
+#[derive(Clone, Copy)]
 enum Outcome {
     Refused,
     Same,
@@ -368,7 +368,7 @@ fn is_well(t: &[u8], s: &[u8]) -> bool {
 }
 
 // How often the two differ, and how many of the tapes and of the records were good.
-#[derive(Drop)]
+#[derive(Clone, Copy)]
 struct Tally {
     faults: u64,
     well: u64,

@@ -15,14 +15,14 @@ use meaning::{Refusal, TEXT_LIMIT};
 use tape::Judged;
 
 // A signed number's sign and size.
-#[derive(Drop)]
+#[derive(Clone, Copy)]
 struct Signed {
     minus: bool,
     size: u64,
 }
 
 // How a finite number is written: its digits and so many zeros; so many of its digits after a point; or with its power.
-#[derive(Drop)]
+#[derive(Clone, Copy)]
 enum Form {
     Zeros(usize),
     Point(usize),
@@ -30,7 +30,7 @@ enum Form {
 }
 
 // The digits of a fraction without closing zeros: so many digits of this number.
-#[derive(Drop)]
+#[derive(Clone, Copy)]
 struct Trimmed {
     count: usize,
     digits: u64,
@@ -38,21 +38,21 @@ struct Trimmed {
 
 // What a record does to the walk: it is passed, and a comma comes next or not; or a container opens, with the bracket
 // that closes it and its end.
-#[derive(Drop)]
+#[derive(Clone, Copy)]
 enum Effect {
     Pass(bool),
     Open { closer: u8, end: usize },
 }
 
 // The first record with no JSON form.
-#[derive(Drop)]
+#[derive(Clone, Copy)]
 enum Formless {
     At(usize),
     Nowhere,
 }
 
 // What the writers answer: so many bytes from the start of the output, or a refusal that leaves it as it was.
-#[derive(Drop)]
+#[derive(Clone, Copy)]
 pub enum Written {
     Wrote(usize),
     Refused(Refusal),
