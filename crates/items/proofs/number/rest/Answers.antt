@@ -1,0 +1,81 @@
+-- Where the number ends at once, or after a short fraction; else the digits are read on as those of any number. Assumes nothing.
+use Prim.Native.Nat.{◌+◌, ◌-◌, ◌<◌}
+use mathlib.Core.Path.{subst}
+use mathlib.Core.Bool.{Bool}
+use native.Mathlib.Omega.{arith}
+use lib.ListN.{length}
+use Rattle.items.specs.Between.NumberOrTime.{EndsSays}
+use Rattle.items.proofs.NumberPlainLaws.{span_small, int_ends, point_ends}
+use Rattle.items.proofs.number.rest.Goals as goal
+
+pub settle-requires : goal.settle-requires
+settle-requires c = let z = c.held.ensures.small c.args.at c.requires.1 in
+    (omega (arith, z, c.requires.0.within, c.requires.0.short), omega arith, omega arith)
+
+pub returns-then-ends : goal.returns-then-ends
+returns-then-ends c = int_ends c.args.s.now c.args.q
+    c.args.g c.held.result c.args.v
+    c.held.ensures.holds c.settle.result c.args.at
+    (subst (λ (b : Bool). EndsSays c.args.s.now c.args.at b)
+    c.if-ends.true c.ends.ensures) c.settle.ensures
+
+pub bounds-s-at : goal.bounds-s-at
+bounds-s-at c = let h : c.args.at < length c.args.s.now =
+    subst (λ (b : Bool). EndsSays c.args.s.now c.args.at b) c.if-ends.false
+    c.ends.ensures in omega arith
+
+pub decimal-requires : goal.decimal-requires
+decimal-requires c = record {
+  within = c.requires.0.within;
+  short = c.requires.0.short;
+  zeros =
+      c.held-then-s-at-ne46.ensures.small c.args.at c.requires.1;
+  places = omega arith;
+}
+
+pub returns-then-s-at-ne46 : goal.returns-then-s-at-ne46
+returns-then-s-at-ne46 c = c.decimal.ensures.reads c.args.v c.held-then-s-at-ne46.ensures.holds
+
+pub plain_digits-w-requires : goal.plain_digits-w-requires
+plain_digits-w-requires c = let h : c.args.at < length c.args.s.now =
+    subst (λ (b : Bool). EndsSays c.args.s.now c.args.at b)
+    c.if-ends.false c.ends.ensures in omega arith
+
+pub settle-requires-then-ends-2 : goal.settle-requires-then-ends-2
+settle-requires-then-ends-2 c = let z =
+    c.held-then-ends-2.ensures.small (c.args.at +
+    (c.plain_digits-w.result.at - (c.args.at + 1)))
+    (span_small c.args.at c.plain_digits-w.ensures.span
+    c.requires.1) in (
+      omega (arith, z, c.plain_digits-w.ensures.low, c.plain_digits-w.ensures.high, c.requires.0.short),
+      omega arith,
+      omega (arith, c.plain_digits-w.ensures.high, c.requires.0.short),
+    )
+
+pub returns-then-ends-2 : goal.returns-then-ends-2
+returns-then-ends-2 c = let h : c.args.at < length
+    c.args.s.now =
+    subst (λ (b : Bool). EndsSays c.args.s.now
+    c.args.at b)
+    c.if-ends.false c.ends.ensures in
+    point_ends c.args.s.now
+    c.args.q
+    c.args.g c.held-then-ends-2.result
+    c.args.v
+    c.args.at c.plain_digits-w.result
+    c.settle-then-ends-2.result h c.if-s-at-ne46.false c.plain_digits-w.ensures
+    c.held-then-ends-2.ensures.holds (subst (λ (b : Bool). EndsSays c.args.s.now c.plain_digits-w.result.at b) c.if-ends-2.true c.ends-2.ensures)
+    c.settle-then-ends-2.ensures
+
+pub decimal-requires-2 : goal.decimal-requires-2
+decimal-requires-2 c = record {
+  within = c.requires.0.within;
+  short = c.requires.0.short;
+  zeros = c.held-2.ensures.small c.args.at
+      c.requires.1;
+  places = omega arith;
+}
+
+pub returns : goal.returns
+returns c = c.decimal-2.ensures.reads c.args.v
+    c.held-2.ensures.holds

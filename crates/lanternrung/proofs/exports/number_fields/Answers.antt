@@ -1,0 +1,29 @@
+-- A finite number, NaN or an infinity. Assumes nothing.
+use mathlib.Core.Path.{sym, ap, ◌∙◌}
+use Prim.Native.Nat.{ℕ, ◌+◌}
+use native.Mathlib.Omega.{arith}
+use mir.Syntax.{w32}
+use mir.ValLaws.{to_z-of_z}
+use Rattle.lanternrung.specs.Told.{plain_fields, number_fields}
+use Rattle.meaning.proofs.Records.{flag_small}
+use Rattle.lanternrung.proofs.exports.number_fields.Goals as goal
+
+pub overflow_add-flag : goal.overflow_add-flag
+overflow_add-flag c = omega (arith, c.flag.ensures, flag_small c.in-Infinite.minus)
+
+pub returns-in-NotANumber : goal.returns-in-NotANumber
+unfolding number_fields
+returns-in-NotANumber c = c.plain.ensures ∙ sym (ap number_fields c.in-NotANumber.is)
+
+pub returns-in-Infinite : goal.returns-in-Infinite
+unfolding number_fields
+returns-in-Infinite c = c.plain-in-Infinite.ensures ∙ ap (λ (x : ℕ). plain_fields 4 (1 + x) 0 0) c.flag.ensures
+    ∙ sym (ap number_fields c.in-Infinite.is)
+
+pub returns-in-Finite : goal.returns-in-Finite
+unfolding number_fields
+returns-in-Finite c = rw (
+  c.flag-in-Finite.ensures,
+  to_z-of_z w32 c.in-Finite.power (record { sfits = c.known_told-in-Finite-1.given.1.1.0.1 }),
+  c.in-Finite.is,
+)

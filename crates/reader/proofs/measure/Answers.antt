@@ -1,0 +1,66 @@
+use mathlib.Core.Path.{sym, ◌∙◌, subst}
+use mathlib.Core.Logic.{inr}
+use native.Mathlib.Omega.{arith}
+use Rattle.rules.specs.declared.Utf8Answer.{Utf8Answer}
+use Rattle.rules.specs.Rfc3629.{Judged}
+use Rattle.once.specs.Windows.{nothing}
+use Rattle.reader.specs.Between.Walk.{Searching}
+use Rattle.reader.proofs.WalkWindowLaws.{zeroes_there}
+use Rattle.reader.proofs.AnswersLaws.{measure_long, measure_ill, measure_refused, Counted, measure_counted, search_refused, measure_answered}
+use Rattle.reader.proofs.measure.Goals as goal
+
+pub returns-then-text-gt-TEXT_LIMIT : goal.returns-then-text-gt-TEXT_LIMIT
+returns-then-text-gt-TEXT_LIMIT c = measure_long c.args.text.now (omega (arith, c.if-text-gt-TEXT_LIMIT.true))
+
+pub walk-requires : goal.walk-requires
+walk-requires c = (
+  omega (arith, c.if-text-gt-TEXT_LIMIT.false),
+  inr (0, (nothing, zeroes_there _ 520 (omega arith) (omega arith))),
+)
+
+-- after the first walk
+counted : (c : tie.After-known-told3) → (
+    let records = c.before.records in
+    Counted c.before.before.before.before.before.before.before.before.before.before.before.before.before.before.before.args.text.now
+    c.before.before.before.before.before.before.walk.new.1.1.1.0 records.given.0.0 records.given.0.1.0)
+counted c =
+    let a = c.before.before.before.before.before.before.before.before.before.before.before.before.before.before.before.args in
+    let walk = c.before.before.before.before.before.before.walk in
+    let records = c.before.records in
+    measure_counted a.text.now (omega (
+      arith,
+      c.before.before.before.before.before.before.before.before.before.before.before.before.before.if1.false,
+    ))
+    (subst (λ (r : Utf8Answer). Judged a.text.now r) c.before.before.before.before.before.before.before.before.before.before.enum_told.given.1 c.before.before.before.before.before.before.before.before.before.before.before.before.utf8.ensures)
+    records.given.0.0 records.given.0.1.0 (rw records.given.1 at walk.ensures) (zeroes_there _ 520 (omega arith) (omega arith))
+
+pub returns-then-from-eq0 : goal.returns-then-from-eq0
+returns-then-from-eq0 c = let t = counted c.before.before.before.before.before.before.before in
+    measure_answered t _ (subst (Searching _ _) (sym c.further-from.ensures ∙ c.if-from-eq0.true)
+    (t.searching _ _ c.first_twice-twice.ensures c.stopped.ensures)) _ c.answered.ensures
+
+pub searched-requires : goal.searched-requires
+searched-requires c =     subst (Searching _ _) (sym c.further-from.ensures)
+    ((counted c.before.before.before.before.before.before).searching _ _ c.first_twice-twice.ensures
+    c.stopped.ensures)
+
+pub returns-in-IllFormed : goal.returns-in-IllFormed
+returns-in-IllFormed c = measure_ill c.args.text.now (omega (arith, c.if-text-gt-TEXT_LIMIT.false)) c.in-IllFormed.p
+    (subst (λ (r : Utf8Answer). Judged c.args.text.now r) c.in-IllFormed.is c.utf8-2.ensures)
+
+pub returns-in-Refused : goal.returns-in-Refused
+returns-in-Refused c = measure_refused c.args.text.now (omega (
+      arith,
+      c.if-text-gt-TEXT_LIMIT.false,
+    ))
+    (subst (λ (r : Utf8Answer). Judged c.args.text.now r) c.in-Done.is c.utf8-2.ensures) c.in-Refused.why
+    (rw c.in-Refused.is at c.walk.ensures)
+
+pub returns-in-Refused-searched : goal.returns-in-Refused-searched
+returns-in-Refused-searched c = absurd (search_refused (counted c.before.before.before.before.before.before.before.before.before.before)
+    c.in-Refused-searched.why
+    (rw c.in-Refused-searched.is at c.searched.ensures))
+
+pub returns-in-Done-searched : goal.returns-in-Done-searched
+returns-in-Done-searched c = measure_answered (counted c.before.before.before.before.before.before.before.before.before.before.before) _
+    (rw c.in-Done-searched.is at c.searched.ensures) _ c.answered-in-Done-searched.ensures

@@ -1,0 +1,86 @@
+use mathlib.Core.Logic.{⊎_elim}
+use native.Mathlib.Omega.{arith}
+use Rattle.reader.proofs.RepeatLaws.{seeks_sane, seeking_begins, seeking_stands, seeking_before, seeking_inside, seeking_finds, seeking_falls}
+use Rattle.reader.proofs.RepeatLaws.{seeking_past, seeking_past_tag, seeking_ends}
+use Rattle.reader.proofs.repeat.repeated.Goals as goal
+
+pub newest-i-requires : goal.newest-i-requires
+newest-i-requires c = seeks_sane c.args.text.now c.args.seen.now c.args.at
+    c.args.tag c.requires
+
+pub loop-i-init : goal.loop-i-init
+loop-i-init c = seeking_begins c.args.text.now c.args.seen.now c.args.at
+    c.args.tag c.requires _ c.newest-i.ensures
+
+pub tag_of-requires : goal.tag_of-requires
+tag_of-requires c = seeking_stands c.args.text.now c.args.seen.now
+    c.args.at c.args.tag
+    c.requires c.loop-i.i c.loop-i.invariant c.loop-i-test.true
+
+pub place_of-place-requires : goal.place_of-place-requires
+place_of-place-requires c = seeking_stands c.args.text.now
+    c.args.seen.now c.args.at
+    c.args.tag c.requires
+    c.loop-i.i c.loop-i.invariant c.loop-i-test.true
+
+pub overflow_cast-place : goal.overflow_cast-place
+overflow_cast-place c = omega (
+  arith,
+  c.ranges.at,
+  seeking_before c.args.text.now
+      c.args.seen.now
+      c.args.at
+      c.args.tag
+      c.requires c.loop-i.i
+      c.loop-i.invariant c.loop-i-test.true _ c.place_of-place.ensures,
+)
+
+pub same_key-requires : goal.same_key-requires
+same_key-requires c = seeking_inside c.args.text.now
+    c.args.seen.now
+    c.args.at c.args.tag
+    c.requires c.loop-i.i
+    c.loop-i.invariant c.loop-i-test.true _ c.place_of-place.ensures
+
+pub returns-then-same_key : goal.returns-then-same_key
+returns-then-same_key c = seeking_finds c.args.text.now
+    c.args.seen.now
+    c.args.at
+    c.args.tag
+    c.requires c.loop-i.i
+    c.loop-i.invariant c.loop-i-test.true _
+    c.place_of-place.ensures _ c.same_key.ensures c.if-same_key.true
+
+pub earlier-i-requires : goal.earlier-i-requires
+earlier-i-requires c = seeking_stands c.args.text.now
+    c.args.seen.now c.args.at
+    c.args.tag c.requires
+    c.loop-i.i c.loop-i.invariant c.loop-i-test.true
+
+pub loop-i-smaller : goal.loop-i-smaller
+loop-i-smaller c = seeking_falls c.args.text.now
+    c.args.seen.now
+    c.args.at c.args.tag
+    c.requires c.loop-i.i
+    c.loop-i.invariant c.loop-i-test.true _ c.earlier-i.ensures
+
+pub loop-i-preserved : goal.loop-i-preserved
+loop-i-preserved c = ⊎_elim
+    (λ y. seeking_past c.args.text.now
+    c.args.seen.now
+    c.args.at
+    c.args.tag c.requires
+    c.loop-i.i c.loop-i.invariant c.loop-i-test.true _ _ _
+    y.1.ensures y.2.ensures y.3.left c.earlier-i.ensures)
+    (λ y. seeking_past_tag c.args.text.now
+    c.args.seen.now
+    c.args.at
+    c.args.tag c.requires
+    c.loop-i.i c.loop-i.invariant c.loop-i-test.true _ _
+    c.tag_of.ensures y.left c.earlier-i.ensures)
+    c.if-tag_of-tag.branch
+
+pub returns : goal.returns
+returns c = seeking_ends c.args.text.now c.args.seen.now
+    c.args.at c.args.tag
+    c.requires c.loop-i.i c.loop-i.invariant c.loop-i-test.false

@@ -1,0 +1,28 @@
+use Rattle.reader.specs.Between.Layout.{LayoutEnds}
+use Rattle.reader.proofs.WalkLaws.{walk_at, walk_seen, walk_breaks, walk_refused, walk_ended}
+use Rattle.reader.proofs.walk.Goals as goal
+
+-- where the value begins
+begun : (c : tie.After-value-arg3) → (
+    let text = c.before.before.before.before.before.before.before.before.before.before.before.args.text.now in
+    LayoutEnds text 0 c.before.before.before.before.first.given.0.0)
+begun c = rw c.before.before.before.before.first.given.1 at c.before.before.before.before.before.before.pass.ensures
+
+pub value-requires : goal.value-requires
+value-requires c = (walk_at _ _ (begun c) c.requires.0, walk_seen _ _ (begun c) _ c.requires.0 c.requires.1)
+
+pub ended-requires : goal.ended-requires
+ended-requires c = let w = rw c.in-Value.is at c.value.ensures in
+    w.within
+
+pub returns-in-NotGrammar : goal.returns-in-NotGrammar
+returns-in-NotGrammar c = walk_breaks _ _ (rw c.in-NotGrammar.is at c.pass.ensures)
+
+pub returns-in-Refused : goal.returns-in-Refused
+returns-in-Refused c = walk_refused _ _ (begun c.before.before.before.before.before.before.before.before.before.before) c.in-Refused.why
+    (rw c.in-Refused.is at c.value.ensures)
+
+pub returns-in-Value : goal.returns-in-Value
+returns-in-Value c = let w = rw c.in-Value.is at c.value.ensures in
+    walk_ended _ _ (begun c.before.before.before.before.before.before.before.before.before.before.before) _ _ _ _ _ _ _
+    c.requires.0 w c.ended.result c.ended.ensures

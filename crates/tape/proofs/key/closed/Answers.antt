@@ -1,0 +1,52 @@
+use native.Mathlib.Omega.{arith}
+use Rattle.tape.proofs.KeyWalkLaws.{closing_none, closing_sane, closing_room, closing_object, closing_array, closing_all}
+use Rattle.tape.proofs.key.closed.Goals as goal
+
+pub loop-depth-init : goal.loop-depth-init
+loop-depth-init c = closing_none _ _ _ _
+
+pub overflow_sub-end : goal.overflow_sub-end
+overflow_sub-end c = omega arith
+
+pub offset_bounds-ends-depth : goal.offset_bounds-ends-depth
+offset_bounds-ends-depth c = omega (arith, closing_room c.loop-depth.invariant c.requires)
+
+pub bounds-ends-depth : goal.bounds-ends-depth
+bounds-ends-depth c = omega (arith, closing_room c.loop-depth.invariant c.requires)
+
+pub shape_of-seen-then-end-index : goal.shape_of-seen-then-end-index
+shape_of-seen-then-end-index c = c.loop-depth.invariant.same_length
+
+pub returns-then-end-index : goal.returns-then-end-index
+returns-then-end-index c = (λ n. c.if-end-index.true, c.loop-depth.invariant.onward)
+
+pub closed-requires : goal.closed-requires
+closed-requires c = closing_sane c.loop-depth.invariant
+    c.requires
+
+pub overflow_sub-depth : goal.overflow_sub-depth
+overflow_sub-depth c = omega arith
+
+pub loop-depth-smaller-then-end-eq1 : goal.loop-depth-smaller-then-end-eq1
+loop-depth-smaller-then-end-eq1 c = omega arith
+
+pub loop-depth-preserved-then-end-eq1 : goal.loop-depth-preserved-then-end-eq1
+loop-depth-preserved-then-end-eq1 c = closing_object c.loop-depth.invariant
+    c.loop-depth-test.true c.if-end-index.false
+    c.if-end-eq1.true _ c.closed.ensures
+
+pub overflow_sub-depth-else-end-eq1 : goal.overflow_sub-depth-else-end-eq1
+overflow_sub-depth-else-end-eq1 c = omega arith
+
+pub loop-depth-smaller : goal.loop-depth-smaller
+loop-depth-smaller c = omega arith
+
+pub loop-depth-preserved : goal.loop-depth-preserved
+loop-depth-preserved c = closing_array c.loop-depth.invariant c.loop-depth-test.true c.if-end-index.false
+    c.if-end-eq1.false
+
+pub shape_of-seen : goal.shape_of-seen
+shape_of-seen c = c.loop-depth.invariant.same_length
+
+pub returns : goal.returns
+returns c = (λ n. absurd (omega arith), closing_all c.loop-depth.invariant c.loop-depth-test.false)

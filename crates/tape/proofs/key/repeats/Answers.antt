@@ -1,0 +1,30 @@
+use Rattle.once.proofs.KeepingLaws.{keeps_sane}
+use Rattle.tape.proofs.KeyLaws.{seek_start, slot_stands, slot_holds, slot_falls, slot_found, slot_other, slots_over}
+use Rattle.tape.proofs.key.repeats.Goals as goal
+
+pub newest-at-requires : goal.newest-at-requires
+newest-at-requires c = keeps_sane c.requires.1.1.1.keeps
+
+pub loop-at-init : goal.loop-at-init
+loop-at-init c = seek_start _ _ _ _ _ _ c.newest-at.ensures
+
+pub slot_is-requires : goal.slot_is-requires
+slot_is-requires c = slot_holds c.loop-at.invariant c.requires c.loop-at-test.true
+
+pub returns-then-slot_is : goal.returns-then-slot_is
+returns-then-slot_is c = slot_found c.loop-at.invariant c.loop-at-test.true c.slot_is.ensures c.if-slot_is.true
+
+pub earlier-at-requires : goal.earlier-at-requires
+earlier-at-requires c = slot_stands c.loop-at.invariant c.requires
+    c.loop-at-test.true
+
+pub loop-at-smaller : goal.loop-at-smaller
+loop-at-smaller c = slot_falls c.loop-at.invariant c.requires
+    c.loop-at-test.true _ c.earlier-at.ensures
+
+pub loop-at-preserved : goal.loop-at-preserved
+loop-at-preserved c = slot_other c.loop-at.invariant c.loop-at-test.true c.slot_is.ensures
+    c.if-slot_is.false _ c.earlier-at.ensures
+
+pub returns : goal.returns
+returns c = slots_over c.loop-at.invariant c.loop-at-test.false

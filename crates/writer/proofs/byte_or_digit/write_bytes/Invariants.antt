@@ -1,0 +1,11 @@
+-- `byte_or_digit::write_bytes`: byte by byte. Assumes nothing.
+use Prim.Native.Nat.{◌-◌, ◌≤◌}
+use lib.ListN.{length, drop}
+use Rattle.writer.proofs.LaidLaws.{Writing}
+use Rattle.writer.proofs.byte_or_digit.write_bytes.Given as goal
+
+abbrev pub invariant-loop-i : goal.invariant-loop-i
+invariant-loop-i l = (l.i ≤ length l.s) × Writing l.s (drop l.i l.s) 0 l.initial.out l.out l.i
+
+abbrev pub decreases-loop-i : goal.decreases-loop-i
+decreases-loop-i l = length l.s - l.i

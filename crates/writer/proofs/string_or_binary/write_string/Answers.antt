@@ -1,0 +1,41 @@
+-- `string_or_binary::write_string`: quote, escapes, quote. Assumes nothing.
+use mathlib.Core.Path.{sym, ap}
+use native.Mathlib.Omega.{arith}
+use lib.ListN.{length}
+use Rattle.meaning.specs.Letters.{letters}
+use Rattle.meaning.specs.Canonical.{escapes}
+use Rattle.writer.proofs.LaidLaws.{put_as, put_next, put_whole}
+use Rattle.writer.proofs.PiecesLaws.{length_three, quoted_parts}
+use Rattle.writer.proofs.string_or_binary.write_string.Goals as goal
+
+pub byte_at-first-requires : goal.byte_at-first-requires
+byte_at-first-requires c =     omega (arith, c.requires, ap length (quoted_parts c.args.s.now), length_three (letters "\"") (escapes c.args.s.now) (letters "\""))
+
+pub escapes_at-last-requires : goal.escapes_at-last-requires
+escapes_at-last-requires c =     omega (
+      arith,
+      c.requires,
+      ap length (quoted_parts c.args.s.now),
+      length_three (letters "\"") (escapes c.args.s.now) (letters "\""),
+      c.byte_at-first.ensures.next,
+      c.byte_at-first.auto.out,
+    )
+
+pub byte_at-requires : goal.byte_at-requires
+byte_at-requires c =     let escapes-at = c.escapes_at-last in
+    omega (
+      arith,
+      c.requires,
+      ap length (quoted_parts c.args.s.now),
+      length_three (letters "\"") (escapes c.args.s.now) (letters "\""),
+      c.byte_at-first.ensures.next,
+      c.byte_at-first.auto.out,
+      escapes-at.ensures.next,
+      escapes-at.auto.0,
+    )
+
+pub returns : goal.returns
+returns c =     let escapes-at = c.escapes_at-last in
+    let byte-at2 = c.byte_at in
+    put_as (sym (quoted_parts c.args.s.now)) (put_whole (put_next (omega arith) (put_next (omega arith) c.byte_at-first.ensures escapes-at.ensures)
+    byte-at2.ensures))

@@ -1,0 +1,18 @@
+-- `time_value::offset_len`: as it is written. Assumes nothing.
+use mathlib.Core.Path.{sym, ap}
+use native.Mathlib.Omega.{arith}
+use lib.ListN.{length}
+use Rattle.writer.proofs.NumberSignLaws.{offset_cast, offset_sign}
+use Rattle.writer.proofs.PiecesLaws.{offset_at_zero, offset_signed}
+use Rattle.writer.proofs.time_value.offset_len.Goals as goal
+
+pub overflow_cast-offset : goal.overflow_cast-offset
+overflow_cast-offset c = offset_cast _ c.ranges.offset
+
+pub returns-then-o-eq0 : goal.returns-then-o-eq0
+returns-then-o-eq0 c =     let sign-and-size = c.sign_and_size-o in
+    (sym (ap length (offset_at_zero _ sign-and-size.result (offset_sign _ c.ranges.offset _ sign-and-size.ensures) c.if-o-eq0.true)), omega arith)
+
+pub returns : goal.returns
+returns c =     let sign-and-size = c.sign_and_size-o in
+    (sym (offset_signed _ sign-and-size.result (offset_sign _ c.ranges.offset _ sign-and-size.ensures) c.if-o-eq0.false), omega arith)
