@@ -26,7 +26,7 @@ use Rattle.grammar.specs.Comments.{CBeginLine, c_char, c_no_star, CLine, Stars, 
 use Rattle.grammar.specs.Numbers.{Finite, Sign, Int, Frac0, Frac1, E, Exp, Dec, X, Unsigned, Number}
 use Rattle.grammar.specs.Strings.{Quote, double, single, Chars, Quoted, Short, Escape, unescaped, UpToTwo, source, MChar, NoNewline, StringPart}
 use Rattle.grammar.specs.Strings.{Concat, String}
-use Rattle.grammar.specs.Times.{Fraction, TimeSecfrac, TimeHour, TimeMinute, LocalTime, LocalDate, Separator, PlusMinus, TimeOffset, TimeValue}
+use Rattle.grammar.specs.Times.{Fraction, TimeSecfrac, TimeHour, TimeMinute, LocalTimeText, LocalDateText, Separator, PlusMinus, TimeOffset, TimeValue}
 use Rattle.grammar.specs.Binary.{BEscape, b_unescaped, BPart, BDirect, BValue, Binary}
 use Rattle.grammar.specs.Keys.{i_begin, i_continue, Identifier, Key}
 use Rattle.grammar.specs.Values.{Inside, elements, members, Closes, Value, Rest, After, Item, Loose, Text}
@@ -186,20 +186,20 @@ hour s d h = TimeHour.hour d (leb→le (valued 0 s) 23 h)
 minute : (s : List ℕ) → Decimal 2 0 s (valued 0 s) → T (leb (valued 0 s) 59) → TimeMinute true s (valued 0 s)
 minute s d h = TimeMinute.sixtieth d (leb→le (valued 0 s) 59 h)
 
-clock : LocalTime true (letters "10:23:54.345678") (time_of_day 10 23 54 345678000)
-clock = LocalTime.local_time (hour (letters "10") (decimals _ 0 tt) tt) (minute (letters "23") (decimals _ 0 tt) tt)
+clock : LocalTimeText true (letters "10:23:54.345678") (time_of_day 10 23 54 345678000)
+clock = LocalTimeText.local_time (hour (letters "10") (decimals _ 0 tt) tt) (minute (letters "23") (decimals _ 0 tt) tt)
     (minute (letters "54") (decimals _ 0 tt) tt) (TimeSecfrac.given (fraction (letters "345678") 9 0 tt))
 
-noon : LocalTime true (letters "12:00:00.0000000009") (time_of_day 12 0 0 0)
-noon = LocalTime.local_time (hour (letters "12") (decimals _ 0 tt) tt) (minute (letters "00") (decimals _ 0 tt) tt)
+noon : LocalTimeText true (letters "12:00:00.0000000009") (time_of_day 12 0 0 0)
+noon = LocalTimeText.local_time (hour (letters "12") (decimals _ 0 tt) tt) (minute (letters "00") (decimals _ 0 tt) tt)
     (minute (letters "00") (decimals _ 0 tt) tt) (TimeSecfrac.given (fraction (letters "0000000009") 9 0 tt))
 
-september : LocalDate true (letters "2017-09-05") (date 2017 9 5)
-september = LocalDate.local_date (decimals (letters "2017") 0 tt) (decimals (letters "09") 0 tt) (decimals (letters "05") 0 tt)
+september : LocalDateText true (letters "2017-09-05") (date 2017 9 5)
+september = LocalDateText.local_date (decimals (letters "2017") 0 tt) (decimals (letters "09") 0 tt) (decimals (letters "05") 0 tt)
     (record { year = lit≤ tt; days = 30; month = Calendar.Days.september; from = lit≤ tt; to = lit≤ tt })
 
-leap_day : LocalDate true (letters "2000-02-29") (date 2000 2 29)
-leap_day = LocalDate.local_date (decimals (letters "2000") 0 tt) (decimals (letters "02") 0 tt) (decimals (letters "29") 0 tt)
+leap_day : LocalDateText true (letters "2000-02-29") (date 2000 2 29)
+leap_day = LocalDateText.local_date (decimals (letters "2000") 0 tt) (decimals (letters "02") 0 tt) (decimals (letters "29") 0 tt)
     (record { year = lit≤ tt; days = 29; month = Calendar.Days.february_leap (Calendar.Leap.fourth_hundred refl refl); from = lit≤ tt; to = lit≤ tt })
 
 -- ---- binary

@@ -23,7 +23,7 @@ use Rattle.grammar.specs.Checks.{Room}
 use Rattle.grammar.specs.Characters.{Range, ◌to◌, Of, Among, Ascii, Many, Digit, Hexdig, Digits, Decimal, Hexadecimal}
 use Rattle.grammar.specs.Numbers.{Finite, Unsigned, Number}
 use Rattle.grammar.specs.Strings.{Quote, double, single, mark, other, Chars, Quoted, Short, joined, Escape, unescaped, StringPart, Concat, String}
-use Rattle.grammar.specs.Times.{Fraction, TimeSecfrac, TimeHour, TimeMinute, LocalTime, LocalDate, signed, TimeOffset, TimeValue}
+use Rattle.grammar.specs.Times.{Fraction, TimeSecfrac, TimeHour, TimeMinute, LocalTimeText, LocalDateText, signed, TimeOffset, TimeValue}
 use Rattle.grammar.specs.Binary.{BEscape, b_unescaped, BPart, BDirect, BValue, Binary}
 use Rattle.grammar.specs.Keys.{Identifier, Key}
 use Rattle.grammar.specs.Values.{Inside, elements, members, Closes, Value, Rest, After, Item, Loose, Text}
@@ -133,11 +133,11 @@ secfrac : {a : List ℕ} {n : ℕ} → TimeSecfrac a n → n < 10 ^ 9
 secfrac TimeSecfrac.absent = lit< tt
 secfrac (TimeSecfrac.given f) = omega (arith, fraction_below f)
 
-pub clock_good : {a : List ℕ} {n : ℕ} → LocalTime true a n → n < day
-clock_good (LocalTime.local_time (TimeHour.hour a h) (TimeMinute.sixtieth b m) (TimeMinute.sixtieth c s) f) = omega (arith, secfrac f)
+pub clock_good : {a : List ℕ} {n : ℕ} → LocalTimeText true a n → n < day
+clock_good (LocalTimeText.local_time (TimeHour.hour a h) (TimeMinute.sixtieth b m) (TimeMinute.sixtieth c s) f) = omega (arith, secfrac f)
 
-pub date_good : {a : List ℕ} {d : DateMeant} → LocalDate true a d → GoodDate d
-date_good (LocalDate.local_date y m d h) = h
+pub date_good : {a : List ℕ} {d : DateMeant} → LocalDateText true a d → GoodDate d
+date_good (LocalDateText.local_date y m d h) = h
 
 minus_size : (n : ℕ) → nat_abs (neg_ℤ (pos n)) ≡ n
 minus_size zero = refl

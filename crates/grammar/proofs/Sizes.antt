@@ -17,7 +17,7 @@ use Rattle.meaning.specs.Tape.{records, elements_records, members_records, store
 use Rattle.grammar.specs.Characters.{Ascii, Digits, Hexadecimal}
 use Rattle.grammar.specs.Numbers.{Int, Frac1, Dec, Unsigned, Number}
 use Rattle.grammar.specs.Strings.{Quote, Chars, Quoted, joined, Escape, StringPart, Concat, String}
-use Rattle.grammar.specs.Times.{LocalTime, LocalDate, TimeValue}
+use Rattle.grammar.specs.Times.{LocalTimeText, LocalDateText, TimeValue}
 use Rattle.grammar.specs.Binary.{BEscape, BPart, BDirect, BValue, Binary}
 use Rattle.grammar.specs.Keys.{Key}
 use Rattle.grammar.specs.Values.{Inside, elements, members, Value, Rest, After, Item, Loose}
@@ -42,11 +42,11 @@ module _ {k : Bool} where
   number : {a : List ℕ} {n : NumberMeant} → Number k a n → 1 ≤ length a
   number (Number.number s u) = simp length-append (omega (arith, unsigned u))
 
-  local_date : {a : List ℕ} {d : DateMeant} → LocalDate k a d → 1 ≤ length a
-  local_date (LocalDate.local_date y m d h) = simp length-append (omega arith)
+  local_date : {a : List ℕ} {d : DateMeant} → LocalDateText k a d → 1 ≤ length a
+  local_date (LocalDateText.local_date y m d h) = simp length-append (omega arith)
 
-  local_time : {a : List ℕ} {n : ℕ} → LocalTime k a n → 1 ≤ length a
-  local_time (LocalTime.local_time h m s f) = simp length-append (omega arith)
+  local_time : {a : List ℕ} {n : ℕ} → LocalTimeText k a n → 1 ≤ length a
+  local_time (LocalTimeText.local_time h m s f) = simp length-append (omega arith)
 
   time_value : {a : List ℕ} {t : TimeMeant} → TimeValue k a t → 1 ≤ length a
   time_value (TimeValue.local_date d) = local_date d

@@ -18,7 +18,7 @@ use Rattle.grammar.specs.Comments.{CBeginLine, CLine, Stars, CInner, CBlock, Bla
 use Rattle.grammar.specs.Numbers.{Sign, Int, Frac0, Frac1, E, Exp, Dec, X, Unsigned, Number}
 use Rattle.grammar.specs.Strings.{Quote, double, single, mark as mark_of, other, three, Chars, Quoted, Short, Escape, UpToTwo, MChar, Newline}
 use Rattle.grammar.specs.Strings.{StringPart, Concat, String}
-use Rattle.grammar.specs.Times.{Fraction, TimeSecfrac, TimeHour, TimeMinute, LocalTime, LocalDate, Separator, Zulu, PlusMinus, TimeOffset}
+use Rattle.grammar.specs.Times.{Fraction, TimeSecfrac, TimeHour, TimeMinute, LocalTimeText, LocalDateText, Separator, Zulu, PlusMinus, TimeOffset}
 use Rattle.grammar.specs.Times.{TimeValue}
 use Rattle.grammar.specs.Binary.{BEscape, BPart, BDirect, BValue, Binary}
 use Rattle.grammar.specs.Keys.{Identifier, Key}
@@ -259,11 +259,11 @@ module _ {k : Bool} where
   minute : {a : List ℕ} {m : ℕ} → TimeMinute k a m → Octets a
   minute (TimeMinute.sixtieth d h) = decimal d
 
-  local_time : {a : List ℕ} {n : ℕ} → LocalTime k a n → Octets a
-  local_time (LocalTime.local_time h m s f) = join (hour h) (ascii (lit≤ tt) (join (minute m) (ascii (lit≤ tt) (join (minute s) (secfrac f)))))
+  local_time : {a : List ℕ} {n : ℕ} → LocalTimeText k a n → Octets a
+  local_time (LocalTimeText.local_time h m s f) = join (hour h) (ascii (lit≤ tt) (join (minute m) (ascii (lit≤ tt) (join (minute s) (secfrac f)))))
 
-  local_date : {a : List ℕ} {d : DateMeant} → LocalDate k a d → Octets a
-  local_date (LocalDate.local_date y m d h) = join (decimal y) (ascii (lit≤ tt) (join (decimal m) (ascii (lit≤ tt) (decimal d))))
+  local_date : {a : List ℕ} {d : DateMeant} → LocalDateText k a d → Octets a
+  local_date (LocalDateText.local_date y m d h) = join (decimal y) (ascii (lit≤ tt) (join (decimal m) (ascii (lit≤ tt) (decimal d))))
 
   offset : {a : List ℕ} {o : ℤ} → TimeOffset k a o → Octets a
   offset (TimeOffset.zulu z) = ascii (zulu z) Octets.none

@@ -32,16 +32,16 @@ pub data TimeMinute (k : Bool) : List ℕ → ℕ → Type 0 where
   sixtieth : {a : List ℕ} {m : ℕ} → Decimal 2 0 a m → Checked k (m ≤ 59) → TimeMinute k a m
 
 -- local-time = time-hour ":" time-minute ":" time-second [ time-secfrac ]
-pub data LocalTime (k : Bool) : List ℕ → ℕ → Type 0 where
+pub data LocalTimeText (k : Bool) : List ℕ → ℕ → Type 0 where
   local_time : {a b c f : List ℕ} {h m s n : ℕ} → TimeHour k a h → TimeMinute k b m → TimeMinute k c s
-      → TimeSecfrac f n → LocalTime k (a ++ (ch ":" ∷ (b ++ (ch ":" ∷ (c ++ f))))) (time_of_day h m s n)
+      → TimeSecfrac f n → LocalTimeText k (a ++ (ch ":" ∷ (b ++ (ch ":" ∷ (c ++ f))))) (time_of_day h m s n)
 
 -- local-date = date-fullyear "-" date-month "-" date-mday
 -- date-fullyear = 4DIGIT ; date-month = 2DIGIT ; date-mday = 2DIGIT
-pub data LocalDate (k : Bool) : List ℕ → D.Date → Type 0 where
+pub data LocalDateText (k : Bool) : List ℕ → D.Date → Type 0 where
   local_date : {a b c : List ℕ} {y m d : ℕ} → Decimal 4 0 a y → Decimal 2 0 b m → Decimal 2 0 c d
       → Checked k (Calendar.Date y m d)
-      → LocalDate k (a ++ (ch "-" ∷ (b ++ (ch "-" ∷ c)))) (record { year = y; month = m; day = d })
+      → LocalDateText k (a ++ (ch "-" ∷ (b ++ (ch "-" ∷ c)))) (record { year = y; month = m; day = d })
 
 -- ( "T" / " " ); a letter between quotes stands for both its cases (RFC 5234, 2.3)
 pub data Separator : ℕ → Type 0 where
@@ -74,9 +74,9 @@ pub data TimeOffset (k : Bool) : List ℕ → ℤ → Type 0 where
 -- local-date-time = local-date ( "T" / " " ) local-time
 -- offset-date-time = local-date-time time-offset
 pub data TimeValue (k : Bool) : List ℕ → M.Time → Type 0 where
-  local_date : {a : List ℕ} {d : D.Date} → LocalDate k a d → TimeValue k a (LocalDate d)
-  local_time : {a : List ℕ} {n : ℕ} → LocalTime k a n → TimeValue k a (LocalTime n)
-  local_date_time : {a b : List ℕ} {d : D.Date} {x n : ℕ} → LocalDate k a d → Separator x → LocalTime k b n
+  local_date : {a : List ℕ} {d : D.Date} → LocalDateText k a d → TimeValue k a (LocalDate d)
+  local_time : {a : List ℕ} {n : ℕ} → LocalTimeText k a n → TimeValue k a (LocalTime n)
+  local_date_time : {a b : List ℕ} {d : D.Date} {x n : ℕ} → LocalDateText k a d → Separator x → LocalTimeText k b n
       → TimeValue k (a ++ (x ∷ b)) (LocalDateTime d n)
-  offset_date_time : {a b c : List ℕ} {d : D.Date} {x n : ℕ} {o : ℤ} → LocalDate k a d → Separator x → LocalTime k b n
+  offset_date_time : {a b c : List ℕ} {d : D.Date} {x n : ℕ} {o : ℤ} → LocalDateText k a d → Separator x → LocalTimeText k b n
       → TimeOffset k c o → TimeValue k (a ++ (x ∷ (b ++ c))) (OffsetDateTime d n o)

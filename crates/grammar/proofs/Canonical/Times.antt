@@ -18,7 +18,7 @@ use Rattle.meaning.specs.Clock.{time_of_day}
 use Rattle.meaning.specs.Good.{GoodDate, GoodTime}
 use Rattle.meaning.specs.Canonical.{fixed, trimmed, date_text, fraction_text, clock_text, minutes_text, offset_text, time_text}
 use Rattle.grammar.specs.Characters.{Digit, Digits, Decimal}
-use Rattle.grammar.specs.Times.{Fraction, TimeSecfrac, TimeHour, TimeMinute, LocalTime, LocalDate, Separator, Zulu, signed, PlusMinus, TimeOffset}
+use Rattle.grammar.specs.Times.{Fraction, TimeSecfrac, TimeHour, TimeMinute, LocalTimeText, LocalDateText, Separator, Zulu, signed, PlusMinus, TimeOffset}
 use Rattle.grammar.specs.Times.{TimeValue}
 use Rattle.grammar.proofs.Canonical.Digits.{fixed_is}
 
@@ -39,11 +39,11 @@ month_least Calendar.Days.october = (lit≤ tt, lit≤ tt)
 month_least Calendar.Days.november = (lit≤ tt, lit≤ tt)
 month_least Calendar.Days.december = (lit≤ tt, lit≤ tt)
 
-pub date_derived : (d : DateMeant) → GoodDate d → LocalDate true (date_text d) d
+pub date_derived : (d : DateMeant) → GoodDate d → LocalDateText true (date_text d) d
 unfolding date_text
 date_derived d g =
     let h = month_least g.month in
-    simp append_assoc (LocalDate.local_date (fixed_is 4 d.year (omega (arith, g.year))) (fixed_is 2 d.month (omega (arith, h.0)))
+    simp append_assoc (LocalDateText.local_date (fixed_is 4 d.year (omega (arith, g.year))) (fixed_is 2 d.month (omega (arith, h.0)))
     (fixed_is 2 d.day (omega (arith, h.1, g.to))) g)
 
 -- ---- clocks
@@ -96,11 +96,11 @@ clock_is t =
     let h : t / (60 * second) / 60 ≡ t / (60 * 60 * second) = div-div-eq-div-mul t (60 * second) 60 in
     omega arith
 
-pub clock_derived : (t : ℕ) → t < day → LocalTime true (clock_text t) t
+pub clock_derived : (t : ℕ) → t < day → LocalTimeText true (clock_text t) t
 unfolding clock_text
 clock_derived t h =
-    subst (LocalTime true _) (clock_is t)
-    (simp append_assoc (LocalTime.local_time (hour (t / (60 * 60 * second)) (omega arith)) (minute (t / (60 * second) % 60) (omega arith))
+    subst (LocalTimeText true _) (clock_is t)
+    (simp append_assoc (LocalTimeText.local_time (hour (t / (60 * 60 * second)) (omega arith)) (minute (t / (60 * second) % 60) (omega arith))
     (minute (t / second % 60) (omega arith)) (secfrac (t % second) (omega arith))))
 
 -- ---- offsets

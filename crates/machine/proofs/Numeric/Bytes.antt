@@ -16,7 +16,7 @@ use Rattle.meaning.specs.Letters.{letters, ch}
 use Rattle.meaning.specs.Meaning.{Meaning}
 use Rattle.grammar.specs.Characters.{Digit, Hexdig, Digits, Decimal}
 use Rattle.grammar.specs.Numbers.{Sign, Int, Frac0, Frac1, E, Exp, Dec, X, Unsigned, Number}
-use Rattle.grammar.specs.Times.{Fraction, TimeSecfrac, TimeHour, TimeMinute, LocalTime, LocalDate, Separator, Zulu, PlusMinus, TimeOffset, TimeValue}
+use Rattle.grammar.specs.Times.{Fraction, TimeSecfrac, TimeHour, TimeMinute, LocalTimeText, LocalDateText, Separator, Zulu, PlusMinus, TimeOffset, TimeValue}
 use Rattle.machine.proofs.Numeric.SoundTime.{and_both}
 use Rattle.machine.proofs.Numeric.Items.{NumericItem}
 
@@ -61,11 +61,11 @@ number_begins (Number.number Sign.unsigned u) = unsigned_begins u
 number_begins (Number.number Sign.plus u) = Begins.begins Lead.plus
 number_begins (Number.number Sign.minus u) = Begins.begins Lead.minus
 
-date_begins : {k : Bool} {a : List ℕ} {d : D.Date} → LocalDate k a d → Begins a
-date_begins (LocalDate.local_date y m d x) = begins_more (digits_begin y) _
+date_begins : {k : Bool} {a : List ℕ} {d : D.Date} → LocalDateText k a d → Begins a
+date_begins (LocalDateText.local_date y m d x) = begins_more (digits_begin y) _
 
-clock_begins : {k : Bool} {a : List ℕ} {n : ℕ} → LocalTime k a n → Begins a
-clock_begins (LocalTime.local_time (TimeHour.hour h l) m s f) = begins_more (digits_begin h) _
+clock_begins : {k : Bool} {a : List ℕ} {n : ℕ} → LocalTimeText k a n → Begins a
+clock_begins (LocalTimeText.local_time (TimeHour.hour h l) m s f) = begins_more (digits_begin h) _
 
 pub time_begins : {k : Bool} {a : List ℕ} {t : T.Time} → TimeValue k a t → Begins a
 time_begins (TimeValue.local_date d) = date_begins d
@@ -176,12 +176,12 @@ colon = plain_byte_lem (ch ":") (omega arith)
 hyphen : In 0 0x7F (ch "-")
 hyphen = plain_byte_lem (ch "-") (omega arith)
 
-clock_plain : {a : List ℕ} {n : ℕ} → LocalTime true a n → Plain a
-clock_plain (LocalTime.local_time h m s f) = each_join (hour_plain h) (all_more colon
+clock_plain : {a : List ℕ} {n : ℕ} → LocalTimeText true a n → Plain a
+clock_plain (LocalTimeText.local_time h m s f) = each_join (hour_plain h) (all_more colon
     (each_join (minute_plain m) (all_more colon (each_join (minute_plain s) (secfrac_plain f)))))
 
-date_plain : {a : List ℕ} {d : D.Date} → LocalDate true a d → Plain a
-date_plain (LocalDate.local_date y m d x) = each_join (decimal_plain y) (all_more hyphen (each_join (decimal_plain m) (all_more hyphen (decimal_plain d))))
+date_plain : {a : List ℕ} {d : D.Date} → LocalDateText true a d → Plain a
+date_plain (LocalDateText.local_date y m d x) = each_join (decimal_plain y) (all_more hyphen (each_join (decimal_plain m) (all_more hyphen (decimal_plain d))))
 
 separator_plain : {b : ℕ} → Separator b → In 0 0x7F b
 separator_plain Separator.letter = plain_byte_lem (ch "T") (omega arith)

@@ -17,7 +17,7 @@ use Rattle.meaning.specs.Meaning.{Meaning}
 use Rattle.grammar.specs.Checks.{Checked}
 use Rattle.grammar.specs.Characters.{Digit, Digits, Decimal}
 use Rattle.grammar.specs.Comments.{Blank}
-use Rattle.grammar.specs.Times.{Fraction, TimeSecfrac, TimeHour, TimeMinute, LocalTime, LocalDate, Separator, Zulu, PlusMinus, TimeOffset, TimeValue}
+use Rattle.grammar.specs.Times.{Fraction, TimeSecfrac, TimeHour, TimeMinute, LocalTimeText, LocalDateText, Separator, Zulu, PlusMinus, TimeOffset, TimeValue}
 use Rattle.grammar.specs.Times.{signed}
 use Rattle.machine.specs.Numeric.{St, Res, begin, both, field, spaced, nanos, d1, d2, d3, d4, When, alone, on, Slot, month, day, hour, minute, second}
 use Rattle.machine.specs.Numeric.{offset_hour, offset_minute, scan, dig, on_zone, ok_date, ok_clock, dated}
@@ -179,18 +179,18 @@ time_end k q h m s n e y st c p = halts (λ b i. rw (c.at_end i p) (y _ e))
 
 -- a time value, with its checks or without
 pub time_goes_to : {k : Bool} {a : List ℕ} {t : M.Time} {Q : Res → Type 0} (p : ℕ) → TimeValue k a t → Judged k Q p t → Run Q p begin a
-time_goes_to {k} {Q = Q} p (TimeValue.local_date (LocalDate.local_date {y = y} {m = m} {d = d} i j o x)) w =
+time_goes_to {k} {Q = Q} p (TimeValue.local_date (LocalDateText.local_date {y = y} {m = m} {d = d} i j o x)) w =
     rw append-nil at (date_run {Q = Q} i j o p (λ s. GoesTo.ends (date_halt Q y m d s p (w _ (by_check k date_is x)))))
-time_goes_to {k} {Q = Q} p (TimeValue.local_time (LocalTime.local_time {h = h} {m = m} {s = s} {n = n} (TimeHour.hour i l) (TimeMinute.sixtieth j v)
+time_goes_to {k} {Q = Q} p (TimeValue.local_time (LocalTimeText.local_time {h = h} {m = m} {s = s} {n = n} (TimeHour.hour i l) (TimeMinute.sixtieth j v)
     (TimeMinute.sixtieth o w) u)) y =
     rw append-nil at (hour_first {Q = Q} i p (λ z t. took {c = ch ":"} (clock_run p alone h j o u (time_end k p h m s n (ok_clock_lem k h m s l v w) y) (suc t))
     refl))
-time_goes_to {k} {Q = Q} p (TimeValue.local_date_time (LocalDate.local_date {y = y} {m = mo} {d = d} i j o t) x
-    (LocalTime.local_time {h = h} {m = m} {s = s} {n = n} (TimeHour.hour a l) (TimeMinute.sixtieth b v) (TimeMinute.sixtieth c w) f)) z =
+time_goes_to {k} {Q = Q} p (TimeValue.local_date_time (LocalDateText.local_date {y = y} {m = mo} {d = d} i j o t) x
+    (LocalTimeText.local_time {h = h} {m = m} {s = s} {n = n} (TimeHour.hour a l) (TimeMinute.sixtieth b v) (TimeMinute.sixtieth c w) f)) z =
     simp append_assoc (rw append-nil at (date_run {Q = Q} i j o p (sep_run x a b c f p
     (stamp_end k p (dated y mo d) h m s n (by_checks k (both_ok _ _) (by_check k date_is t) (ok_clock_lem k h m s l v w)) z))))
-time_goes_to {k} {Q = Q} p (TimeValue.offset_date_time (LocalDate.local_date {y = y} {m = mo} {d = d} i j o t) x
-    (LocalTime.local_time {h = h} {m = m} {s = s} {n = n} (TimeHour.hour a l) (TimeMinute.sixtieth b v) (TimeMinute.sixtieth c w) f) e) z =
+time_goes_to {k} {Q = Q} p (TimeValue.offset_date_time (LocalDateText.local_date {y = y} {m = mo} {d = d} i j o t) x
+    (LocalTimeText.local_time {h = h} {m = m} {s = s} {n = n} (TimeHour.hour a l) (TimeMinute.sixtieth b v) (TimeMinute.sixtieth c w) f) e) z =
     simp append_assoc (date_run i j o p (sep_run x a b c f p (zone_run k p (dated y mo d) h m s n
     (by_checks k (both_ok _ _) (by_check k date_is t) (ok_clock_lem k h m s l v w)) e z)))
 

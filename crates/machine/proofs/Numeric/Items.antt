@@ -9,7 +9,7 @@ use Rattle.meaning.specs.declared.Time.TheVariants.{LocalDate}
 use Rattle.meaning.specs.Letters.{letters}
 use Rattle.meaning.specs.Meaning.{Meaning}
 use Rattle.grammar.specs.Numbers.{Number}
-use Rattle.grammar.specs.Times.{LocalDate, TimeValue}
+use Rattle.grammar.specs.Times.{LocalDateText, TimeValue}
 
 pub data NumericItem (k : Bool) : List ℕ → Meaning → Type 0 where
   number : {a : List ℕ} {n : N.Number} → Number k a n → NumericItem k a (Meaning.number n)
@@ -18,4 +18,4 @@ pub data NumericItem (k : Bool) : List ℕ → Meaning → Type 0 where
 pub data Taken (k : Bool) : List ℕ → Meaning → Type 0 where
   item : {a : List ℕ} {m : Meaning} → NumericItem k a m → Taken k a m
   -- a date, and a space after it that no digit follows
-  trailed : {a : List ℕ} {d : D.Date} → LocalDate k a d → Taken k (a ++ letters " ") (Meaning.time (LocalDate d))
+  trailed : {a : List ℕ} {d : D.Date} → LocalDateText k a d → Taken k (a ++ letters " ") (Meaning.time (LocalDate d))

@@ -16,7 +16,7 @@ use Rattle.meaning.specs.Clock.{time_of_day}
 use Rattle.meaning.specs.Meaning.{Meaning}
 use Rattle.grammar.specs.Checks.{Checked}
 use Rattle.grammar.specs.Characters.{Digit, Digits, Decimal}
-use Rattle.grammar.specs.Times.{Fraction, TimeSecfrac, TimeHour, TimeMinute, LocalTime, LocalDate, Separator, TimeOffset, TimeValue, signed}
+use Rattle.grammar.specs.Times.{Fraction, TimeSecfrac, TimeHour, TimeMinute, LocalTimeText, LocalDateText, Separator, TimeOffset, TimeValue, signed}
 use Rattle.machine.specs.Numeric.{When, alone, on, Slot, month, day, hour, minute, second, offset_hour, offset_minute, dig, ok_date, ok_clock, dated}
 use Rattle.machine.proofs.Numeric.Rows.{DecimalDigit}
 use Rattle.machine.proofs.Numeric.CompleteTime.{by_check}
@@ -112,7 +112,7 @@ module _ (ck : Bool) where
 
   -- a clock, and what follows it
   clock_of_lem : (c : When) (a : List ℕ) (w : Meaning) → FieldRest 2 0 (Hour c) a w → (b : List ℕ) × (e : List ℕ) × (h : ℕ) × (m : ℕ) × (s : ℕ) × (n : ℕ)
-      × (a ≡ b ++ e) × (Checked ck (ok_clock h m s ≡ true) → LocalTime ck b (time_of_day h m s n)) × EndRest c h m s n e w
+      × (a ≡ b ++ e) × (Checked ck (ok_clock h m s ≡ true) → LocalTimeText ck b (time_of_day h m s n)) × EndRest c h m s n e w
   clock_of_lem c a w x =
       let y = x.5.2 in
       let z = y.5.2 in
@@ -124,7 +124,7 @@ module _ (ck : Bool) where
         z.2,
         f.2,
         simp append_assoc (cc (x.3, x.5.1, y.3, y.5.1, z.3, f.3)),
-        (λ e. let k = clock_checked ck x.2 y.2 z.2 e in LocalTime.local_time (TimeHour.hour x.4 k.0) (TimeMinute.sixtieth y.4 k.1)
+        (λ e. let k = clock_checked ck x.2 y.2 z.2 e in LocalTimeText.local_time (TimeHour.hour x.4 k.0) (TimeMinute.sixtieth y.4 k.1)
             (TimeMinute.sixtieth z.4 k.2) f.4),
         f.5,
       )
@@ -142,11 +142,11 @@ module _ (ck : Bool) where
       time_by (c.6 ∙ ap (λ (l : List ℕ). c.0 ++ l) e.1 ∙ append-nil c.0) e.2 (TimeValue.local_time (c.7 e.0))
 
   -- after a date
-  module _ (b : List ℕ) (d : D.Date) (w : Meaning) (made : Checked ck (ok_date d ≡ true) → LocalDate ck b d) where
+  module _ (b : List ℕ) (d : D.Date) (w : Meaning) (made : Checked ck (ok_date d ≡ true) → LocalDateText ck b d) where
     stamp_taken : (x : ℕ) (r : List ℕ) → Separator x → FieldRest 2 0 (Hour (on d)) r w → Taken ck (b ++ (x ∷ r)) w
     stamp_taken x r p k = let c = clock_of_lem (on d) r w k in go c.0 c.1 c.2 c.3 c.4 c.5 c.6 c.7 c.8.0 c.8.1 c.8.2
       where
-        go : (a e : List ℕ) (h m s n : ℕ) → r ≡ a ++ e → (Checked ck (ok_clock h m s ≡ true) → LocalTime ck a (time_of_day h m s n))
+        go : (a e : List ℕ) (h m s n : ℕ) → r ≡ a ++ e → (Checked ck (ok_clock h m s ≡ true) → LocalTimeText ck a (time_of_day h m s n))
             → Checked ck (ok_date d ≡ true) → Checked ck (ok_clock h m s ≡ true) → ((e ≡ []) × (Meaning.time (LocalDateTime d (time_of_day h m s n)) ≡ w))
             ⊎ ((o : ℤ) × TimeOffset ck e o × (Meaning.time (OffsetDateTime d (time_of_day h m s n) o) ≡ w)) → Taken ck (b ++ (x ∷ r)) w
         go a e h m s n q k i j (inl z) = time_by (ap (λ (l : List ℕ). b ++ (x ∷ l)) (q ∙ ap (λ (l : List ℕ). a ++ l) z.0 ∙ append-nil a)) z.1
@@ -167,4 +167,4 @@ module _ (ck : Bool) where
       let z = y.5.2 in
       taken_by (simp append_assoc (cc (x.3, x.5.1, y.3, y.5.1, z.3))) refl
       (date_taken (x.0 ++ (ch "-" ∷ (y.0 ++ (ch "-" ∷ z.0)))) (dated x.2 y.2 z.2) w
-      (λ e. LocalDate.local_date x.4 y.4 z.4 (by_check ck is_date_lem e)) z.1 z.5)
+      (λ e. LocalDateText.local_date x.4 y.4 z.4 (by_check ck is_date_lem e)) z.1 z.5)

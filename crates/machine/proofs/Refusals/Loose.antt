@@ -10,7 +10,7 @@ use Rattle.meaning.specs.Limits.{depth_limit}
 use Rattle.grammar.specs.Checks.{Room}
 use Rattle.grammar.specs.Characters.{Among}
 use Rattle.grammar.specs.Numbers.{Finite, Unsigned, Number}
-use Rattle.grammar.specs.Times.{TimeHour, TimeMinute, LocalTime, LocalDate, TimeOffset, TimeValue}
+use Rattle.grammar.specs.Times.{TimeHour, TimeMinute, LocalTimeText, LocalDateText, TimeOffset, TimeValue}
 use Rattle.grammar.specs.Strings.{Quote, Chars, Quoted, Escape, unescaped, StringPart, Concat, String}
 use Rattle.grammar.specs.Keys.{Key}
 use Rattle.grammar.specs.Values.{Value, Rest, After, Item}
@@ -36,11 +36,11 @@ loose_hour (TimeHour.hour d l) = TimeHour.hour d tt
 loose_minute : {a : List ℕ} {h : ℕ} → TimeMinute true a h → TimeMinute false a h
 loose_minute (TimeMinute.sixtieth d l) = TimeMinute.sixtieth d tt
 
-loose_clock : {a : List ℕ} {n : ℕ} → LocalTime true a n → LocalTime false a n
-loose_clock (LocalTime.local_time h m s f) = LocalTime.local_time (loose_hour h) (loose_minute m) (loose_minute s) f
+loose_clock : {a : List ℕ} {n : ℕ} → LocalTimeText true a n → LocalTimeText false a n
+loose_clock (LocalTimeText.local_time h m s f) = LocalTimeText.local_time (loose_hour h) (loose_minute m) (loose_minute s) f
 
-loose_date : {a : List ℕ} {d : D.Date} → LocalDate true a d → LocalDate false a d
-loose_date (LocalDate.local_date y m d x) = LocalDate.local_date y m d tt
+loose_date : {a : List ℕ} {d : D.Date} → LocalDateText true a d → LocalDateText false a d
+loose_date (LocalDateText.local_date y m d x) = LocalDateText.local_date y m d tt
 
 loose_offset : {a : List ℕ} {o : ℤ} → TimeOffset true a o → TimeOffset false a o
 loose_offset (TimeOffset.zulu z) = TimeOffset.zulu z

@@ -19,7 +19,7 @@ use Rattle.meaning.specs.Letters.{letters, ch}
 use Rattle.meaning.specs.Meaning.{Meaning}
 use Rattle.grammar.specs.Characters.{Digit, Digits, Decimal}
 use Rattle.grammar.specs.Numbers.{Number}
-use Rattle.grammar.specs.Times.{Fraction, TimeSecfrac, TimeHour, TimeMinute, LocalTime, LocalDate, Separator, Zulu, TimeOffset, TimeValue}
+use Rattle.grammar.specs.Times.{Fraction, TimeSecfrac, TimeHour, TimeMinute, LocalTimeText, LocalDateText, Separator, Zulu, TimeOffset, TimeValue}
 use Rattle.grammar.specs.Refused.{Numeric, TakesNone, value, Left}
 use Rattle.machine.specs.Scan.{takes, stops, breaks, over}
 use Rattle.machine.specs.Machine
@@ -49,7 +49,7 @@ taken_some : {z : List ℕ} {w : Meaning} → Taken false z w → (v : List ℕ)
 taken_some (Taken.item {a = a} (NumericItem.number y)) = ([], rw append-nil (Numeric.number y))
 taken_some (Taken.item {a = a} (NumericItem.time_value y)) = ([], rw append-nil (Numeric.time_value y))
 taken_some (Taken.trailed {a = a} y) =
-    let clock = LocalTime.local_time (TimeHour.hour zeros tt) (TimeMinute.sixtieth zeros tt) (TimeMinute.sixtieth zeros tt) TimeSecfrac.absent in
+    let clock = LocalTimeText.local_time (TimeHour.hour zeros tt) (TimeMinute.sixtieth zeros tt) (TimeMinute.sixtieth zeros tt) TimeSecfrac.absent in
     (letters "00:00:00", rw append_assoc (Numeric.time_value (TimeValue.local_date_time y Separator.space clock)))
 
 takes_not : (p : ℕ) (c : List ℕ) (s : St) (b : ℕ) → Steps scan p begin c s → ((y : List ℕ) → Numeric (c ++ (b ∷ y)) → ⊥) → Takes (scan (adv p c) s b) → ⊥
@@ -234,16 +234,16 @@ some : {b : ℕ} {a : List ℕ} → (b ∷ a ≡ []) ⊎ Ended (b ∷ a) → End
 some (inl e) = absurd (let z : ◌≡◌ {A = ℕ} 0 1 = cc in omega arith)
 some (inr h) = h
 
-clock_ended : {k : Bool} {a : List ℕ} {n : ℕ} → LocalTime k a n → Ended a
-clock_ended (LocalTime.local_time {a = a} {b = b} {c = c} (TimeHour.hour h l) (TimeMinute.sixtieth m i) (TimeMinute.sixtieth s j) f) =
+clock_ended : {k : Bool} {a : List ℕ} {n : ℕ} → LocalTimeText k a n → Ended a
+clock_ended (LocalTimeText.local_time {a = a} {b = b} {c = c} (TimeHour.hour h l) (TimeMinute.sixtieth m i) (TimeMinute.sixtieth s j) f) =
     more a (more (ch ":" ∷ b) (more (ch ":" ∷ []) (go f)))
   where
     go : {f : List ℕ} {n : ℕ} → TimeSecfrac f n → Ended (c ++ f)
     go TimeSecfrac.absent = rw append-nil (two_ended s)
     go (TimeSecfrac.given x) = more c (more (ch "." ∷ []) (some (fraction_or x)))
 
-date_ended : {k : Bool} {a : List ℕ} {d : D.Date} → LocalDate k a d → Ended a
-date_ended (LocalDate.local_date {a = a} {b = b} y m d x) = more a (more (ch "-" ∷ b) (more (ch "-" ∷ []) (two_ended d)))
+date_ended : {k : Bool} {a : List ℕ} {d : D.Date} → LocalDateText k a d → Ended a
+date_ended (LocalDateText.local_date {a = a} {b = b} y m d x) = more a (more (ch "-" ∷ b) (more (ch "-" ∷ []) (two_ended d)))
 
 offset_ended : {k : Bool} {a : List ℕ} {o : ℤ} → TimeOffset k a o → Ended a
 offset_ended (TimeOffset.zulu Zulu.letter) = ([], ch "Z", refl, λ e. omega arith)
@@ -280,7 +280,7 @@ module _ (p : ℕ) (a : List ℕ) (t : T.Time) (y : TimeValue false a t) (bad : 
   bad_spaced (Taken.item (NumericItem.number z)) e f = let z : ◌≡◌ {A = ℕ} 0 1 = cc in omega arith
   bad_spaced (Taken.item (NumericItem.time_value z)) e f = no_space_last z a f
   bad_spaced (Taken.trailed {a = c} {d = d} z) e f =
-      bad _ (TimeValue.local_date (subst (λ (b : List ℕ). LocalDate true b d) (snoc c a (ch " ") (ch " ") f).0 z))
+      bad _ (TimeValue.local_date (subst (λ (b : List ℕ). LocalDateText true b d) (snoc c a (ch " ") (ch " ") f).0 z))
 
   module _ (u : St) (x : Steps scan p begin (a ++ letters " ") u) (d : ℕ) (k : List Frame) where
     abbrev here : ℕ
