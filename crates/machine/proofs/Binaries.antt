@@ -13,7 +13,7 @@ use Rattle.machine.specs.Scan.{Out, takes, stops}
 use Rattle.machine.specs.Strings.{hex_of, short_of}
 use Rattle.machine.specs.Binaries.{St, start, dollar, text, esc, hex, hex_low, low, pairs, dot, done, begin, on_digit, on_short, on_text, scan}
 use Rattle.machine.proofs.Runs.{PartEnds, adv, Goes, took, halts, Steps, eats, steps_join, steps_go, OutIs}
-use Rattle.machine.proofs.Strings.Tests.{by_eqb, by_ltb, by_leb, hex_of_lem, hex_small, hex_ascii, hex_is, short_of_lem, short_is, ends_all}
+use Rattle.machine.proofs.Strings.Tests.{by_eqb, by_ltb, by_leb, hex_of_lem, hex_small, hex_ascii, hex_is, over_is, short_of_lem, short_is, ends_all}
 use Rattle.machine.proofs.Strings.Quotes.{Between, between, between_other, plain_char}
 use Rattle.machine.proofs.Strings.Ascii.{Ascii}
 
@@ -60,9 +60,9 @@ unfolding scan on_short
 escape_steps (BEscape.short {b = b} {c = c} x) p q acc =
     let u = short_of_lem x in
     eats scan Steps.stay (rw (ne_eqb b 0x78 u.1.no_x, u.0, lt-ltb c 256 (omega arith)))
-escape_steps (BEscape.byte (Digits.next {x = x} h (Digits.next {x = y} g Digits.over))) p q acc =
-    eats scan (eats scan (eats scan Steps.stay (digit_step g (λ y. text q (acc ++ ((16 * x + y) ∷ []))) _ ∙ rw (pair_value x y)))
-    (digit_step h (hex_low q acc) _)) refl
+escape_steps (BEscape.byte (Digits.next {x = x} h (Digits.next {x = y} g z))) p q acc =
+    let e = over_is z in rw (e.0, e.1) (eats scan (eats scan (eats scan Steps.stay (digit_step g (λ y. text q (acc ++ ((16 * x + y) ∷ []))) _ ∙ rw (pair_value x y)))
+    (digit_step h (hex_low q acc) _)) refl)
 
 back_step : (p q : ℕ) (acc : List ℕ) → scan p (text q acc) (ch "\\") ≡ takes (esc q acc)
 unfolding scan on_text
@@ -110,8 +110,9 @@ dot_opens acc b x h p = digit_step h (low acc) _
 
 pair_steps : {n : ℕ} {a : List ℕ} {s : St} {acc : List ℕ} → Hexadecimal 2 a n → Opens s acc → (p : ℕ) → Run p s a (pairs (acc ++ (n ∷ [])))
 unfolding scan
-pair_steps {acc = acc} (Digits.next {b = b} {x = x} h (Digits.next {x = y} g Digits.over)) f p =
-    eats scan (eats scan Steps.stay (digit_step g (λ y. pairs (acc ++ ((16 * x + y) ∷ []))) _ ∙ rw (pair_value x y))) (f b x h p)
+pair_steps {acc = acc} (Digits.next {b = b} {x = x} h (Digits.next {x = y} g z)) f p =
+    let e = over_is z in
+    rw (e.0, e.1) (eats scan (eats scan Steps.stay (digit_step g (λ y. pairs (acc ++ ((16 * x + y) ∷ []))) _ ∙ rw (pair_value x y))) (f b x h p))
 
 part_steps : {a u : List ℕ} → BPart a u → (s : St) (acc : List ℕ) → Opens s acc → (p : ℕ) → Run p s a (pairs (acc ++ u))
 part_steps (BPart.last x) s acc f p = pair_steps x f p

@@ -395,6 +395,7 @@ begins_name b (inl y) p d k = letter_starts b (λ e. omega arith) (λ f. omega a
 begins_name b (inr (inl y)) p d k = letter_starts b (λ e. omega arith) (λ f. omega arith) (omega arith) p d k (class_of b) (class_is_lem b)
 begins_name b (inr (inr (inl y))) p d k = let e : b ≡ ch "$" = omega arith in (rw e, rw e)
 begins_name b (inr (inr (inr (inl y)))) p d k = let e : b ≡ ch "_" = omega arith in (rw e, rw e)
+begins_name b (inr (inr (inr (inr y)))) p d k = elim y [ ]
 
 pub name_told : {c : List ℕ} → Identifier c → (p d : ℕ) (k : List Frame) (r : List ℕ) → Follows PartEnds r → tell p (at (base want_key) d k) (c ++ r)
     ≡ after (starts p ∷ []) (tell (adv p c) (at (base (got (Got.key c))) d k) r)

@@ -166,6 +166,7 @@ high_block b x l f g = omega arith
 line_class : (b : ℕ) → Of c_char b → LineByte b
 line_class b (inl x) l = omega arith
 line_class b (inr (inl x)) l = omega arith
+line_class b (inr (inr x)) l = elim x [ ]
 
 pub star_class : (b : ℕ) → Of c_no_star b → BlockByte b × (b ≡ ch "*" → ⊥)
 star_class b (inl x) = ((λ l f g. absurd (f (omega arith))), λ e. omega arith)
@@ -173,6 +174,7 @@ star_class b (inr (inl x)) = ((λ l f g. absurd (g (omega arith))), λ e. omega 
 star_class b (inr (inr (inl x))) = ((λ l f g. omega arith), λ e. omega arith)
 star_class b (inr (inr (inr (inl x)))) = ((λ l f g. omega arith), λ e. omega arith)
 star_class b (inr (inr (inr (inr (inl x))))) = ((λ l f g. omega arith), λ e. omega arith)
+star_class b (inr (inr (inr (inr (inr x))))) = elim x [ ]
 
 slash_class : (b : ℕ) → Of c_no_star_or_slash b → BlockByte b × (b ≡ ch "*" → ⊥) × (b ≡ ch "/" → ⊥)
 slash_class b (inl x) = ((λ l f g. absurd (f (omega arith))), (λ e. omega arith), λ e. omega arith)
@@ -181,6 +183,7 @@ slash_class b (inr (inr (inl x))) = ((λ l f g. omega arith), (λ e. omega arith
 slash_class b (inr (inr (inr (inl x)))) = ((λ l f g. omega arith), (λ e. omega arith), λ e. omega arith)
 slash_class b (inr (inr (inr (inr (inl x))))) = ((λ l f g. omega arith), (λ e. omega arith), λ e. omega arith)
 slash_class b (inr (inr (inr (inr (inr (inl x)))))) = ((λ l f g. omega arith), (λ e. omega arith), λ e. omega arith)
+slash_class b (inr (inr (inr (inr (inr (inr x)))))) = elim x [ ]
 
 -- ---- runs
 

@@ -50,6 +50,7 @@ letter_of b (inr (inr (inr (inl i)))) =
         ),
       ),
     ))
+letter_of b (inr (inr (inr (inr i)))) = elim i [ ]
 
 figure_of_lem : (b : ℕ) → In 0x30 0x39 b → class_of b ≡ figure
 unfolding class_of
@@ -77,12 +78,14 @@ continues b (inr (inl i)) = inl (inr (inl i))
 continues b (inr (inr (inl i))) = inl (inr (inr (inl i)))
 continues b (inr (inr (inr (inl i)))) = inl (inr (inr (inr (inl i))))
 continues b (inr (inr (inr (inr (inl i))))) = inr i
+continues b (inr (inr (inr (inr (inr i))))) = elim i [ ]
 
 letter_continues : (b : ℕ) → Of i_begin b → Of i_continue b
 letter_continues b (inl i) = inl i
 letter_continues b (inr (inl i)) = inr (inl i)
 letter_continues b (inr (inr (inl i))) = inr (inr (inl i))
 letter_continues b (inr (inr (inr (inl i)))) = inr (inr (inr (inl i)))
+letter_continues b (inr (inr (inr (inr i)))) = elim i [ ]
 
 continue_step : (b : ℕ) → Of i_continue b → (p : ℕ) (acc : List ℕ) → scan p (name acc) b ≡ takes (name (acc ++ (b ∷ [])))
 unfolding scan on_name

@@ -71,7 +71,7 @@ module _ {S M : Type 0} (scan : ℕ → S → ℕ → Out S M) where
   halt_value (HaltTo.spaced e k) = Halt.spaced e k
 
   -- with a value for an outcome
-  pub goes_value : {F : ℕ → Type 0} {p : ℕ} {s : S} {a : List ℕ} {v : M} → GoesTo (λ o. o ≡ stops v) F p s a → Goes F p s a v
+  pub goes_value : {F : ℕ → Type 0} {v : M} {p : ℕ} {s : S} {a : List ℕ} → GoesTo (λ o. o ≡ stops v) F p s a → Goes F p s a v
   goes_value (GoesTo.ends k) = Goes.ends (λ b e. halt_value (k b e))
   goes_value (GoesTo.goes k e) = Goes.goes (goes_value k) e
 

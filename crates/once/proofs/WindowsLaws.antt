@@ -69,6 +69,7 @@ module _ (P Q : Key → Type 0) (f : (k : Key) → P k → Q k) where
 some_of : (P : Key → Type 0) (ts : List (List Key)) → Some ts → Every P ts → (k : Key) × P k
 some_of P (o ∷ ts) (Some.here {x = x}) h = (x, h.0.0)
 some_of P (o ∷ ts) (Some.around y) h = some_of P ts y h.1
+some_of P [] s h = elim s [ ]
 
 -- ---- windows move on
 

@@ -237,6 +237,7 @@ member_mild x z c u v w a y l j t (members b) Alike.objects p d k r h e =
     (key_mild y l b p d k (w ++ (a ++ r))
     (λ u. mild_by (layout_run j want (suc (adv (adv p c) v)) d (pair b u ∷ k) (a ++ r))
     (t (adv (suc (adv (adv p c) v)) w) d (pair b u ∷ k) r h (λ g i. simp adv_join at (e (pair b u) g Holds.member i)))))
+member_mild x z c u v w a y l j t (elements b) s p d k r h e = elim s [ ]
 
 opened_mild : (c : Machine.Bracket) (b : ℕ) → class_of b ≡ Machine.open_c c → (a : List ℕ) (x : Inside) → Alike x (bare_of c) → RestMild x a → ValueMild (b ∷ a)
 unfolding read

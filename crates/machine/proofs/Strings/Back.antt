@@ -19,7 +19,7 @@ use Rattle.machine.specs.Strings.{St, Ctx, Bad, Half, mk, lost, bad_now, give, w
 use Rattle.machine.specs.Strings.{hex, brace0, brace, done, fine, spoilt, whole, half, hex_of, short_of, begin}
 use Rattle.machine.proofs.Runs.{OutIs}
 use Rattle.machine.proofs.Strings.Raw.{Plain, Body, Inner, Lines, RawPart}
-use Rattle.machine.proofs.Strings.Tests.{by_bool, by_eqb, by_ltb, by_leb, hex_is, hex_small, short_is, short_of_lem}
+use Rattle.machine.proofs.Strings.Tests.{by_bool, by_eqb, by_ltb, by_leb, hex_is, hex_small, over_is, short_is, short_of_lem}
 
 -- ---- what may still come
 
@@ -109,8 +109,8 @@ body_is p k b s f =
 -- ---- units
 
 pub four_small : {a : List ℕ} {w : ℕ} → Hexadecimal 4 a w → w < 0x10000
-four_small (Digits.next x₁ (Digits.next x₂ (Digits.next x₃ (Digits.next x₄ Digits.over)))) =
-    omega (arith, hex_small x₁, hex_small x₂, hex_small x₃, hex_small x₄)
+four_small (Digits.next x₁ (Digits.next x₂ (Digits.next x₃ (Digits.next x₄ z)))) =
+    omega (arith, (over_is z).1, hex_small x₁, hex_small x₂, hex_small x₃, hex_small x₄)
 
 wait_back : (k : Ctx) (at w : ℕ) {ds : List ℕ} → Hexadecimal 4 ds w → In 0xD800 0xDBFF w → (r v : List ℕ) → BodyRest (wait k at w) r v
     → BodyRest k (letters "\\u" ++ (ds ++ r)) v

@@ -247,6 +247,7 @@ inner_of m n l (inr (inl i)) h = record { no_end = omega arith; may = line_low n
 inner_of m n l (inr (inr (inl i))) h = record { no_end = omega arith; may = line_low n (inr (inr (omega arith))) }
 inner_of m n l (inr (inr (inr (inl i)))) h = record { no_end = omega arith; may = line_high n (omega arith) (omega arith) }
 inner_of m n l (inr (inr (inr (inr (inl i))))) h = record { no_end = omega arith; may = line_high n (omega arith) (omega arith) }
+inner_of m n l (inr (inr (inr (inr (inr i))))) h = elim i [ ]
 
 inner_each : (q : Quote) (n : ℕ) → Scalar n → Of (source q) n → Each (Inner (mark q)) (encode n)
 inner_each q n s o =

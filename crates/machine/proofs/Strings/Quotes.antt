@@ -35,10 +35,12 @@ between double hi b h (inl i) = omega arith
 between double hi b h (inr (inl i)) = omega arith
 between double hi b h (inr (inr (inl i))) = omega arith
 between double hi b h (inr (inr (inr (inl i)))) = omega arith
+between double hi b h (inr (inr (inr (inr i)))) = elim i [ ]
 between single hi b h (inl i) = omega arith
 between single hi b h (inr (inl i)) = omega arith
 between single hi b h (inr (inr (inl i))) = omega arith
 between single hi b h (inr (inr (inr (inl i)))) = omega arith
+between single hi b h (inr (inr (inr (inr i)))) = elim i [ ]
 
 pub between_other : (q : Quote) (hi : ℕ) → 0x5B ≤ hi → Between hi (mark q) (mark (other q))
 between_other double hi h = omega arith

@@ -1,13 +1,14 @@
 -- What a test says in each of its two branches; hexadecimal digits, short escapes, and what may come after a part. Assumes nothing.
-use Prim.Native.Nat.{ℕ, ◌+◌, ◌≤◌, ◌<◌}
+use Prim.Native.Nat.{ℕ, zero, ◌+◌, ◌≤◌, ◌<◌}
 use mathlib.Core.Path.{◌≡◌, refl}
 use mathlib.Core.Bool.{Bool, true, false, cond}
+use mathlib.Core.List.{List, []}
 use native.Mathlib.Omega.{arith}
 use lib.Dec.{eqb, ltb, leb}
 use borrow.Author.Tests.{eqb-true, eqb-false, ltb-true, ltb-false, leb-true, leb-false, le-ltb, le-leb, lt-leb}
 use Rattle.rules.specs.Rfc3629.{In}
 use Rattle.meaning.specs.Letters.{ch}
-use Rattle.grammar.specs.Characters.{Hexdig}
+use Rattle.grammar.specs.Characters.{Hexdig, Digits}
 use Rattle.grammar.specs.Comments.{Blank}
 use Rattle.grammar.specs.Strings.{Short}
 use Rattle.machine.specs.Scan.{over}
@@ -53,6 +54,10 @@ pub hex_small : {b x : ℕ} → Hexdig b x → x < 16
 hex_small (Hexdig.decimal w) = omega arith
 hex_small (Hexdig.upper w) = omega arith
 hex_small (Hexdig.lower w) = omega arith
+
+-- no digits are none, and their value is the value before them
+pub over_is : {v w : ℕ} {a : List ℕ} → Digits Hexdig 16 zero v a w → (a ≡ []) × (w ≡ v)
+over_is Digits.over = (refl, refl)
 
 -- every digit is a letter or a figure
 pub hex_ascii : {b x : ℕ} → Hexdig b x → In 0x30 0x66 b
