@@ -12,25 +12,25 @@ pub slice_bounds-rewrite-end-2 : goal.slice_bounds-rewrite-end-2
 slice_bounds-rewrite-end-2 c = length-take_of_le 65536 c.args.out.now (omega arith)
 
 pub rewrite-requires : goal.rewrite-requires
-rewrite-requires c =     (omega arith, sym (length-take_of_le 65536 c.args.out.now (omega arith)))
+rewrite-requires c = (omega arith, sym (length-take_of_le 65536 c.args.out.now (omega arith)))
 
 pub refused_line-requires-in-Refused : goal.refused_line-requires-in-Refused
-refused_line-requires-in-Refused c =     omega (arith, c.out-2-1.given.1)
+refused_line-requires-in-Refused c = omega (arith, c.out-2-1.given.1)
 
 pub byte_at-requires : goal.byte_at-requires
-byte_at-requires c =     let here = text_within c.args.out.now c.rewrite.ensures c.in-Wrote.is in
+byte_at-requires c = let here = text_within c.args.out.now c.rewrite.ensures c.in-Wrote.is in
     omega (arith, here, c.out-2-1.given.1, c.requires)
 
 pub shape_of-out-in-Refused : goal.shape_of-out-in-Refused
-shape_of-out-in-Refused c =     let refused-line2 = c.refused_line-in-Refused in
+shape_of-out-in-Refused c = let refused-line2 = c.refused_line-in-Refused in
     refused-line2.auto.0 ∙ c.out-2-1.given.1
 
 pub returns-in-Refused : goal.returns-in-Refused
-returns-in-Refused c =     let refused-line2 = c.refused_line-in-Refused in
+returns-in-Refused c = let refused-line2 = c.refused_line-in-Refused in
     tells_refusal c.rewrite.ensures c.in-Refused.is c.number-number.ensures c.place-place.ensures refused-line2.ensures
 
 pub shape_of-out-in-Wrote : goal.shape_of-out-in-Wrote
-shape_of-out-in-Wrote c =     c.byte_at.auto.out ∙ c.out-2-1.given.1
+shape_of-out-in-Wrote c = c.byte_at.auto.out ∙ c.out-2-1.given.1
 
 pub returns-in-Wrote : goal.returns-in-Wrote
-returns-in-Wrote c =     tells_text c.rewrite.ensures c.in-Wrote.is c.byte_at.ensures
+returns-in-Wrote c = tells_text c.rewrite.ensures c.in-Wrote.is c.byte_at.ensures

@@ -4,12 +4,12 @@ use Rattle.jaxn.proofs.LineLaws.{digits_few, five_pieces}
 use Rattle.jaxn.proofs.refused_line.Goals as goal
 
 pub decimal_at-b-requires : goal.decimal_at-b-requires
-decimal_at-b-requires c =     let bytes-at = c.bytes_at-a in
+decimal_at-b-requires c = let bytes-at = c.bytes_at-a in
     let number = digits_few c.args.number (omega (arith, c.ranges.number)) in
     omega (arith, c.requires, bytes-at.ensures.next, bytes-at.auto.0, number)
 
 pub bytes_at-c-requires : goal.bytes_at-c-requires
-bytes_at-c-requires c =     let bytes-at = c.bytes_at-a in
+bytes_at-c-requires c = let bytes-at = c.bytes_at-a in
     let decimal-at = c.decimal_at-b in
     let number = digits_few c.args.number (omega (arith, c.ranges.number)) in
     omega (
@@ -23,7 +23,7 @@ bytes_at-c-requires c =     let bytes-at = c.bytes_at-a in
     )
 
 pub decimal_at-d-requires : goal.decimal_at-d-requires
-decimal_at-d-requires c =     let bytes-at = c.bytes_at-a in
+decimal_at-d-requires c = let bytes-at = c.bytes_at-a in
     let decimal-at = c.decimal_at-b in
     let bytes-at2 = c.bytes_at-c in
     let number = digits_few c.args.number (omega (arith, c.ranges.number)) in
@@ -42,7 +42,7 @@ decimal_at-d-requires c =     let bytes-at = c.bytes_at-a in
     )
 
 pub byte_at-requires : goal.byte_at-requires
-byte_at-requires c =     let bytes-at = c.bytes_at-a in
+byte_at-requires c = let bytes-at = c.bytes_at-a in
     let decimal-at = c.decimal_at-b in
     let bytes-at2 = c.bytes_at-c in
     let decimal-at2 = c.decimal_at-d in
@@ -64,7 +64,7 @@ byte_at-requires c =     let bytes-at = c.bytes_at-a in
     )
 
 pub returns : goal.returns
-returns c =     let bytes-at = c.bytes_at-a in
+returns c = let bytes-at = c.bytes_at-a in
     let decimal-at = c.decimal_at-b in
     let bytes-at2 = c.bytes_at-c in
     let decimal-at2 = c.decimal_at-d in

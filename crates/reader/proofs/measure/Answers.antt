@@ -40,7 +40,7 @@ returns-then-from-eq0 c = let t = counted c.before.before.before.before.before.b
     (t.searching _ _ c.first_twice-twice.ensures c.stopped.ensures)) _ c.answered.ensures
 
 pub searched-requires : goal.searched-requires
-searched-requires c =     subst (Searching _ _) (sym c.further-from.ensures)
+searched-requires c = subst (Searching _ _) (sym c.further-from.ensures)
     ((counted c.before.before.before.before.before.before).searching _ _ c.first_twice-twice.ensures
     c.stopped.ensures)
 

@@ -6,9 +6,9 @@ pub write_text-requires : goal.write_text-requires
 write_text-requires c = is_well c.judge.ensures c.in-Well.is
 
 pub returns-in-Ill : goal.returns-in-Ill
-returns-in-Ill c =     jaxn_ill c.judge.ensures c.args.out.now c.in-Ill.is
+returns-in-Ill c = jaxn_ill c.judge.ensures c.args.out.now c.in-Ill.is
 
 pub returns-in-Well : goal.returns-in-Well
-returns-in-Well c =     let enum-told2 = c.enum_told-in-Well-1 in
+returns-in-Well c = let enum-told2 = c.enum_told-in-Well-1 in
     let write-text = c.write_text in
     jaxn_text c.judge.ensures enum-told2.given.1 write-text.ensures

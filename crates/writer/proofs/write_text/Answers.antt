@@ -3,17 +3,17 @@ use Rattle.writer.proofs.WrittenLaws.{text_too_long, text_too_short, text_fits, 
 use Rattle.writer.proofs.write_text.Goals as goal
 
 pub returns-then-needed-gt-TEXT_LIMIT : goal.returns-then-needed-gt-TEXT_LIMIT
-returns-then-needed-gt-TEXT_LIMIT c =     text_too_long c.args.out.now c.text_len-needed.ensures c.if-needed-gt-TEXT_LIMIT.true
+returns-then-needed-gt-TEXT_LIMIT c = text_too_long c.args.out.now c.text_len-needed.ensures c.if-needed-gt-TEXT_LIMIT.true
 
 pub returns-then-out-needed : goal.returns-then-out-needed
-returns-then-out-needed c =     let text-len = c.text_len-needed in
+returns-then-out-needed c = let text-len = c.text_len-needed in
     text_too_short c.args.out.now text-len.ensures c.if-needed-gt-TEXT_LIMIT.false c.if-out-needed.true
 
 pub write_records-requires : goal.write_records-requires
-write_records-requires c =     let text-len = c.text_len-needed in
+write_records-requires c = let text-len = c.text_len-needed in
     text_fits c.args.out.now text-len.ensures c.if-out-needed.false c.requires
 
 pub returns : goal.returns
-returns c =     let text-len = c.text_len-needed in
+returns c = let text-len = c.text_len-needed in
     let write-records = c.write_records in
     text_written c.args.out.now text-len.ensures c.if-needed-gt-TEXT_LIMIT.false c.if-out-needed.false write-records.ensures

@@ -20,14 +20,14 @@ pub returns-then-u : goal.returns-then-u
 returns-then-u c = feed_broken _ _ _ _ _ c.rest_of-from.ensures c.bytes-u.ensures c.if-u.true
 
 pub returns-in-Done : goal.returns-in-Done
-returns-in-Done c =     c.whole.ensures
+returns-in-Done c = c.whole.ensures
     ∙ feed_done _ _ _ _ _ c.rest_of-from.ensures
     c.bytes-u.ensures c.if-from-part.false
     c.if-u.false
     (subst (Judged _) c.in-Done.is c.utf8-2.ensures)
 
 pub overflow_add-from : goal.overflow_add-from
-overflow_add-from c =     omega (
+overflow_add-from c = omega (
       arith,
       fault_room _ _ _ _ _ c.rest_of-from.ensures
           c.bytes-u.ensures
@@ -36,7 +36,7 @@ overflow_add-from c =     omega (
     )
 
 pub returns-in-IllFormed : goal.returns-in-IllFormed
-returns-in-IllFormed c =     c.bytes.ensures
+returns-in-IllFormed c = c.bytes.ensures
     ∙ feed_fault _ _ _ _ _ c.rest_of-from.ensures
     c.bytes-u.ensures
     c.if-from-part.false c.if-u.false _

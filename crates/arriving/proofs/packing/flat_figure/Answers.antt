@@ -20,7 +20,7 @@ pub returns-in-Hex : goal.returns-in-Hex
 returns-in-Hex c = as_fit flat_figure FitFigure c.in-Hex.is c.flat_begun-in-Hex.ensures tt
 
 pub returns-in-Open : goal.returns-in-Open
-returns-in-Open c = as_fit flat_figure FitFigure c.in-Open.is c.flat_open.ensures (omega (arith, c.known_told-in-Open-1.given))
+returns-in-Open c = as_fit flat_figure FitFigure c.in-Open.is c.flat_open.ensures (omega (arith, c.in-Open.known_told-in-Open-1-own.given))
 
 pub returns-in-Whole : goal.returns-in-Whole
 returns-in-Whole c = as_fit flat_figure FitFigure c.in-Whole.is c.flat_decimal.ensures tt

@@ -30,7 +30,7 @@ returns-in-Unicode c = as_fit (flat_inner c.args.quoted) FitInner c.in-Unicode.i
 
 pub returns-in-Hex : goal.returns-in-Hex
 returns-in-Hex c = as_fit (flat_inner c.args.quoted) FitInner c.in-Hex.is c.flat_quoted-in-Hex.ensures
-    (omega (arith, c.known_told-in-Hex-1.given))
+    (omega (arith, c.in-Hex.known_told-in-Hex-1-own.given))
 
 pub returns-in-BraceOpen : goal.returns-in-BraceOpen
 returns-in-BraceOpen c = as_fit (flat_inner c.args.quoted) FitInner c.in-BraceOpen.is c.flat_quoted-in-BraceOpen.ensures
@@ -38,7 +38,7 @@ returns-in-BraceOpen c = as_fit (flat_inner c.args.quoted) FitInner c.in-BraceOp
 
 pub returns-in-Brace : goal.returns-in-Brace
 returns-in-Brace c = as_fit (flat_inner c.args.quoted) FitInner c.in-Brace.is c.flat_quoted-in-Brace.ensures
-    (omega (arith, c.known_told-in-Brace-1.given))
+    (omega (arith, c.in-Brace.known_told-in-Brace-1-own.given))
 
 pub returns-in-Done : goal.returns-in-Done
 returns-in-Done c = as_fit (flat_inner c.args.quoted) FitInner c.in-Done.is c.flat_quoted-in-Done.ensures tt

@@ -8,6 +8,6 @@ use Rattle.arriving.proofs.packing.kept.Goals as goal
 
 pub returns : goal.returns
 unfolding padded
-returns c =     c.check_of.ensures
+returns c = c.check_of.ensures
     ∙ ap unpacked (c.copy.ensures ∙ ap (sets (replicate 640 0) 0)
     (whole_of _ c.args.state.now refl))

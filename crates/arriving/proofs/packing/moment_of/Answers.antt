@@ -1,6 +1,6 @@
 -- A row of the table, or the last. Assumes nothing.
 use native.Mathlib.Omega.{arith}
-use mathlib.Core.List.{◌∷◌}
+use mathlib.Core.List.{[], ◌∷◌}
 use Rattle.arriving.specs.declared.states.Moment.TheVariants as Moment
 use Rattle.arriving.specs.Between.Packing.{field_of, moments}
 use Rattle.arriving.proofs.PackingTableLaws.{past_at, among}

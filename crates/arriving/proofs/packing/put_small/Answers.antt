@@ -4,5 +4,5 @@ use Rattle.arriving.proofs.PackingByteLaws.{small_is}
 use Rattle.arriving.proofs.packing.put_small.Goals as goal
 
 pub returns : goal.returns
-returns c =     c.copy.ensures ∙ small_is c.args.bytes.now c.args.utf c.args.due c.args.f _ _ c.bit.ensures
+returns c = c.copy.ensures ∙ small_is c.args.bytes.now c.args.utf c.args.due c.args.f _ _ c.bit.ensures
     c.due_number.ensures

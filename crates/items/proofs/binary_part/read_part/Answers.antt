@@ -1,4 +1,5 @@
 use native.Mathlib.Omega.{arith}
+use mathlib.Core.List.{[]}
 use Rattle.meaning.specs.Letters.{ch}
 use Rattle.machine.specs.Binaries.{text as textB, low}
 use Rattle.items.specs.Between.Places.{digit_at}

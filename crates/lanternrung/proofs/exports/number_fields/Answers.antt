@@ -24,6 +24,6 @@ pub returns-in-Finite : goal.returns-in-Finite
 unfolding number_fields
 returns-in-Finite c = rw (
   c.flag-in-Finite.ensures,
-  to_z-of_z w32 c.in-Finite.power (record { sfits = c.known_told-in-Finite-1.given.1.1.0.1 }),
+  to_z-of_z w32 c.in-Finite.power (record { sfits = c.in-Finite.known_told-in-Finite-1-own.given.1.1.0.1 }),
   c.in-Finite.is,
 )

@@ -7,7 +7,7 @@ use Rattle.lanternrung.proofs.ToldLaws.{same16, wider, passed}
 use Rattle.lanternrung.proofs.exports.time_fields.Goals as goal
 
 pub overflow_cast-offset : goal.overflow_cast-offset
-overflow_cast-offset c =     subst (SFits w32) (sym (same16 c.in-OffsetDateTime.offset c.known_told-in-OffsetDateTime-1.given.1.1.0.1)) (wider c.in-OffsetDateTime.offset c.known_told-in-OffsetDateTime-1.given.1.1.0.1)
+overflow_cast-offset c = subst (SFits w32) (sym (same16 c.in-OffsetDateTime.offset c.in-OffsetDateTime.known_told-in-OffsetDateTime-1-own.given.1.1.0.1)) (wider c.in-OffsetDateTime.offset c.in-OffsetDateTime.known_told-in-OffsetDateTime-1-own.given.1.1.0.1)
 
 pub returns-in-LocalDate : goal.returns-in-LocalDate
 unfolding time_fields
@@ -23,5 +23,5 @@ returns-in-LocalDateTime c = c.dated-in-LocalDateTime.ensures ∙ sym (ap time_f
 
 pub returns-in-OffsetDateTime : goal.returns-in-OffsetDateTime
 unfolding time_fields
-returns-in-OffsetDateTime c =     c.dated-in-OffsetDateTime.ensures ∙ ap (dated_fields 11 c.in-OffsetDateTime.d c.in-OffsetDateTime.clock)
-    (passed c.in-OffsetDateTime.offset c.known_told-in-OffsetDateTime-1.given.1.1.0.1) ∙ sym (ap time_fields c.in-OffsetDateTime.is)
+returns-in-OffsetDateTime c = c.dated-in-OffsetDateTime.ensures ∙ ap (dated_fields 11 c.in-OffsetDateTime.d c.in-OffsetDateTime.clock)
+    (passed c.in-OffsetDateTime.offset c.in-OffsetDateTime.known_told-in-OffsetDateTime-1-own.given.1.1.0.1) ∙ sym (ap time_fields c.in-OffsetDateTime.is)

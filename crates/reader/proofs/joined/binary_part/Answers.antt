@@ -9,5 +9,5 @@ pub returns-in-NotGrammar : goal.returns-in-NotGrammar
 returns-in-NotGrammar c = in_part (rw c.in-NotGrammar.is at c.read_part.ensures)
 
 pub returns-in-Closed : goal.returns-in-Closed
-returns-in-Closed c =     let w = rw c.in-Closed.is at c.read_part.ensures in
+returns-in-Closed c = let w = rw c.in-Closed.is at c.read_part.ensures in
     rw c.link_of.ensures (part_linked w c.after_part.result c.after_part.ensures)

@@ -7,34 +7,34 @@ use Rattle.reader.proofs.JoinedLaws.{strings, no_part, parts_refused, parts_shor
 use Rattle.reader.proofs.joined.string.Goals as goal
 
 pub loop-why-init : goal.loop-why-init
-loop-why-init c =     (no_part Use string_part_of c.args.text.now c.args.from c.args.start c.args.store.now (omega arith), refl)
+loop-why-init c = (no_part Use string_part_of c.args.text.now c.args.from c.args.start c.args.store.now (omega arith), refl)
 
 pub string_part-requires : goal.string_part-requires
-string_part-requires c =     (c.loop-why.invariant.0.within, omega (arith, c.loop-why.invariant.0.placed, c.loop-why.invariant.0.room, c.requires))
+string_part-requires c = (c.loop-why.invariant.0.within, omega (arith, c.loop-why.invariant.0.placed, c.loop-why.invariant.0.room, c.requires))
 
 pub returns-in-Refused : goal.returns-in-Refused
-returns-in-Refused c =     let w = rw c.in-Refused.is at c.string_part.ensures in
+returns-in-Refused c = let w = rw c.in-Refused.is at c.string_part.ensures in
     parts_refused strings c.loop-why.invariant.0 c.in-Refused.why w
 
 pub overflow_add-result : goal.overflow_add-result
-overflow_add-result c =     let w = rw c.in-Last.is at c.string_part.ensures in
+overflow_add-result c = let w = rw c.in-Last.is at c.string_part.ensures in
     omega (arith, parts_short strings c.loop-why.invariant.0 c.requires.1 w)
 
 pub overflow_sub-result : goal.overflow_sub-result
-overflow_sub-result c =     omega (arith, c.loop-why.invariant.0.placed)
+overflow_sub-result c = omega (arith, c.loop-why.invariant.0.placed)
 
 pub returns-in-Last : goal.returns-in-Last
-returns-in-Last c =     let w = rw c.in-Last.is at c.string_part.ensures in
+returns-in-Last c = let w = rw c.in-Last.is at c.string_part.ensures in
     parts_last strings c.loop-why.invariant.0 _ (omega (arith, c.loop-why.invariant.0.placed)) w
 
 pub overflow_add-out : goal.overflow_add-out
-overflow_add-out c =     let w = rw c.in-Next.is at c.string_part.ensures in
+overflow_add-out c = let w = rw c.in-Next.is at c.string_part.ensures in
     omega (arith, parts_short strings c.loop-why.invariant.0 c.requires.1 w)
 
 pub loop-why-smaller : goal.loop-why-smaller
-loop-why-smaller c =     let w = rw c.in-Next.is at c.string_part.ensures in
+loop-why-smaller c = let w = rw c.in-Next.is at c.string_part.ensures in
     parts_further strings c.loop-why.invariant.0 w
 
 pub loop-why-preserved : goal.loop-why-preserved
-loop-why-preserved c =     let w = rw c.in-Next.is at c.string_part.ensures in
+loop-why-preserved c = let w = rw c.in-Next.is at c.string_part.ensures in
     (parts_next strings c.loop-why.invariant.0 w, search rules)

@@ -3,26 +3,26 @@ use Rattle.reader.proofs.KeyLaws.{key_over, key_string, key_none, key_named, nei
 use Rattle.reader.proofs.key.key.Goals as goal
 
 pub returns-then-at-text : goal.returns-then-at-text
-returns-then-at-text c =     key_over c.args.text.now c.args.at c.args.start c.args.store.now c.if-at-text.true
+returns-then-at-text c = key_over c.args.text.now c.args.at c.args.start c.args.store.now c.if-at-text.true
 
 pub returns-then-b-eq34 : goal.returns-then-b-eq34
-returns-then-b-eq34 c =     key_string c.args.text.now c.args.at c.args.start c.args.store.now c.if-at-text.false (rw c.if-b-eq34.true) _ c.string.result c.string.ensures
+returns-then-b-eq34 c = key_string c.args.text.now c.args.at c.args.start c.args.store.now c.if-at-text.false (rw c.if-b-eq34.true) _ c.string.result c.string.ensures
 
 pub returns-then-b-eq39 : goal.returns-then-b-eq39
-returns-then-b-eq39 c =     key_string c.args.text.now c.args.at c.args.start c.args.store.now c.if-at-text.false (rw c.if-b-eq39.true) _ c.string-then-b-eq39.result c.string-then-b-eq39.ensures
+returns-then-b-eq39 c = key_string c.args.text.now c.args.at c.args.start c.args.store.now c.if-at-text.false (rw c.if-b-eq39.true) _ c.string-then-b-eq39.result c.string-then-b-eq39.ensures
 
 pub returns-in-Neither : goal.returns-in-Neither
-returns-in-Neither c =     key_none c.args.text.now c.args.at c.args.start c.args.store.now c.if-at-text.false c.requires.2 c.if-b-eq34.false
+returns-in-Neither c = key_none c.args.text.now c.args.at c.args.start c.args.store.now c.if-at-text.false c.requires.2 c.if-b-eq34.false
     c.if-b-eq39.false
     (neither_letter (get_or c.args.text.now c.args.at 0) (rw c.in-Neither.is at c.sort_of.ensures))
 
 pub returns-in-Figure : goal.returns-in-Figure
-returns-in-Figure c =     key_none c.args.text.now c.args.at c.args.start c.args.store.now c.if-at-text.false c.requires.2 c.if-b-eq34.false
+returns-in-Figure c = key_none c.args.text.now c.args.at c.args.start c.args.store.now c.if-at-text.false c.requires.2 c.if-b-eq34.false
     c.if-b-eq39.false
     (figure_letter (get_or c.args.text.now c.args.at 0) (rw c.in-Figure.is at c.sort_of.ensures))
 
 pub returns-in-Letter : goal.returns-in-Letter
-returns-in-Letter c =     let sort-of = c.sort_of in
+returns-in-Letter c = let sort-of = c.sort_of in
     let enum-told3 = c.enum_told-in-Letter-1 in
     key_named c.args.text.now c.args.at c.args.start c.args.store.now c.if-at-text.false
     (rw enum-told3.given.1 at sort-of.ensures) c.name_end-end.result c.name_end-end.ensures _

@@ -21,14 +21,14 @@ pub overflow_add-result : goal.overflow_add-result
 overflow_add-result c = omega arith
 
 pub returns-then-closes : goal.returns-then-closes
-returns-then-closes c =     let e = held c.closes.ensures c.if-closes.true in
+returns-then-closes c = let e = held c.closes.ensures c.if-closes.true in
     note_ends c.loop-at.invariant (omega arith) (slash_closes c.args.text.now c.loop-at.at (eqb c.loop-at.last (ch "*")) e.0 e.1)
 
 pub is_control-requires : goal.is_control-requires
 is_control-requires c = tt
 
 pub returns-then-is_control : goal.returns-then-is_control
-returns-then-is_control c =     note_breaks c.loop-at.invariant (omega arith) (control_breaks c.args.text.now c.loop-at.at (eqb c.loop-at.last (ch "*")) (held c.is_control.ensures c.if-is_control.true))
+returns-then-is_control c = note_breaks c.loop-at.invariant (omega arith) (control_breaks c.args.text.now c.loop-at.at (eqb c.loop-at.last (ch "*")) (held c.is_control.ensures c.if-is_control.true))
 
 pub overflow_add-at : goal.overflow_add-at
 overflow_add-at c = omega arith
@@ -37,7 +37,7 @@ pub loop-at-smaller : goal.loop-at-smaller
 loop-at-smaller c = omega arith
 
 pub loop-at-preserved : goal.loop-at-preserved
-loop-at-preserved c =     let unclosed = failed c.closes.ensures c.if-closes.false in
+loop-at-preserved c = let unclosed = failed c.closes.ensures c.if-closes.false in
     let leads = block_leads c.args.text.now c.loop-at.at (eqb c.loop-at.last (ch "*")) unclosed (failed c.is_control.ensures c.if-is_control.false) in
     note_more c.loop-at.invariant (blocked (eqb (get_or c.args.text.now c.loop-at.at 0) (ch "*"))) (omega arith) leads
 

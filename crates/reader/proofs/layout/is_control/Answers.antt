@@ -17,4 +17,4 @@ pub returns-then-b-eq9 : goal.returns-then-b-eq9
 returns-then-b-eq9 c = fails (λ e. omega (arith, note_told c.args.b control_n e))
 
 pub returns : goal.returns
-returns c =     holds (control_note c.args.b (omega arith) c.if-b-eq9.false c.if-b-eq10.false c.if-b-eq13.false)
+returns c = holds (control_note c.args.b (omega arith) c.if-b-eq9.false c.if-b-eq10.false c.if-b-eq13.false)

@@ -18,14 +18,14 @@ pub overflow_add-result : goal.overflow_add-result
 overflow_add-result c = omega arith
 
 pub returns-then-is_line_end : goal.returns-then-is_line_end
-returns-then-is_line_end c =     let e = held c.is_line_end.ensures c.if-is_line_end.true in
+returns-then-is_line_end c = let e = held c.is_line_end.ensures c.if-is_line_end.true in
     note_ends c.loop-at.invariant (omega arith) (λ s d k. rw e)
 
 pub is_control-requires : goal.is_control-requires
 is_control-requires c = tt
 
 pub returns-then-is_control : goal.returns-then-is_control
-returns-then-is_control c =     let e = held c.is_control.ensures c.if-is_control.true in
+returns-then-is_control c = let e = held c.is_control.ensures c.if-is_control.true in
     note_breaks c.loop-at.invariant (omega arith) (λ s d k. rw e)
 
 pub overflow_add-at : goal.overflow_add-at
@@ -35,7 +35,7 @@ pub loop-at-smaller : goal.loop-at-smaller
 loop-at-smaller c = omega arith
 
 pub loop-at-preserved : goal.loop-at-preserved
-loop-at-preserved c =     let other = failed c.is_line_end.ensures c.if-is_line_end.false in
+loop-at-preserved c = let other = failed c.is_line_end.ensures c.if-is_line_end.false in
     note_more c.loop-at.invariant line (omega arith) (line_leads c.args.text.now c.loop-at.at other (failed c.is_control.ensures c.if-is_control.false))
 
 pub returns : goal.returns

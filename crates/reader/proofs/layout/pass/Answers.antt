@@ -6,7 +6,7 @@ use Rattle.reader.proofs.ScanningClassLaws.{not_blank, not_hash, not_slash}
 use Rattle.reader.proofs.layout.pass.Goals as goal
 
 pub returns : goal.returns
-returns c =     layout_stop
+returns c = layout_stop
     (laying
     (blanks_stop (none_yet c.args.from c.requires)
     (not_blank (get_or c.args.text.now c.args.from 0) (omega arith) (omega arith) (omega arith) (omega arith))))

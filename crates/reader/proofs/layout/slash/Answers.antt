@@ -14,4 +14,4 @@ pub returns-then-b-eq42 : goal.returns-then-b-eq42
 returns-then-b-eq42 c = says_then (slash_block (omega arith) c.if-b-eq42.true) c.block.result c.block.ensures
 
 pub returns : goal.returns
-returns c =     slash_breaks c.args.text.now c.args.at (omega arith) c.if-b-eq47.false c.if-b-eq42.false
+returns c = slash_breaks c.args.text.now c.args.at (omega arith) c.if-b-eq47.false c.if-b-eq42.false

@@ -5,7 +5,7 @@ use Rattle.rules.specs.Between.Tests.{holds}
 use Rattle.tape.proofs.fields.good_number.Goals as goal
 
 pub returns-in-Finite : goal.returns-in-Finite
-returns-in-Finite c = rw c.in-Finite.is (rw (to_z-of_z w32 _ (record { sfits = c.known_told-1.given.1.1.0.1 })) at c.good_finite.ensures)
+returns-in-Finite c = rw c.in-Finite.is (rw (to_z-of_z w32 _ (record { sfits = c.in-Finite.known_told-1-own.given.1.1.0.1 })) at c.good_finite.ensures)
 
 pub returns-in-NotANumber : goal.returns-in-NotANumber
 returns-in-NotANumber c = rw c.in-NotANumber.is (holds tt)

@@ -38,7 +38,7 @@ clock_and_offset c =
     c.if2.branch
 
 pub returns-then-good_offset : goal.returns-then-good_offset
-returns-then-good_offset c =     let q = held (clock_and_offset c.before.before) c.if-good_offset.true in
+returns-then-good_offset c = let q = held (clock_and_offset c.before.before) c.if-good_offset.true in
     rw c.in-OffsetDateTime.is (decides_as (λ p. (p, q.0, q.1)) (λ p. p.0) c.good_date-then-good_offset.ensures)
 
 pub returns-else-good_offset : goal.returns-else-good_offset

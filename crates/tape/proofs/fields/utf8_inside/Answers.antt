@@ -8,6 +8,9 @@ use Rattle.tape.proofs.fields.utf8_inside.Goals as goal
 pub overflow_add-end : goal.overflow_add-end
 overflow_add-end c = omega (arith, held c.inside.ensures c.if-inside.true)
 
+pub slice_bounds-utf8-end : goal.slice_bounds-utf8-end
+slice_bounds-utf8-end c = omega (arith, held c.inside.ensures c.if-inside.true)
+
 pub returns-in-Done : goal.returns-in-Done
 returns-in-Done c = is_utf8 _ _ _ _ _ (part_of c.args.length
     c.args.start c.args.store.now)

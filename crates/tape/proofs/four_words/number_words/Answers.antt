@@ -13,7 +13,7 @@ overflow_add-result c = omega (arith, c.flag-in-Infinite.ensures, flag_small c.i
 
 pub returns-in-Finite : goal.returns-in-Finite
 unfolding mark_of low_of mid_of high_of
-returns-in-Finite c = let f : SFits w32 c.in-Finite.power = record { sfits = c.known_told-1.given.1.1.0.1 } in
+returns-in-Finite c = let f : SFits w32 c.in-Finite.power = record { sfits = c.in-Finite.known_told-1-own.given.1.1.0.1 } in
     rw c.in-Finite.is (written _ _ tt (record {
       mark_is = refl;
       low_is = c.flag.ensures;

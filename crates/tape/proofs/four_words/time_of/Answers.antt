@@ -22,7 +22,7 @@ returns-then-mark-eq-DT c = simp (
 )
 
 pub returns-then-mark-eq-OD : goal.returns-then-mark-eq-OD
-returns-then-mark-eq-OD c =     let small : c.args.w.mid / 65536 < 2 ^ 16 =
+returns-then-mark-eq-OD c = let small : c.args.w.mid / 65536 < 2 ^ 16 =
     omega (arith, c.requires.mid_small) in
     simp (
       read_back w16 _ _ (record { fits = small }) c.signed16.ensures,

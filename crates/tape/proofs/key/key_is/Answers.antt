@@ -8,5 +8,8 @@ use Rattle.tape.proofs.key.key_is.Goals as goal
 pub overflow_add-end : goal.overflow_add-end
 overflow_add-end c = omega (arith, key_inside c.requires.1 c.words_at-w.ensures)
 
+pub slice_bounds-equal-end : goal.slice_bounds-equal-end
+slice_bounds-equal-end c = omega (arith, key_inside c.requires.1 c.words_at-w.ensures)
+
 pub returns : goal.returns
 returns c = λ v k. c.equal.ensures ∙ ap (same _) (sym (key_cut k c.words_at-w.ensures))

@@ -17,6 +17,14 @@ overflow_add-end c = omega (
       c.words_at-w.ensures,
 )
 
+pub slice_bounds-note-end : goal.slice_bounds-note-end
+slice_bounds-note-end c = omega (
+  arith,
+  key_inside (key_there c.requires.1
+      c.words_at-w.ensures c.if-w-eq-KY.true)
+      c.words_at-w.ensures,
+)
+
 pub note-requires : goal.note-requires
 note-requires c = (
   _,

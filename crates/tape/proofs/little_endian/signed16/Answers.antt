@@ -16,6 +16,6 @@ pub overflow_sub-result : goal.overflow_sub-result
 overflow_sub-result c = less_fits w16 (pos (65535 - c.args.n)) (record { sfits = low c })
 
 pub returns-else-n-lt32768 : goal.returns-else-n-lt32768
-returns-else-n-lt32768 c =     let e : c.args.n ≡ 65536 - suc (65535 - c.args.n) = omega arith in
+returns-else-n-lt32768 c = let e : c.args.n ≡ 65536 - suc (65535 - c.args.n) = omega arith in
     less_is w16 (pos (65535 - c.args.n)) (record { sfits = low c })
     ∙ sym (ap (to_z w16) e ∙ to_z-neg w16 (65535 - c.args.n) (low c))

@@ -16,6 +16,6 @@ pub overflow_sub-result : goal.overflow_sub-result
 overflow_sub-result c = less_fits w32 (pos (4294967295 - c.args.n)) (record { sfits = low c })
 
 pub returns-else-n-lt2147483648 : goal.returns-else-n-lt2147483648
-returns-else-n-lt2147483648 c =     let e : c.args.n ≡ 4294967296 - suc (4294967295 - c.args.n) = omega arith in
+returns-else-n-lt2147483648 c = let e : c.args.n ≡ 4294967296 - suc (4294967295 - c.args.n) = omega arith in
     less_is w32 (pos (4294967295 - c.args.n)) (record { sfits = low c })
     ∙ sym (ap (to_z w32) e ∙ to_z-neg w32 (4294967295 - c.args.n) (low c))

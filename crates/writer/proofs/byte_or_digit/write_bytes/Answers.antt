@@ -1,5 +1,5 @@
 use Prim.Native.Nat.{◌<◌}
-use mathlib.Core.List.{◌∷◌}
+use mathlib.Core.List.{[], ◌∷◌}
 use native.Mathlib.Omega.{arith}
 use lib.ListN.{length, get_or, drop_of_length-le}
 use Rattle.writer.proofs.LaidLaws.{begin, writing_as, writing_put, writing_length, finish, put_byte, put_whole, drop_more}

@@ -15,7 +15,7 @@ returns-in-Finite c = (
     c.minus_len.ensures,
     c.finite_len.ensures.0,
     ap length (finite_held c.in-Finite.coefficient c.in-Finite.power
-        (record { sfits = c.known_told-1.given.1.1.0.1 })),
+        (record { sfits = c.in-Finite.known_told-1-own.given.1.1.0.1 })),
     ap length
         (ap number_text c.in-Finite.is ∙ finite_text_lem c.in-Finite.minus
         c.in-Finite.coefficient c.in-Finite.power),

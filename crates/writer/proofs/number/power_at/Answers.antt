@@ -10,11 +10,11 @@ use Rattle.writer.proofs.PiecesLaws.{length_three, power_at_zero, power_split}
 use Rattle.writer.proofs.number.power_at.Goals as goal
 
 pub returns-then-size-eq0 : goal.returns-then-size-eq0
-returns-then-size-eq0 c =     let sign-and-size = c.sign_and_size-p in
+returns-then-size-eq0 c = let sign-and-size = c.sign_and_size-p in
     put_at_as (sym (power_at_zero _ sign-and-size.result (held_sign _ _ c.ranges.power sign-and-size.ensures) c.if-size-eq0.true)) (put_none _ _)
 
 pub byte_at-sign-requires : goal.byte_at-sign-requires
-byte_at-sign-requires c =     let sign-and-size = c.sign_and_size-p in
+byte_at-sign-requires c = let sign-and-size = c.sign_and_size-p in
     omega (
       arith,
       c.requires,
@@ -23,7 +23,7 @@ byte_at-sign-requires c =     let sign-and-size = c.sign_and_size-p in
     )
 
 pub minus_at-first-requires : goal.minus_at-first-requires
-minus_at-first-requires c =     let sign-and-size = c.sign_and_size-p in
+minus_at-first-requires c = let sign-and-size = c.sign_and_size-p in
     omega (
       arith,
       c.requires,
@@ -36,7 +36,7 @@ minus_at-first-requires c =     let sign-and-size = c.sign_and_size-p in
     )
 
 pub decimal_at-requires : goal.decimal_at-requires
-decimal_at-requires c =     let minus-at = c.minus_at-first in
+decimal_at-requires c = let minus-at = c.minus_at-first in
     let sign-and-size = c.sign_and_size-p in
     omega (
       arith,
@@ -50,7 +50,7 @@ decimal_at-requires c =     let minus-at = c.minus_at-first in
     )
 
 pub returns : goal.returns
-returns c =     let sign-and-size = c.sign_and_size-p in
+returns c = let sign-and-size = c.sign_and_size-p in
     let minus-at = c.minus_at-first in
     let decimal-at = c.decimal_at in
     put_at_as (sym (power_split _ sign-and-size.result (held_sign _ _ c.ranges.power sign-and-size.ensures) c.if-size-eq0.false))

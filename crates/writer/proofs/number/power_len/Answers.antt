@@ -9,11 +9,11 @@ use Rattle.writer.proofs.PiecesLaws.{length_three, power_at_zero, power_split}
 use Rattle.writer.proofs.number.power_len.Goals as goal
 
 pub returns-then-size-eq0 : goal.returns-then-size-eq0
-returns-then-size-eq0 c =     let sign-and-size = c.sign_and_size-p in
+returns-then-size-eq0 c = let sign-and-size = c.sign_and_size-p in
     (sym (ap length (power_at_zero _ sign-and-size.result (held_sign _ _ c.ranges.power sign-and-size.ensures) c.if-size-eq0.true)), omega arith)
 
 pub returns : goal.returns
-returns c =     let minus-len = c.minus_len in
+returns c = let minus-len = c.minus_len in
     let sign-and-size = c.sign_and_size-p in
     (
       omega (

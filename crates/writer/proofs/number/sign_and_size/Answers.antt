@@ -12,10 +12,10 @@ pub overflow_add-result : goal.overflow_add-result
 overflow_add-result c = record { fits = less_small _ c.ranges.x c.if-x-lt0.true }
 
 pub returns-then-x-lt0 : goal.returns-then-x-lt0
-returns-then-x-lt0 c =     record { sign = is_negative _ c.ranges.x c.if-x-lt0.true; size = less_size _ c.ranges.x c.if-x-lt0.true }
+returns-then-x-lt0 c = record { sign = is_negative _ c.ranges.x c.if-x-lt0.true; size = less_size _ c.ranges.x c.if-x-lt0.true }
 
 pub overflow_cast-result-2 : goal.overflow_cast-result-2
 overflow_cast-result-2 c = plain_cast _ c.ranges.x c.if-x-lt0.false
 
 pub returns : goal.returns
-returns c =     record { sign = not_negative _ c.ranges.x c.if-x-lt0.false; size = plain_size _ c.ranges.x }
+returns c = record { sign = not_negative _ c.ranges.x c.if-x-lt0.false; size = plain_size _ c.ranges.x }

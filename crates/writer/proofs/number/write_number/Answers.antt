@@ -34,7 +34,7 @@ finite_at-requires c = omega (
   c.minus_at-first.auto.out,
   ap length (finite_held c.in-Finite.coefficient
       c.in-Finite.power (record
-      { sfits = c.known_told-1.given.1.1.0.1 })),
+      { sfits = c.in-Finite.known_told-1-own.given.1.1.0.1 })),
 )
 
 pub bytes_at-requires : goal.bytes_at-requires
@@ -71,7 +71,7 @@ returns-in-Finite c = put_as (sym (ap number_text c.in-Finite.is
     (put_whole (put_next (omega arith) c.minus_at-first.ensures
     (put_at_as (finite_held c.in-Finite.coefficient
     c.in-Finite.power
-    (record { sfits = c.known_told-1.given.1.1.0.1 }))
+    (record { sfits = c.in-Finite.known_told-1-own.given.1.1.0.1 }))
     c.finite_at.ensures)))
 
 pub returns-in-NotANumber : goal.returns-in-NotANumber

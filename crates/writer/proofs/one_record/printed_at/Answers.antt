@@ -12,19 +12,19 @@ use Rattle.writer.proofs.OneRecordLaws.{array_printed, object_printed}
 use Rattle.writer.proofs.one_record.printed_at.Goals as goal
 
 pub bytes_at-requires : goal.bytes_at-requires
-bytes_at-requires c =     omega (arith, c.requires.1, ap length (null_printed c.args.store.now c.in-Null.is))
+bytes_at-requires c = omega (arith, c.requires.1, ap length (null_printed c.args.store.now c.in-Null.is))
 
 pub bool_at-requires : goal.bool_at-requires
-bool_at-requires c =     omega (arith, c.requires.1, ap length (bool_printed c.args.store.now c.in-Bool.is))
+bool_at-requires c = omega (arith, c.requires.1, ap length (bool_printed c.args.store.now c.in-Bool.is))
 
 pub number_at-requires : goal.number_at-requires
-number_at-requires c =     omega (arith, c.requires.1, ap length (number_printed c.args.store.now c.in-Number.is))
+number_at-requires c = omega (arith, c.requires.1, ap length (number_printed c.args.store.now c.in-Number.is))
 
 pub string_at-requires : goal.string_at-requires
-string_at-requires c =     (omega (arith, c.requires.0, ap bytes_end c.in-Str.is), omega (arith, c.requires.1, ap length (string_printed c.args.store.now c.in-Str.is)))
+string_at-requires c = (omega (arith, c.requires.0, ap bytes_end c.in-Str.is), omega (arith, c.requires.1, ap length (string_printed c.args.store.now c.in-Str.is)))
 
 pub string_at-colon-requires : goal.string_at-colon-requires
-string_at-colon-requires c =     (
+string_at-colon-requires c = (
       omega (arith, c.requires.0, ap bytes_end c.in-Key.is),
       omega (
         arith,
@@ -35,7 +35,7 @@ string_at-colon-requires c =     (
     )
 
 pub byte_at-requires : goal.byte_at-requires
-byte_at-requires c =     let string-at2 = c.string_at-colon in
+byte_at-requires c = let string-at2 = c.string_at-colon in
     omega (
       arith,
       c.requires.1,
@@ -46,49 +46,49 @@ byte_at-requires c =     let string-at2 = c.string_at-colon in
     )
 
 pub binary_at-requires : goal.binary_at-requires
-binary_at-requires c =     (omega (arith, c.requires.0, ap bytes_end c.in-Bin.is), omega (arith, c.requires.1, ap length (binary_printed c.args.store.now c.in-Bin.is)))
+binary_at-requires c = (omega (arith, c.requires.0, ap bytes_end c.in-Bin.is), omega (arith, c.requires.1, ap length (binary_printed c.args.store.now c.in-Bin.is)))
 
 pub time_at-requires : goal.time_at-requires
-time_at-requires c =     omega (arith, c.requires.1, ap length (time_printed c.args.store.now c.in-Time.is))
+time_at-requires c = omega (arith, c.requires.1, ap length (time_printed c.args.store.now c.in-Time.is))
 
 pub byte_at-requires-in-Array : goal.byte_at-requires-in-Array
-byte_at-requires-in-Array c =     omega (arith, c.requires.1, ap length (array_printed c.args.store.now c.in-Array.is))
+byte_at-requires-in-Array c = omega (arith, c.requires.1, ap length (array_printed c.args.store.now c.in-Array.is))
 
 pub byte_at-requires-in-Object : goal.byte_at-requires-in-Object
-byte_at-requires-in-Object c =     omega (arith, c.requires.1, ap length (object_printed c.args.store.now c.in-Object.is))
+byte_at-requires-in-Object c = omega (arith, c.requires.1, ap length (object_printed c.args.store.now c.in-Object.is))
 
 pub returns-in-Null : goal.returns-in-Null
-returns-in-Null c =     let bytes-at = c.bytes_at in
+returns-in-Null c = let bytes-at = c.bytes_at in
     put_at_as (sym (null_printed c.args.store.now c.in-Null.is)) bytes-at.ensures
 
 pub returns-in-Bool : goal.returns-in-Bool
-returns-in-Bool c =     put_at_as (sym (bool_printed c.args.store.now c.in-Bool.is)) c.bool_at.ensures
+returns-in-Bool c = put_at_as (sym (bool_printed c.args.store.now c.in-Bool.is)) c.bool_at.ensures
 
 pub returns-in-Number : goal.returns-in-Number
-returns-in-Number c =     put_at_as (sym (number_printed c.args.store.now c.in-Number.is)) c.number_at.ensures
+returns-in-Number c = put_at_as (sym (number_printed c.args.store.now c.in-Number.is)) c.number_at.ensures
 
 pub returns-in-Str : goal.returns-in-Str
-returns-in-Str c =     let string-at = c.string_at in
+returns-in-Str c = let string-at = c.string_at in
     put_at_as (sym (string_printed c.args.store.now c.in-Str.is)) string-at.ensures
 
 pub returns-in-Key : goal.returns-in-Key
-returns-in-Key c =     let string-at2 = c.string_at-colon in
+returns-in-Key c = let string-at2 = c.string_at-colon in
     put_at_as (sym (key_printed c.args.store.now c.in-Key.is)) (put_next (omega (arith, c.requires.1)) string-at2.ensures c.byte_at.ensures)
 
 pub returns-in-Bin : goal.returns-in-Bin
-returns-in-Bin c =     let binary-at = c.binary_at in
+returns-in-Bin c = let binary-at = c.binary_at in
     put_at_as (sym (binary_printed c.args.store.now c.in-Bin.is)) binary-at.ensures
 
 pub returns-in-Time : goal.returns-in-Time
-returns-in-Time c =     let time-at = c.time_at in
+returns-in-Time c = let time-at = c.time_at in
     put_at_as (sym (time_printed c.args.store.now c.in-Time.is)) time-at.ensures
 
 pub returns-in-Array : goal.returns-in-Array
-returns-in-Array c =     let enum-told2 = c.enum_told-in-Array-1 in
+returns-in-Array c = let enum-told2 = c.enum_told-in-Array-1 in
     let byte-at2 = c.byte_at-in-Array in
     put_at_as (sym (array_printed c.args.store.now enum-told2.given.1)) byte-at2.ensures
 
 pub returns-in-Object : goal.returns-in-Object
-returns-in-Object c =     let enum-told3 = c.enum_told-in-Object-1 in
+returns-in-Object c = let enum-told3 = c.enum_told-in-Object-1 in
     let byte-at3 = c.byte_at-in-Object in
     put_at_as (sym (object_printed c.args.store.now enum-told3.given.1)) byte-at3.ensures

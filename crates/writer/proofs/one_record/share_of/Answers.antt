@@ -11,16 +11,16 @@ use Rattle.writer.proofs.OneRecordLaws.{key_share, binary_share, time_share, arr
 use Rattle.writer.proofs.one_record.share_of.Goals as goal
 
 pub returns-then-b : goal.returns-then-b
-returns-then-b c =     omega (arith, bool_share c.args.index c.args.store.now c.in-Bool.is, ap length (true_printed c.in-Bool.b c.if-b.true))
+returns-then-b c = omega (arith, bool_share c.args.index c.args.store.now c.in-Bool.is, ap length (true_printed c.in-Bool.b c.if-b.true))
 
 pub overflow_add-result : goal.overflow_add-result
 overflow_add-result c = omega (arith, c.number_len.ensures)
 
 pub part_len-requires : goal.part_len-requires
-part_len-requires c =     ((omega (arith, c.requires.0, ap bytes_end c.in-Str.is)), c.requires.1)
+part_len-requires c = ((omega (arith, c.requires.0, ap bytes_end c.in-Str.is)), c.requires.1)
 
 pub overflow_add-result-in-Str : goal.overflow_add-result-in-Str
-overflow_add-result-in-Str c =     omega (
+overflow_add-result-in-Str c = omega (
       arith,
       c.part_len.ensures,
       quoted_small (part c.args.store.now c.in-Str.length c.in-Str.start)
@@ -33,10 +33,10 @@ overflow_add-result-in-Str c =     omega (
     )
 
 pub part_len-requires-in-Key : goal.part_len-requires-in-Key
-part_len-requires-in-Key c =     ((omega (arith, c.requires.0, ap bytes_end c.in-Key.is)), c.requires.1)
+part_len-requires-in-Key c = ((omega (arith, c.requires.0, ap bytes_end c.in-Key.is)), c.requires.1)
 
 pub overflow_add-result-in-Key : goal.overflow_add-result-in-Key
-overflow_add-result-in-Key c =     omega (
+overflow_add-result-in-Key c = omega (
       arith,
       c.part_len-in-Key.ensures,
       quoted_small (part c.args.store.now c.in-Key.length c.in-Key.start)
@@ -58,34 +58,34 @@ pub overflow_add-result-in-Time : goal.overflow_add-result-in-Time
 overflow_add-result-in-Time c = omega (arith, c.time_len.ensures, time_length c.in-Time.t)
 
 pub overflow_add-result-in-Array : goal.overflow_add-result-in-Array
-overflow_add-result-in-Array c =     omega (arith, c.closes.ensures, closes_few c.in-Array.end c.args.index)
+overflow_add-result-in-Array c = omega (arith, c.closes.ensures, closes_few c.in-Array.end c.args.index)
 
 pub overflow_add-result-in-Object : goal.overflow_add-result-in-Object
-overflow_add-result-in-Object c =     omega (arith, c.closes-in-Object.ensures, closes_few c.in-Object.end c.args.index)
+overflow_add-result-in-Object c = omega (arith, c.closes-in-Object.ensures, closes_few c.in-Object.end c.args.index)
 
 pub returns-in-Null : goal.returns-in-Null
-returns-in-Null c =     sym (null_share c.args.index c.args.store.now c.in-Null.is)
+returns-in-Null c = sym (null_share c.args.index c.args.store.now c.in-Null.is)
 
 pub returns-else-b : goal.returns-else-b
-returns-else-b c =     omega (arith, bool_share c.args.index c.args.store.now c.in-Bool.is, ap length (false_printed c.in-Bool.b c.if-b.false))
+returns-else-b c = omega (arith, bool_share c.args.index c.args.store.now c.in-Bool.is, ap length (false_printed c.in-Bool.b c.if-b.false))
 
 pub returns-in-Number : goal.returns-in-Number
-returns-in-Number c =     omega (arith, c.number_len.ensures, number_share c.args.index c.args.store.now c.in-Number.is)
+returns-in-Number c = omega (arith, c.number_len.ensures, number_share c.args.index c.args.store.now c.in-Number.is)
 
 pub returns-in-Str : goal.returns-in-Str
-returns-in-Str c =     omega (arith, c.part_len.ensures, string_share c.args.index c.args.store.now c.in-Str.is)
+returns-in-Str c = omega (arith, c.part_len.ensures, string_share c.args.index c.args.store.now c.in-Str.is)
 
 pub returns-in-Key : goal.returns-in-Key
-returns-in-Key c =     omega (arith, c.part_len-in-Key.ensures, key_share c.args.index c.args.store.now c.in-Key.is)
+returns-in-Key c = omega (arith, c.part_len-in-Key.ensures, key_share c.args.index c.args.store.now c.in-Key.is)
 
 pub returns-in-Bin : goal.returns-in-Bin
-returns-in-Bin c =     sym (binary_share c.args.index c.args.store.now c.in-Bin.is (omega (arith, c.requires.0, ap bytes_end c.in-Bin.is)))
+returns-in-Bin c = sym (binary_share c.args.index c.args.store.now c.in-Bin.is (omega (arith, c.requires.0, ap bytes_end c.in-Bin.is)))
 
 pub returns-in-Time : goal.returns-in-Time
-returns-in-Time c =     omega (arith, c.time_len.ensures, time_share c.args.index c.args.store.now c.in-Time.is)
+returns-in-Time c = omega (arith, c.time_len.ensures, time_share c.args.index c.args.store.now c.in-Time.is)
 
 pub returns-in-Array : goal.returns-in-Array
-returns-in-Array c =     omega (arith, c.closes.ensures, array_share c.args.index c.args.store.now c.in-Array.is)
+returns-in-Array c = omega (arith, c.closes.ensures, array_share c.args.index c.args.store.now c.in-Array.is)
 
 pub returns-in-Object : goal.returns-in-Object
-returns-in-Object c =     omega (arith, c.closes-in-Object.ensures, object_share c.args.index c.args.store.now c.in-Object.is)
+returns-in-Object c = omega (arith, c.closes-in-Object.ensures, object_share c.args.index c.args.store.now c.in-Object.is)

@@ -27,4 +27,4 @@ pub returns-then-b-eq9 : goal.returns-then-b-eq9
 returns-then-b-eq9 c = lettered_short _ tab c.if-b-eq9.true
 
 pub returns : goal.returns
-returns c =     lettered_low _ c.if-b-eq8.false c.if-b-eq12.false c.if-b-eq10.false c.if-b-eq13.false c.if-b-eq9.false c.if-b-ge32.false
+returns c = lettered_low _ c.if-b-eq8.false c.if-b-eq12.false c.if-b-eq10.false c.if-b-eq13.false c.if-b-eq9.false c.if-b-ge32.false

@@ -10,7 +10,7 @@ pub loop-i-init : goal.loop-i-init
 loop-i-init c = (omega arith, begin _ _ _ c.requires)
 
 pub pair_at-end-requires : goal.pair_at-end-requires
-pair_at-end-requires c =     let loop-test = c.loop-i-test in
+pair_at-end-requires c = let loop-test = c.loop-i-test in
     omega (
       arith,
       writing_room (hex_pair (get_or c.args.s.now c.loop-i.i 0)) (hex_pairs (drop (c.loop-i.i + 1) c.args.s.now))
@@ -21,7 +21,7 @@ pub loop-i-smaller : goal.loop-i-smaller
 loop-i-smaller c = omega arith
 
 pub loop-i-preserved : goal.loop-i-preserved
-loop-i-preserved c =     let loop-test = c.loop-i-test in
+loop-i-preserved c = let loop-test = c.loop-i-test in
     let pair-at = c.pair_at-end in (
       omega arith,
       writing_put (hex_pair (get_or c.args.s.now c.loop-i.i 0)) (writing_as (pairs_more c.args.s.now c.loop-i.i loop-test.true) c.loop-i.invariant.1)
@@ -32,4 +32,4 @@ pub shape_of-out : goal.shape_of-out
 shape_of-out c = writing_length c.loop-i.invariant.1
 
 pub returns : goal.returns
-returns c =     finish (writing_as (pairs_end c.args.s.now c.loop-i.i c.loop-i-test.false) c.loop-i.invariant.1)
+returns c = finish (writing_as (pairs_end c.args.s.now c.loop-i.i c.loop-i-test.false) c.loop-i.invariant.1)

@@ -10,8 +10,14 @@ use Rattle.writer.proofs.string_or_binary.runs_at.Goals as goal
 pub loop-i-init : goal.loop-i-init
 loop-i-init c = (omega arith, begin _ _ _ c.requires)
 
+pub slice_bounds-bytes_at-start : goal.slice_bounds-bytes_at-start
+slice_bounds-bytes_at-start c = omega (arith, c.plain_run-j.ensures.behind)
+
+pub slice_bounds-bytes_at-end : goal.slice_bounds-bytes_at-end
+slice_bounds-bytes_at-end c = omega (arith, c.plain_run-j.ensures.within)
+
 pub bytes_at-end-requires : goal.bytes_at-end-requires
-bytes_at-end-requires c =     writing_room (take (c.plain_run-j.result - c.loop-i.i) (drop c.loop-i.i c.args.s.now)) (escapes (drop c.plain_run-j.result c.args.s.now))
+bytes_at-end-requires c = writing_room (take (c.plain_run-j.result - c.loop-i.i) (drop c.loop-i.i c.args.s.now)) (escapes (drop c.plain_run-j.result c.args.s.now))
     (writing_as (run_text c.args.s.now c.loop-i.i _ c.plain_run-j.ensures) c.loop-i.invariant.1)
 
 pub loop-i-smaller-then-i-j : goal.loop-i-smaller-then-i-j

@@ -9,10 +9,10 @@ use Rattle.writer.proofs.PiecesLaws.{length_three, quoted_parts}
 use Rattle.writer.proofs.string_or_binary.write_string.Goals as goal
 
 pub byte_at-first-requires : goal.byte_at-first-requires
-byte_at-first-requires c =     omega (arith, c.requires, ap length (quoted_parts c.args.s.now), length_three (letters "\"") (escapes c.args.s.now) (letters "\""))
+byte_at-first-requires c = omega (arith, c.requires, ap length (quoted_parts c.args.s.now), length_three (letters "\"") (escapes c.args.s.now) (letters "\""))
 
 pub escapes_at-last-requires : goal.escapes_at-last-requires
-escapes_at-last-requires c =     omega (
+escapes_at-last-requires c = omega (
       arith,
       c.requires,
       ap length (quoted_parts c.args.s.now),
@@ -22,7 +22,7 @@ escapes_at-last-requires c =     omega (
     )
 
 pub byte_at-requires : goal.byte_at-requires
-byte_at-requires c =     let escapes-at = c.escapes_at-last in
+byte_at-requires c = let escapes-at = c.escapes_at-last in
     omega (
       arith,
       c.requires,
@@ -35,7 +35,7 @@ byte_at-requires c =     let escapes-at = c.escapes_at-last in
     )
 
 pub returns : goal.returns
-returns c =     let escapes-at = c.escapes_at-last in
+returns c = let escapes-at = c.escapes_at-last in
     let byte-at2 = c.byte_at in
     put_as (sym (quoted_parts c.args.s.now)) (put_whole (put_next (omega arith) (put_next (omega arith) c.byte_at-first.ensures escapes-at.ensures)
     byte-at2.ensures))

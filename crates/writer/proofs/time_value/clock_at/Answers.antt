@@ -12,11 +12,11 @@ pub digits_at-a-requires : goal.digits_at-a-requires
 digits_at-a-requires c = omega (arith, c.requires, clock_length c.args.t)
 
 pub byte_at-b-requires : goal.byte_at-b-requires
-byte_at-b-requires c =     let digits-at = c.digits_at-a in
+byte_at-b-requires c = let digits-at = c.digits_at-a in
     omega (arith, c.requires, clock_length c.args.t, digits-at.ensures.next, digits-at.auto.0, fixed_length 2 (c.args.t / 3600000000000))
 
 pub digits_at-c-requires : goal.digits_at-c-requires
-digits_at-c-requires c =     let digits-at = c.digits_at-a in
+digits_at-c-requires c = let digits-at = c.digits_at-a in
     omega (
       arith,
       c.requires,
@@ -29,7 +29,7 @@ digits_at-c-requires c =     let digits-at = c.digits_at-a in
     )
 
 pub byte_at-d-requires : goal.byte_at-d-requires
-byte_at-d-requires c =     let digits-at = c.digits_at-a in
+byte_at-d-requires c = let digits-at = c.digits_at-a in
     let digits-at2 = c.digits_at-c in
     omega (
       arith,
@@ -46,7 +46,7 @@ byte_at-d-requires c =     let digits-at = c.digits_at-a in
     )
 
 pub digits_at-e-requires : goal.digits_at-e-requires
-digits_at-e-requires c =     let digits-at = c.digits_at-a in
+digits_at-e-requires c = let digits-at = c.digits_at-a in
     let digits-at2 = c.digits_at-c in
     let byte-at2 = c.byte_at-d in
     omega (
@@ -66,7 +66,7 @@ digits_at-e-requires c =     let digits-at = c.digits_at-a in
     )
 
 pub fraction_at-requires : goal.fraction_at-requires
-fraction_at-requires c =     let digits-at = c.digits_at-a in
+fraction_at-requires c = let digits-at = c.digits_at-a in
     let digits-at2 = c.digits_at-c in
     let byte-at2 = c.byte_at-d in
     let digits-at3 = c.digits_at-e in
@@ -90,7 +90,7 @@ fraction_at-requires c =     let digits-at = c.digits_at-a in
     )
 
 pub returns : goal.returns
-returns c =     let digits-at = c.digits_at-a in
+returns c = let digits-at = c.digits_at-a in
     let digits-at2 = c.digits_at-c in
     let byte-at2 = c.byte_at-d in
     let digits-at3 = c.digits_at-e in

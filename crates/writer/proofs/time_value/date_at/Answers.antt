@@ -11,11 +11,11 @@ pub digits_at-a-requires : goal.digits_at-a-requires
 digits_at-a-requires c = omega (arith, c.requires, date_length c.args.d)
 
 pub byte_at-b-requires : goal.byte_at-b-requires
-byte_at-b-requires c =     let digits-at = c.digits_at-a in
+byte_at-b-requires c = let digits-at = c.digits_at-a in
     omega (arith, c.requires, date_length c.args.d, digits-at.ensures.next, digits-at.auto.0, fixed_length 4 c.args.d.year)
 
 pub digits_at-c-requires : goal.digits_at-c-requires
-digits_at-c-requires c =     let digits-at = c.digits_at-a in
+digits_at-c-requires c = let digits-at = c.digits_at-a in
     omega (
       arith,
       c.requires,
@@ -28,7 +28,7 @@ digits_at-c-requires c =     let digits-at = c.digits_at-a in
     )
 
 pub byte_at-e-requires : goal.byte_at-e-requires
-byte_at-e-requires c =     let digits-at = c.digits_at-a in
+byte_at-e-requires c = let digits-at = c.digits_at-a in
     let digits-at2 = c.digits_at-c in
     omega (
       arith,
@@ -45,7 +45,7 @@ byte_at-e-requires c =     let digits-at = c.digits_at-a in
     )
 
 pub digits_at-requires : goal.digits_at-requires
-digits_at-requires c =     let digits-at = c.digits_at-a in
+digits_at-requires c = let digits-at = c.digits_at-a in
     let digits-at2 = c.digits_at-c in
     let byte-at2 = c.byte_at-e in
     omega (
@@ -65,7 +65,7 @@ digits_at-requires c =     let digits-at = c.digits_at-a in
     )
 
 pub returns : goal.returns
-returns c =     let digits-at = c.digits_at-a in
+returns c = let digits-at = c.digits_at-a in
     let digits-at2 = c.digits_at-c in
     let byte-at2 = c.byte_at-e in
     let digits-at3 = c.digits_at in

@@ -13,7 +13,7 @@ pub returns-then-n-eq0 : goal.returns-then-n-eq0
 returns-then-n-eq0 c = put_at_as (sym (fraction_none c.args.n c.if-n-eq0.true)) (put_none _ _)
 
 pub byte_at-first-requires : goal.byte_at-first-requires
-byte_at-first-requires c =     omega (
+byte_at-first-requires c = omega (
       arith,
       c.requires,
       ap length (fraction_some c.args.n c.if-n-eq0.false ∙ ap (λ (l : List _). letters "." ++ l) c.trimmed-t.ensures.text),
@@ -21,7 +21,7 @@ byte_at-first-requires c =     omega (
     )
 
 pub digits_at-requires : goal.digits_at-requires
-digits_at-requires c =     omega (
+digits_at-requires c = omega (
       arith,
       c.requires,
       ap length (fraction_some c.args.n c.if-n-eq0.false ∙ ap (λ (l : List _). letters "." ++ l) c.trimmed-t.ensures.text),
@@ -31,6 +31,6 @@ digits_at-requires c =     omega (
     )
 
 pub returns : goal.returns
-returns c =     let digits-at = c.digits_at in
+returns c = let digits-at = c.digits_at in
     put_at_as (sym (fraction_some c.args.n c.if-n-eq0.false ∙ ap (λ (l : List _). letters "." ++ l) c.trimmed-t.ensures.text))
     (put_next (omega (arith, c.requires)) c.byte_at-first.ensures digits-at.ensures)

@@ -12,7 +12,7 @@ pub returns-then-n-eq0 : goal.returns-then-n-eq0
 returns-then-n-eq0 c = (sym (ap length (fraction_none c.args.n c.if-n-eq0.true)), omega arith)
 
 pub returns : goal.returns
-returns c =     (
+returns c = (
       omega (
         arith,
         ap length (fraction_some c.args.n c.if-n-eq0.false ∙ ap (λ (l : List _). letters "." ++ l) c.trimmed-t.ensures.text),

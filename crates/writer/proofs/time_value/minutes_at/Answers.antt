@@ -10,11 +10,11 @@ pub digits_at-a-requires : goal.digits_at-a-requires
 digits_at-a-requires c = omega (arith, c.requires, minutes_length c.args.n)
 
 pub byte_at-b-requires : goal.byte_at-b-requires
-byte_at-b-requires c =     let digits-at = c.digits_at-a in
+byte_at-b-requires c = let digits-at = c.digits_at-a in
     omega (arith, c.requires, minutes_length c.args.n, digits-at.ensures.next, digits-at.auto.0, fixed_length 2 (c.args.n / 60))
 
 pub digits_at-requires : goal.digits_at-requires
-digits_at-requires c =     let digits-at = c.digits_at-a in
+digits_at-requires c = let digits-at = c.digits_at-a in
     omega (
       arith,
       c.requires,
@@ -27,7 +27,7 @@ digits_at-requires c =     let digits-at = c.digits_at-a in
     )
 
 pub returns : goal.returns
-returns c =     let digits-at = c.digits_at-a in
+returns c = let digits-at = c.digits_at-a in
     let digits-at2 = c.digits_at in
     put_next (omega (arith, c.requires, minutes_length c.args.n)) (put_next (omega (arith, c.requires, minutes_length c.args.n)) digits-at.ensures c.byte_at-b.ensures)
     digits-at2.ensures

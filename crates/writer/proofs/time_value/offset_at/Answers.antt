@@ -11,15 +11,15 @@ pub overflow_cast-offset : goal.overflow_cast-offset
 overflow_cast-offset c = offset_cast _ c.ranges.offset
 
 pub byte_at-requires : goal.byte_at-requires
-byte_at-requires c =     let sign-and-size = c.sign_and_size-o in
+byte_at-requires c = let sign-and-size = c.sign_and_size-o in
     omega (arith, c.requires, ap length (offset_at_zero _ sign-and-size.result (offset_sign _ c.ranges.offset _ sign-and-size.ensures) c.if-size-eq0.true))
 
 pub returns-then-size-eq0 : goal.returns-then-size-eq0
-returns-then-size-eq0 c =     let sign-and-size = c.sign_and_size-o in
+returns-then-size-eq0 c = let sign-and-size = c.sign_and_size-o in
     put_at_as (sym (offset_at_zero _ sign-and-size.result (offset_sign _ c.ranges.offset _ sign-and-size.ensures) c.if-size-eq0.true)) c.byte_at.ensures
 
 pub byte_at-first-requires : goal.byte_at-first-requires
-byte_at-first-requires c =     let sign-and-size = c.sign_and_size-o in
+byte_at-first-requires c = let sign-and-size = c.sign_and_size-o in
     omega (
       arith,
       c.requires,
@@ -28,7 +28,7 @@ byte_at-first-requires c =     let sign-and-size = c.sign_and_size-o in
     )
 
 pub minutes_at-requires : goal.minutes_at-requires
-minutes_at-requires c =     let sign-and-size = c.sign_and_size-o in
+minutes_at-requires c = let sign-and-size = c.sign_and_size-o in
     let byte-at2 = c.byte_at-first in
     omega (
       arith,
@@ -39,14 +39,14 @@ minutes_at-requires c =     let sign-and-size = c.sign_and_size-o in
     )
 
 pub returns-then-o : goal.returns-then-o
-returns-then-o c =     let sign-and-size = c.sign_and_size-o in
+returns-then-o c = let sign-and-size = c.sign_and_size-o in
     let byte-at2 = c.byte_at-first in
     let minutes-at = c.minutes_at in
     put_at_as (sym (offset_below _ sign-and-size.result (offset_sign _ c.ranges.offset _ sign-and-size.ensures) c.if-size-eq0.false c.if-o.true))
     (put_next (omega (arith, c.requires)) byte-at2.ensures minutes-at.ensures)
 
 pub byte_at-first-requires-2 : goal.byte_at-first-requires-2
-byte_at-first-requires-2 c =     let sign-and-size = c.sign_and_size-o in
+byte_at-first-requires-2 c = let sign-and-size = c.sign_and_size-o in
     omega (
       arith,
       c.requires,
@@ -55,7 +55,7 @@ byte_at-first-requires-2 c =     let sign-and-size = c.sign_and_size-o in
     )
 
 pub minutes_at-requires-2 : goal.minutes_at-requires-2
-minutes_at-requires-2 c =     let sign-and-size = c.sign_and_size-o in
+minutes_at-requires-2 c = let sign-and-size = c.sign_and_size-o in
     let byte-at3 = c.byte_at-first-2 in
     omega (
       arith,
@@ -66,7 +66,7 @@ minutes_at-requires-2 c =     let sign-and-size = c.sign_and_size-o in
     )
 
 pub returns : goal.returns
-returns c =     let sign-and-size = c.sign_and_size-o in
+returns c = let sign-and-size = c.sign_and_size-o in
     let byte-at3 = c.byte_at-first-2 in
     let minutes-at2 = c.minutes_at-2 in
     put_at_as (sym (offset_above _ sign-and-size.result (offset_sign _ c.ranges.offset _ sign-and-size.ensures) c.if-size-eq0.false c.if-o.false))

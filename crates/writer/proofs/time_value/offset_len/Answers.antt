@@ -10,9 +10,9 @@ pub overflow_cast-offset : goal.overflow_cast-offset
 overflow_cast-offset c = offset_cast _ c.ranges.offset
 
 pub returns-then-o-eq0 : goal.returns-then-o-eq0
-returns-then-o-eq0 c =     let sign-and-size = c.sign_and_size-o in
+returns-then-o-eq0 c = let sign-and-size = c.sign_and_size-o in
     (sym (ap length (offset_at_zero _ sign-and-size.result (offset_sign _ c.ranges.offset _ sign-and-size.ensures) c.if-o-eq0.true)), omega arith)
 
 pub returns : goal.returns
-returns c =     let sign-and-size = c.sign_and_size-o in
+returns c = let sign-and-size = c.sign_and_size-o in
     (sym (offset_signed _ sign-and-size.result (offset_sign _ c.ranges.offset _ sign-and-size.ensures) c.if-o-eq0.false), omega arith)

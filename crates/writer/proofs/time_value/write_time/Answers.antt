@@ -10,16 +10,16 @@ use Rattle.writer.proofs.PiecesLaws.{date_alone, clock_alone, local_date_time, o
 use Rattle.writer.proofs.time_value.write_time.Goals as goal
 
 pub date_at-requires : goal.date_at-requires
-date_at-requires c =     omega (arith, c.requires, ap length (ap time_text c.in-LocalDate.is ∙ date_alone c.in-LocalDate.d))
+date_at-requires c = omega (arith, c.requires, ap length (ap time_text c.in-LocalDate.is ∙ date_alone c.in-LocalDate.d))
 
 pub clock_at-requires : goal.clock_at-requires
-clock_at-requires c =     omega (arith, c.requires, ap length (ap time_text c.in-LocalTime.is ∙ clock_alone c.in-LocalTime.clock))
+clock_at-requires c = omega (arith, c.requires, ap length (ap time_text c.in-LocalTime.is ∙ clock_alone c.in-LocalTime.clock))
 
 pub date_at-letter-requires : goal.date_at-letter-requires
-date_at-letter-requires c =     omega (arith, c.requires, ap length (ap time_text c.in-LocalDateTime.is), local_date_time_length c.in-LocalDateTime.d c.in-LocalDateTime.clock, date_length c.in-LocalDateTime.d)
+date_at-letter-requires c = omega (arith, c.requires, ap length (ap time_text c.in-LocalDateTime.is), local_date_time_length c.in-LocalDateTime.d c.in-LocalDateTime.clock, date_length c.in-LocalDateTime.d)
 
 pub byte_at-first-requires : goal.byte_at-first-requires
-byte_at-first-requires c =     let date-at2 = c.date_at-letter in
+byte_at-first-requires c = let date-at2 = c.date_at-letter in
     omega (
       arith,
       c.requires,
@@ -31,7 +31,7 @@ byte_at-first-requires c =     let date-at2 = c.date_at-letter in
     )
 
 pub clock_at-requires-in-LocalDateTime : goal.clock_at-requires-in-LocalDateTime
-clock_at-requires-in-LocalDateTime c =     let date-at2 = c.date_at-letter in
+clock_at-requires-in-LocalDateTime c = let date-at2 = c.date_at-letter in
     omega (
       arith,
       c.requires,
@@ -45,7 +45,7 @@ clock_at-requires-in-LocalDateTime c =     let date-at2 = c.date_at-letter in
     )
 
 pub date_at-letter-requires-in-OffsetDateTime : goal.date_at-letter-requires-in-OffsetDateTime
-date_at-letter-requires-in-OffsetDateTime c =     omega (
+date_at-letter-requires-in-OffsetDateTime c = omega (
       arith,
       c.requires,
       ap length (ap time_text c.in-OffsetDateTime.is),
@@ -54,7 +54,7 @@ date_at-letter-requires-in-OffsetDateTime c =     omega (
     )
 
 pub byte_at-first-requires-in-OffsetDateTime : goal.byte_at-first-requires-in-OffsetDateTime
-byte_at-first-requires-in-OffsetDateTime c =     let date-at3 = c.date_at-letter-in-OffsetDateTime in
+byte_at-first-requires-in-OffsetDateTime c = let date-at3 = c.date_at-letter-in-OffsetDateTime in
     omega (
       arith,
       c.requires,
@@ -66,7 +66,7 @@ byte_at-first-requires-in-OffsetDateTime c =     let date-at3 = c.date_at-letter
     )
 
 pub clock_at-after-requires : goal.clock_at-after-requires
-clock_at-after-requires c =     let date-at3 = c.date_at-letter-in-OffsetDateTime in
+clock_at-after-requires c = let date-at3 = c.date_at-letter-in-OffsetDateTime in
     let byte-at2 = c.byte_at-first-in-OffsetDateTime in
     omega (
       arith,
@@ -81,7 +81,7 @@ clock_at-after-requires c =     let date-at3 = c.date_at-letter-in-OffsetDateTim
     )
 
 pub offset_at-requires : goal.offset_at-requires
-offset_at-requires c =     let date-at3 = c.date_at-letter-in-OffsetDateTime in
+offset_at-requires c = let date-at3 = c.date_at-letter-in-OffsetDateTime in
     let byte-at2 = c.byte_at-first-in-OffsetDateTime in
     let clock-at3 = c.clock_at-after in
     let known-told4 = c.known_told-in-OffsetDateTime-1 in
@@ -101,21 +101,21 @@ offset_at-requires c =     let date-at3 = c.date_at-letter-in-OffsetDateTime in
     )
 
 pub returns-in-LocalDate : goal.returns-in-LocalDate
-returns-in-LocalDate c =     let date-at = c.date_at in
+returns-in-LocalDate c = let date-at = c.date_at in
     put_as (sym (ap time_text c.in-LocalDate.is ∙ date_alone c.in-LocalDate.d)) (put_whole date-at.ensures)
 
 pub returns-in-LocalTime : goal.returns-in-LocalTime
-returns-in-LocalTime c =     let clock-at = c.clock_at in
+returns-in-LocalTime c = let clock-at = c.clock_at in
     put_as (sym (ap time_text c.in-LocalTime.is ∙ clock_alone c.in-LocalTime.clock)) (put_whole clock-at.ensures)
 
 pub returns-in-LocalDateTime : goal.returns-in-LocalDateTime
-returns-in-LocalDateTime c =     let date-at2 = c.date_at-letter in
+returns-in-LocalDateTime c = let date-at2 = c.date_at-letter in
     let clock-at2 = c.clock_at-in-LocalDateTime in
     put_as (sym (ap time_text c.in-LocalDateTime.is ∙ local_date_time c.in-LocalDateTime.d c.in-LocalDateTime.clock))
     (put_whole (put_next (omega arith) (put_next (omega arith) date-at2.ensures c.byte_at-first.ensures) clock-at2.ensures))
 
 pub returns-in-OffsetDateTime : goal.returns-in-OffsetDateTime
-returns-in-OffsetDateTime c =     let date-at3 = c.date_at-letter-in-OffsetDateTime in
+returns-in-OffsetDateTime c = let date-at3 = c.date_at-letter-in-OffsetDateTime in
     let byte-at2 = c.byte_at-first-in-OffsetDateTime in
     let clock-at3 = c.clock_at-after in
     let known-told4 = c.known_told-in-OffsetDateTime-1 in

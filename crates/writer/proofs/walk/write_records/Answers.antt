@@ -6,26 +6,26 @@ use Rattle.writer.proofs.WalkLaws.{walk_inside, walk_comma, walk_bytes, walk_pie
 use Rattle.writer.proofs.walk.write_records.Goals as goal
 
 pub loop-i-init : goal.loop-i-init
-loop-i-init c =     walk_begin c.args.tape.now c.args.store.now c.args.out.now _ _ c.requires refl refl
+loop-i-init c = walk_begin c.args.tape.now c.args.store.now c.args.out.now _ _ c.requires refl refl
 
 -- ---- a record comes
 pub comma_at-piece-requires : goal.comma_at-piece-requires
 comma_at-piece-requires c = walk_comma c.loop-i.invariant c.if-i-until.true
 
 pub record_at-r-requires : goal.record_at-r-requires
-record_at-r-requires c =     walk_inside c.loop-i.invariant c.if-i-until.true
+record_at-r-requires c = walk_inside c.loop-i.invariant c.if-i-until.true
 
 pub overflow_add-i : goal.overflow_add-i
-overflow_add-i c =     omega (arith, walk_inside c.loop-i.invariant c.if-i-until.true, few_records _ _ c.loop-i.invariant.well)
+overflow_add-i c = omega (arith, walk_inside c.loop-i.invariant c.if-i-until.true, few_records _ _ c.loop-i.invariant.well)
 
 pub printed_at-at-requires : goal.printed_at-at-requires
-printed_at-at-requires c =     (walk_bytes c.loop-i.invariant c.if-i-until.true c.record_at-r.ensures, walk_piece c.loop-i.invariant c.if-i-until.true c.comma_at-piece.ensures c.record_at-r.ensures)
+printed_at-at-requires c = (walk_bytes c.loop-i.invariant c.if-i-until.true c.record_at-r.ensures, walk_piece c.loop-i.invariant c.if-i-until.true c.comma_at-piece.ensures c.record_at-r.ensures)
 
 pub loop-i-smaller-in-Pass : goal.loop-i-smaller-in-Pass
-loop-i-smaller-in-Pass c =     omega (arith, walk_inside c.loop-i.invariant c.if-i-until.true)
+loop-i-smaller-in-Pass c = omega (arith, walk_inside c.loop-i.invariant c.if-i-until.true)
 
 pub loop-i-preserved-in-Pass : goal.loop-i-preserved-in-Pass
-loop-i-preserved-in-Pass c =     walk_pass c.loop-i.invariant c.if-i-until.true c.comma_at-piece.ensures c.record_at-r.ensures
+loop-i-preserved-in-Pass c = walk_pass c.loop-i.invariant c.if-i-until.true c.comma_at-piece.ensures c.record_at-r.ensures
     c.printed_at-at.ensures c.effect_of.ensures c.in-Pass.is
 
 shallow : (c : tie.After-known-told2 invariant_loop decreases_loop)
@@ -52,10 +52,10 @@ pub overflow_add-depth : goal.overflow_add-depth
 overflow_add-depth c = omega (arith, shallow c)
 
 pub loop-i-smaller-in-Open : goal.loop-i-smaller-in-Open
-loop-i-smaller-in-Open c =     omega (arith, walk_inside c.loop-i.invariant c.if-i-until.true)
+loop-i-smaller-in-Open c = omega (arith, walk_inside c.loop-i.invariant c.if-i-until.true)
 
 pub loop-i-preserved-in-Open : goal.loop-i-preserved-in-Open
-loop-i-preserved-in-Open c =     walk_open c.loop-i.invariant c.if-i-until.true c.comma_at-piece.ensures c.record_at-r.ensures
+loop-i-preserved-in-Open c = walk_open c.loop-i.invariant c.if-i-until.true c.comma_at-piece.ensures c.record_at-r.ensures
     c.printed_at-at.ensures c.effect_of.ensures c.in-Open.is
 
 -- ---- the walk ends
@@ -85,4 +85,4 @@ pub loop-i-smaller : goal.loop-i-smaller
 loop-i-smaller c = omega (arith, c.if-depth-eq0.false)
 
 pub loop-i-preserved : goal.loop-i-preserved
-loop-i-preserved c =     walk_close c.loop-i.invariant c.if-i-until.false c.if-depth-eq0.false c.byte_at-at.ensures
+loop-i-preserved c = walk_close c.loop-i.invariant c.if-i-until.false c.if-depth-eq0.false c.byte_at-at.ensures
