@@ -9,6 +9,7 @@ use Rattle.meaning.specs.Limits.{day, offset_limit}
 use Rattle.rules.specs.Between.Tests.{Decides}
 use Rattle.rules.proofs.TestsLaws.{held, decides_as, fails_too, both_test}
 use Rattle.tape.proofs.fields.good_time.Goals as goal
+use Rattle.tape.proofs.fields.good_time.Goals.{then-good_clock-2, else-good_clock-2}
 
 pub returns-in-LocalDate : goal.returns-in-LocalDate
 returns-in-LocalDate c = rw c.in-LocalDate.is c.good_date.ensures
@@ -24,22 +25,27 @@ pub returns-else-good_clock : goal.returns-else-good_clock
 returns-else-good_clock c = rw c.in-LocalDateTime.is (fails_too (λ p. p.1) c.good_clock-in-LocalDateTime.ensures c.if-good_clock.false)
 
 -- what is known once the clock, and where that is good the offset, was tested
-clock_and_offset : (c : tie.Joined2)
-    → let fields = c.before.before.before.t4.given.0 in
-    Decides ((fields.1.0 < day) × (nat_abs fields.1.1.0 ≤ offset_limit)) c.if2.if3
-clock_and_offset c =
-    let fields = c.before.before.before.t4.given.0 in
-    let both = (fields.1.0 < day) × (nat_abs fields.1.1.0 ≤ offset_limit) in
-    let fits = c.before.before.known-told4.given.1.1.0.1 in
-    let clock = c.before.good-clock3.ensures in
-    ⊎_elim
-    (λ w. subst (Decides both) (sym w.2) (both_test (held clock w.0.taken) (rw (to_z-of_z w16 _ (record { sfits = fits })) at w.1.ensures)))
-    (λ w. subst (Decides both) (sym w.1) (fails_too (λ p. p.0) clock w.0.left))
-    c.if2.branch
-
 pub returns-then-good_offset : goal.returns-then-good_offset
-returns-then-good_offset c = let q = held (clock_and_offset c.before.before) c.if-good_offset.true in
+returns-then-good_offset c =
+    let known : Decides ((c.in-OffsetDateTime.clock < day) × (nat_abs c.in-OffsetDateTime.offset ≤ offset_limit)) c.if-good_clock-2.value =
+        elim c.if-good_clock-2.branch [
+          then-good_clock-2 w ↦ subst (Decides _) (sym w.value-is)
+              (both_test (held c.good_clock-in-OffsetDateTime.ensures w.if-good_clock-2.true)
+              (rw (to_z-of_z w16 c.in-OffsetDateTime.offset (record { sfits = assumption })) at w.good_offset.ensures))
+          | else-good_clock-2 w ↦ subst (Decides _) (sym w.value-is)
+              (fails_too (λ p. p.0) c.good_clock-in-OffsetDateTime.ensures w.if-good_clock-2.false)
+        ] in
+    let q = held known c.if-good_offset.true in
     rw c.in-OffsetDateTime.is (decides_as (λ p. (p, q.0, q.1)) (λ p. p.0) c.good_date-then-good_offset.ensures)
 
 pub returns-else-good_offset : goal.returns-else-good_offset
-returns-else-good_offset c = rw c.in-OffsetDateTime.is (fails_too (λ p. (p.1, p.2)) (clock_and_offset c.before) c.if-good_offset.false)
+returns-else-good_offset c =
+    let known : Decides ((c.in-OffsetDateTime.clock < day) × (nat_abs c.in-OffsetDateTime.offset ≤ offset_limit)) c.if-good_clock-2.value =
+        elim c.if-good_clock-2.branch [
+          then-good_clock-2 w ↦ subst (Decides _) (sym w.value-is)
+              (both_test (held c.good_clock-in-OffsetDateTime.ensures w.if-good_clock-2.true)
+              (rw (to_z-of_z w16 c.in-OffsetDateTime.offset (record { sfits = assumption })) at w.good_offset.ensures))
+          | else-good_clock-2 w ↦ subst (Decides _) (sym w.value-is)
+              (fails_too (λ p. p.0) c.good_clock-in-OffsetDateTime.ensures w.if-good_clock-2.false)
+        ] in
+    rw c.in-OffsetDateTime.is (fails_too (λ p. (p.1, p.2)) known c.if-good_offset.false)

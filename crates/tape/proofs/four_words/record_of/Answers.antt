@@ -21,7 +21,7 @@ returns-then-mark-eq-NB c = simp (
 pub returns-then-mark-eq-NX : goal.returns-then-mark-eq-NX
 unfolding record_of
 returns-then-mark-eq-NX c = simp (
-  c.not-Finite.ensures,
+  c.not_finite.ensures,
   eq-eqb _ _ c.if-mark-eq-NX.true,
   ne_eqb _ _ c.if-mark-eq-NB.false,
   ne_eqb _ _ c.if-mark-eq-BO.false,

@@ -9,13 +9,14 @@ use mir.ValLaws.{to_z-neg}
 use Rattle.tape.proofs.LittleEndianSignLaws.{less_fits, less_is}
 use Rattle.tape.proofs.little_endian.signed16.Goals as goal
 
-low : (c : tie.Else1) → 65535 - c.before.args.n < 2 ^ 15
-low c = omega arith
-
 pub overflow_sub-result : goal.overflow_sub-result
-overflow_sub-result c = less_fits w16 (pos (65535 - c.args.n)) (record { sfits = low c })
+overflow_sub-result c =
+    let low : 65535 - c.args.n < 2 ^ 15 = omega arith in
+    less_fits w16 (pos (65535 - c.args.n)) (record { sfits = low })
 
 pub returns-else-n-lt32768 : goal.returns-else-n-lt32768
-returns-else-n-lt32768 c = let e : c.args.n ≡ 65536 - suc (65535 - c.args.n) = omega arith in
-    less_is w16 (pos (65535 - c.args.n)) (record { sfits = low c })
-    ∙ sym (ap (to_z w16) e ∙ to_z-neg w16 (65535 - c.args.n) (low c))
+returns-else-n-lt32768 c =
+    let low : 65535 - c.args.n < 2 ^ 15 = omega arith in
+    let e : c.args.n ≡ 65536 - suc (65535 - c.args.n) = omega arith in
+    less_is w16 (pos (65535 - c.args.n)) (record { sfits = low })
+    ∙ sym (ap (to_z w16) e ∙ to_z-neg w16 (65535 - c.args.n) (low))
