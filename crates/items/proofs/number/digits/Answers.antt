@@ -46,7 +46,7 @@ loop-i-preserved c = (
       c.args.s.now c.args.from
       c.args.a c.loop-i.x c.push-x.result
       c.loop-i.i _ refl c.loop-i.invariant.3
-      c.loop-i-test.true (omega arith) (omega arith) c.push-x.ensures.holds.0,
+      c.loop-i-test.true (omega arith) (omega arith) c.push-x.ensures.holds,
 )
 
 pub returns : goal.returns

@@ -46,7 +46,7 @@ loop-i-preserved c = (
   rises_next c.args.s.now
       c.args.from c.loop-i.e c.raise-e.result
       c.loop-i.i _ refl c.loop-i.invariant.3
-      c.loop-i-test.true (omega arith) (omega arith) c.raise-e.ensures.capped.0,
+      c.loop-i-test.true (omega arith) (omega arith) c.raise-e.ensures.capped,
 )
 
 pub returns : goal.returns

@@ -23,7 +23,7 @@ loop-c-preserved c = (
 )
 
 pub returns : goal.returns
-returns c = (
-  few_zeros c.args.v c.loop-c.c c.loop-c.z (omega arith) c.loop-c.invariant.0 c.loop-c.invariant.1,
-  (c.loop-c.invariant.1, inr c.loop-c-test.false),
-)
+returns c = record {
+  small = few_zeros c.args.v c.loop-c.c c.loop-c.z (omega arith) c.loop-c.invariant.0 c.loop-c.invariant.1;
+  holds = (c.loop-c.invariant.1, inr c.loop-c-test.false);
+}

@@ -24,7 +24,7 @@ overflow_add-at c = omega (arith, c.requires.short)
 pub loop-at-init : goal.loop-at-init
 loop-at-init c = among_start c.args.s.now c.args.q (record { c = 0; over = false; z = 0 })
     c.push-acc.result c.requires.within c.requires.digit refl c.push-acc.ensures.within (refl, inl refl)
-    c.push-acc.ensures.holds.0
+    c.push-acc.ensures.holds
 
 pub returns-then-n-ge4 : goal.returns-then-n-ge4
 returns-then-n-ge4 c = among_says _ _ _ _ _ _ c.loop-at.invariant (inl (omega (arith, c.loop-at.invariant.most)))
@@ -71,7 +71,7 @@ loop-at-preserved c = among_next c.args.s.now
     c.args.q c.loop-at.acc
     c.push-acc-in-loop-at.result c.loop-at.v c.loop-at.n
     c.loop-at.at c.loop-at.invariant (omega arith)
-    c.loop-at-test.true (omega arith) (omega arith) c.push-acc-in-loop-at.ensures.within c.push-acc-in-loop-at.ensures.holds.0
+    c.loop-at-test.true (omega arith) (omega arith) c.push-acc-in-loop-at.ensures.within c.push-acc-in-loop-at.ensures.holds
 
 pub returns : goal.returns
 returns c = among_says _ _ _ _ _ _ c.loop-at.invariant (inr (Edge.ends (omega arith)))
