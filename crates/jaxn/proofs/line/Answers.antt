@@ -22,12 +22,10 @@ byte_at-requires c = let here = text_within c.args.out.now c.rewrite.ensures c.i
     omega (arith, here, c.out-2-1.given.1, c.requires)
 
 pub shape_of-out-in-Refused : goal.shape_of-out-in-Refused
-shape_of-out-in-Refused c = let refused-line2 = c.refused_line-in-Refused in
-    refused-line2.auto.0 ∙ c.out-2-1.given.1
+shape_of-out-in-Refused c = c.refused_line-in-Refused.auto.out ∙ c.out-2-1.given.1
 
 pub returns-in-Refused : goal.returns-in-Refused
-returns-in-Refused c = let refused-line2 = c.refused_line-in-Refused in
-    tells_refusal c.rewrite.ensures c.in-Refused.is c.number-number.ensures c.place-place.ensures refused-line2.ensures
+returns-in-Refused c = tells_refusal c.rewrite.ensures c.in-Refused.is c.number-number.ensures c.place-place.ensures c.refused_line-in-Refused.ensures
 
 pub shape_of-out-in-Wrote : goal.shape_of-out-in-Wrote
 shape_of-out-in-Wrote c = c.byte_at.auto.out ∙ c.out-2-1.given.1

@@ -4,68 +4,54 @@ use Rattle.jaxn.proofs.LineLaws.{digits_few, five_pieces}
 use Rattle.jaxn.proofs.refused_line.Goals as goal
 
 pub decimal_at-b-requires : goal.decimal_at-b-requires
-decimal_at-b-requires c = let bytes-at = c.bytes_at-a in
-    let number = digits_few c.args.number (omega (arith, c.ranges.number)) in
-    omega (arith, c.requires, bytes-at.ensures.next, bytes-at.auto.0, number)
+decimal_at-b-requires c = let number = digits_few c.args.number (omega (arith, c.ranges.number)) in
+    omega (arith, c.requires, c.bytes_at-a.ensures.next, c.bytes_at-a.auto.out, number)
 
 pub bytes_at-c-requires : goal.bytes_at-c-requires
-bytes_at-c-requires c = let bytes-at = c.bytes_at-a in
-    let decimal-at = c.decimal_at-b in
-    let number = digits_few c.args.number (omega (arith, c.ranges.number)) in
+bytes_at-c-requires c = let number = digits_few c.args.number (omega (arith, c.ranges.number)) in
     omega (
       arith,
       c.requires,
-      bytes-at.ensures.next,
-      bytes-at.auto.0,
-      decimal-at.ensures.next,
-      decimal-at.auto.0,
+      c.bytes_at-a.ensures.next,
+      c.bytes_at-a.auto.out,
+      c.decimal_at-b.ensures.next,
+      c.decimal_at-b.auto.out,
       number,
     )
 
 pub decimal_at-d-requires : goal.decimal_at-d-requires
-decimal_at-d-requires c = let bytes-at = c.bytes_at-a in
-    let decimal-at = c.decimal_at-b in
-    let bytes-at2 = c.bytes_at-c in
-    let number = digits_few c.args.number (omega (arith, c.ranges.number)) in
+decimal_at-d-requires c = let number = digits_few c.args.number (omega (arith, c.ranges.number)) in
     let place = digits_few c.args.place (omega (arith, c.ranges.place)) in
     omega (
       arith,
       c.requires,
-      bytes-at.ensures.next,
-      bytes-at.auto.0,
-      decimal-at.ensures.next,
-      decimal-at.auto.0,
-      bytes-at2.ensures.next,
-      bytes-at2.auto.0,
+      c.bytes_at-a.ensures.next,
+      c.bytes_at-a.auto.out,
+      c.decimal_at-b.ensures.next,
+      c.decimal_at-b.auto.out,
+      c.bytes_at-c.ensures.next,
+      c.bytes_at-c.auto.out,
       number,
       place,
     )
 
 pub byte_at-requires : goal.byte_at-requires
-byte_at-requires c = let bytes-at = c.bytes_at-a in
-    let decimal-at = c.decimal_at-b in
-    let bytes-at2 = c.bytes_at-c in
-    let decimal-at2 = c.decimal_at-d in
-    let number = digits_few c.args.number (omega (arith, c.ranges.number)) in
+byte_at-requires c = let number = digits_few c.args.number (omega (arith, c.ranges.number)) in
     let place = digits_few c.args.place (omega (arith, c.ranges.place)) in
     omega (
       arith,
       c.requires,
-      bytes-at.ensures.next,
-      bytes-at.auto.0,
-      decimal-at.ensures.next,
-      decimal-at.auto.0,
-      bytes-at2.ensures.next,
-      bytes-at2.auto.0,
-      decimal-at2.ensures.next,
-      decimal-at2.auto.0,
+      c.bytes_at-a.ensures.next,
+      c.bytes_at-a.auto.out,
+      c.decimal_at-b.ensures.next,
+      c.decimal_at-b.auto.out,
+      c.bytes_at-c.ensures.next,
+      c.bytes_at-c.auto.out,
+      c.decimal_at-d.ensures.next,
+      c.decimal_at-d.auto.out,
       number,
       place,
     )
 
 pub returns : goal.returns
-returns c = let bytes-at = c.bytes_at-a in
-    let decimal-at = c.decimal_at-b in
-    let bytes-at2 = c.bytes_at-c in
-    let decimal-at2 = c.decimal_at-d in
-    five_pieces bytes-at.ensures decimal-at.ensures bytes-at2.ensures decimal-at2.ensures c.byte_at.ensures
+returns c = five_pieces c.bytes_at-a.ensures c.decimal_at-b.ensures c.bytes_at-c.ensures c.decimal_at-d.ensures c.byte_at.ensures

@@ -19,20 +19,16 @@ walk-requires c = (
 )
 
 -- after the first walk
-counted : (c : tie.After-known-told3) → (
-    let records = c.before.records in
-    Counted c.before.before.before.before.before.before.before.before.before.before.before.before.before.before.before.args.text.now
-    c.before.before.before.before.before.before.walk.new.1.1.1.0 records.given.0.0 records.given.0.1.0)
+counted : (c : goal.In-Counts) → (
+    Counted c.args.text.now
+    c.walk.new.seen c.in-Counts.records c.in-Counts.bytes)
 counted c =
-    let a = c.before.before.before.before.before.before.before.before.before.before.before.before.before.before.before.args in
-    let walk = c.before.before.before.before.before.before.walk in
-    let records = c.before.records in
-    measure_counted a.text.now (omega (
+    measure_counted c.args.text.now (omega (
       arith,
-      c.before.before.before.before.before.before.before.before.before.before.before.before.before.if1.false,
+      c.if-text-gt-TEXT_LIMIT.false,
     ))
-    (subst (λ (r : Utf8Answer). Judged a.text.now r) c.before.before.before.before.before.before.before.before.before.before.enum_told.given.1 c.before.before.before.before.before.before.before.before.before.before.before.before.utf8.ensures)
-    records.given.0.0 records.given.0.1.0 (rw records.given.1 at walk.ensures) (zeroes_there _ 520 (omega arith) (omega arith))
+    (subst (λ (r : Utf8Answer). Judged c.args.text.now r) c.in-Done.is c.utf8-2.ensures)
+    c.in-Counts.records c.in-Counts.bytes (rw c.in-Counts.is at c.walk.ensures) (zeroes_there _ 520 (omega arith) (omega arith))
 
 pub returns-then-from-eq0 : goal.returns-then-from-eq0
 returns-then-from-eq0 c = let t = counted c.before.before.before.before.before.before.before in

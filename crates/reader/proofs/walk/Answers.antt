@@ -3,10 +3,9 @@ use Rattle.reader.proofs.WalkLaws.{walk_at, walk_seen, walk_breaks, walk_refused
 use Rattle.reader.proofs.walk.Goals as goal
 
 -- where the value begins
-begun : (c : tie.After-value-arg3) → (
-    let text = c.before.before.before.before.before.before.before.before.before.before.before.args.text.now in
-    LayoutEnds text 0 c.before.before.before.before.first.given.0.0)
-begun c = rw c.before.before.before.before.first.given.1 at c.before.before.before.before.before.before.pass.ensures
+begun : (c : goal.After-value-arg-in-Ended-2-1) → (
+    LayoutEnds c.args.text.now 0 c.in-Ended.first)
+begun c = rw c.in-Ended.is at c.pass.ensures
 
 pub value-requires : goal.value-requires
 value-requires c = (walk_at _ _ (begun c) c.requires.0, walk_seen _ _ (begun c) _ c.requires.0 c.requires.1)

@@ -9,6 +9,4 @@ pub returns-in-Ill : goal.returns-in-Ill
 returns-in-Ill c = jaxn_ill c.judge.ensures c.args.out.now c.in-Ill.is
 
 pub returns-in-Well : goal.returns-in-Well
-returns-in-Well c = let enum-told2 = c.enum_told-in-Well-1 in
-    let write-text = c.write_text in
-    jaxn_text c.judge.ensures enum-told2.given.1 write-text.ensures
+returns-in-Well c = jaxn_text c.judge.ensures c.in-Well.is c.write_text.ensures

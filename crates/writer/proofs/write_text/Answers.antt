@@ -6,14 +6,10 @@ pub returns-then-needed-gt-TEXT_LIMIT : goal.returns-then-needed-gt-TEXT_LIMIT
 returns-then-needed-gt-TEXT_LIMIT c = text_too_long c.args.out.now c.text_len-needed.ensures c.if-needed-gt-TEXT_LIMIT.true
 
 pub returns-then-out-needed : goal.returns-then-out-needed
-returns-then-out-needed c = let text-len = c.text_len-needed in
-    text_too_short c.args.out.now text-len.ensures c.if-needed-gt-TEXT_LIMIT.false c.if-out-needed.true
+returns-then-out-needed c = text_too_short c.args.out.now c.text_len-needed.ensures c.if-needed-gt-TEXT_LIMIT.false c.if-out-needed.true
 
 pub write_records-requires : goal.write_records-requires
-write_records-requires c = let text-len = c.text_len-needed in
-    text_fits c.args.out.now text-len.ensures c.if-out-needed.false c.requires
+write_records-requires c = text_fits c.args.out.now c.text_len-needed.ensures c.if-out-needed.false c.requires
 
 pub returns : goal.returns
-returns c = let text-len = c.text_len-needed in
-    let write-records = c.write_records in
-    text_written c.args.out.now text-len.ensures c.if-needed-gt-TEXT_LIMIT.false c.if-out-needed.false write-records.ensures
+returns c = text_written c.args.out.now c.text_len-needed.ensures c.if-needed-gt-TEXT_LIMIT.false c.if-out-needed.false c.write_records.ensures

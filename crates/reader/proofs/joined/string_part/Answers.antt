@@ -15,15 +15,11 @@ overflow_add-result-in-BadEscape c = let w = rw c.in-BadEscape.is at c.read_part
     omega (arith, w.1, part_length c.args.text.now c.args.at)
 
 -- a part has been read
-closed : (c : tie.After-known-told3) → (
-    let a = c.before.before.before.before.before.before.before.before.before.before.args in
-    let r = c.before.bytes.given.0 in
-    let exit = c.before.before.before.before.before.read-part.new.1.0 in
-    Ended Strings.scan Strings.begin a.text.now a.at a.start a.store.now exit (a.at + r.1.0) r.0)
+closed : (c : goal.In-Closed) → (
+    Ended Strings.scan Strings.begin c.args.text.now c.args.at c.args.start c.args.store.now c.read_part.new.store (c.args.at + c.in-Closed.taken) c.in-Closed.bytes)
 closed c =
-    let a = c.before.before.before.before.before.before.before.before.before.before.args in
-    let w = rw c.before.bytes.given.1 at c.before.before.before.before.before.read-part.ensures in
-    part_closed a.text.now a.at a.start a.store.now (omega arith) _ _ _ w
+    let w = rw c.in-Closed.is at c.read_part.ensures in
+    part_closed c.args.text.now c.args.at c.args.start c.args.store.now (omega arith) _ _ _ w
 
 pub overflow_add-at : goal.overflow_add-at
 overflow_add-at c = omega (arith, (closed c).within)

@@ -22,8 +22,6 @@ returns-in-Figure c = key_none c.args.text.now c.args.at c.args.start c.args.sto
     (figure_letter (get_or c.args.text.now c.args.at 0) (rw c.in-Figure.is at c.sort_of.ensures))
 
 pub returns-in-Letter : goal.returns-in-Letter
-returns-in-Letter c = let sort-of = c.sort_of in
-    let enum-told3 = c.enum_told-in-Letter-1 in
-    key_named c.args.text.now c.args.at c.args.start c.args.store.now c.if-at-text.false
-    (rw enum-told3.given.1 at sort-of.ensures) c.name_end-end.result c.name_end-end.ensures _
+returns-in-Letter c = key_named c.args.text.now c.args.at c.args.start c.args.store.now c.if-at-text.false
+    (rw c.in-Letter.is at c.sort_of.ensures) c.name_end-end.result c.name_end-end.ensures _
     c.copy.ensures

@@ -16,13 +16,11 @@ pub blanks-at-requires-in-Ended : goal.blanks-at-requires-in-Ended
 blanks-at-requires-in-Ended c = let e = rw c.in-Ended.is at c.comment_at.ensures in e.0.onward.within
 
 pub loop-at-smaller : goal.loop-at-smaller
-loop-at-smaller c = let comment-at = c.comment_at in
-    let e = rw c.in-Ended.is at comment-at.ensures in
+loop-at-smaller c = let e = rw c.in-Ended.is at c.comment_at.ensures in
     omega (arith, e.1, e.0.onward.within, c.blanks-at-in-Ended.ensures.onward.behind)
 
 pub loop-at-preserved : goal.loop-at-preserved
-loop-at-preserved c = let comment-at = c.comment_at in
-    let e = rw c.in-Ended.is at comment-at.ensures in
+loop-at-preserved c = let e = rw c.in-Ended.is at c.comment_at.ensures in
     laid_more c.loop-at.invariant e.0 c.blanks-at-in-Ended.ensures
 
 pub returns : goal.returns

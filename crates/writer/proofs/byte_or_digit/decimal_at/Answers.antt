@@ -7,6 +7,4 @@ use Rattle.writer.proofs.ByteOrDigitLaws.{decimal_fixed}
 use Rattle.writer.proofs.byte_or_digit.decimal_at.Goals as goal
 
 pub returns : goal.returns
-returns c = let decimal-len = c.decimal_len in
-    let digits-at = c.digits_at in
-    put_at_as (ap (λ (k : ℕ). fixed k c.args.n) decimal-len.ensures.0 ∙ sym (decimal_fixed c.args.n)) digits-at.ensures
+returns c = put_at_as (ap (λ (k : ℕ). fixed k c.args.n) c.decimal_len.ensures.0 ∙ sym (decimal_fixed c.args.n)) c.digits_at.ensures

@@ -10,12 +10,10 @@ pub bytes_at-requires : goal.bytes_at-requires
 bytes_at-requires c = omega (arith, c.requires, ap length (true_printed _ c.if-b.true))
 
 pub returns-then-b : goal.returns-then-b
-returns-then-b c = let bytes-at = c.bytes_at in
-    put_at_as (sym (true_printed _ c.if-b.true)) bytes-at.ensures
+returns-then-b c = put_at_as (sym (true_printed _ c.if-b.true)) c.bytes_at.ensures
 
 pub bytes_at-requires-2 : goal.bytes_at-requires-2
 bytes_at-requires-2 c = omega (arith, c.requires, ap length (false_printed _ c.if-b.false))
 
 pub returns : goal.returns
-returns c = let bytes-at2 = c.bytes_at-2 in
-    put_at_as (sym (false_printed _ c.if-b.false)) bytes-at2.ensures
+returns c = put_at_as (sym (false_printed _ c.if-b.false)) c.bytes_at-2.ensures

@@ -35,14 +35,13 @@ string_at-colon-requires c = (
     )
 
 pub byte_at-requires : goal.byte_at-requires
-byte_at-requires c = let string-at2 = c.string_at-colon in
-    omega (
+byte_at-requires c = omega (
       arith,
       c.requires.1,
       ap length (key_printed c.args.store.now c.in-Key.is),
       length-append (quoted (part c.args.store.now c.in-Key.length c.in-Key.start)) (letters ":"),
-      string-at2.ensures.next,
-      string-at2.auto.0,
+      c.string_at-colon.ensures.next,
+      c.string_at-colon.auto.out,
     )
 
 pub binary_at-requires : goal.binary_at-requires
@@ -58,8 +57,7 @@ pub byte_at-requires-in-Object : goal.byte_at-requires-in-Object
 byte_at-requires-in-Object c = omega (arith, c.requires.1, ap length (object_printed c.args.store.now c.in-Object.is))
 
 pub returns-in-Null : goal.returns-in-Null
-returns-in-Null c = let bytes-at = c.bytes_at in
-    put_at_as (sym (null_printed c.args.store.now c.in-Null.is)) bytes-at.ensures
+returns-in-Null c = put_at_as (sym (null_printed c.args.store.now c.in-Null.is)) c.bytes_at.ensures
 
 pub returns-in-Bool : goal.returns-in-Bool
 returns-in-Bool c = put_at_as (sym (bool_printed c.args.store.now c.in-Bool.is)) c.bool_at.ensures
@@ -68,27 +66,19 @@ pub returns-in-Number : goal.returns-in-Number
 returns-in-Number c = put_at_as (sym (number_printed c.args.store.now c.in-Number.is)) c.number_at.ensures
 
 pub returns-in-Str : goal.returns-in-Str
-returns-in-Str c = let string-at = c.string_at in
-    put_at_as (sym (string_printed c.args.store.now c.in-Str.is)) string-at.ensures
+returns-in-Str c = put_at_as (sym (string_printed c.args.store.now c.in-Str.is)) c.string_at.ensures
 
 pub returns-in-Key : goal.returns-in-Key
-returns-in-Key c = let string-at2 = c.string_at-colon in
-    put_at_as (sym (key_printed c.args.store.now c.in-Key.is)) (put_next (omega (arith, c.requires.1)) string-at2.ensures c.byte_at.ensures)
+returns-in-Key c = put_at_as (sym (key_printed c.args.store.now c.in-Key.is)) (put_next (omega (arith, c.requires.1)) c.string_at-colon.ensures c.byte_at.ensures)
 
 pub returns-in-Bin : goal.returns-in-Bin
-returns-in-Bin c = let binary-at = c.binary_at in
-    put_at_as (sym (binary_printed c.args.store.now c.in-Bin.is)) binary-at.ensures
+returns-in-Bin c = put_at_as (sym (binary_printed c.args.store.now c.in-Bin.is)) c.binary_at.ensures
 
 pub returns-in-Time : goal.returns-in-Time
-returns-in-Time c = let time-at = c.time_at in
-    put_at_as (sym (time_printed c.args.store.now c.in-Time.is)) time-at.ensures
+returns-in-Time c = put_at_as (sym (time_printed c.args.store.now c.in-Time.is)) c.time_at.ensures
 
 pub returns-in-Array : goal.returns-in-Array
-returns-in-Array c = let enum-told2 = c.enum_told-in-Array-1 in
-    let byte-at2 = c.byte_at-in-Array in
-    put_at_as (sym (array_printed c.args.store.now enum-told2.given.1)) byte-at2.ensures
+returns-in-Array c = put_at_as (sym (array_printed c.args.store.now c.in-Array.is)) c.byte_at-in-Array.ensures
 
 pub returns-in-Object : goal.returns-in-Object
-returns-in-Object c = let enum-told3 = c.enum_told-in-Object-1 in
-    let byte-at3 = c.byte_at-in-Object in
-    put_at_as (sym (object_printed c.args.store.now enum-told3.given.1)) byte-at3.ensures
+returns-in-Object c = put_at_as (sym (object_printed c.args.store.now c.in-Object.is)) c.byte_at-in-Object.ensures

@@ -11,9 +11,7 @@ pub write_string-requires : goal.write_string-requires
 write_string-requires c = omega (arith, c.requires.1, ap length (ap quoted (part_to c.args.store.now c.args.start c.args.length)), tail_length c.args.at c.args.out.now)
 
 pub overflow_add-result : goal.overflow_add-result
-overflow_add-result c = let write-string = c.write_string in
-    omega (arith, c.requires.1, c.well_formed, ap length (ap quoted (part_to c.args.store.now c.args.start c.args.length)), write-string.ensures.size)
+overflow_add-result c = omega (arith, c.requires.1, c.well_formed, ap length (ap quoted (part_to c.args.store.now c.args.start c.args.length)), c.write_string.ensures.size)
 
 pub returns : goal.returns
-returns c = let write-string = c.write_string in
-    put_at_as (ap quoted (part_to c.args.store.now c.args.start c.args.length)) (put_tail write-string.ensures)
+returns c = put_at_as (ap quoted (part_to c.args.store.now c.args.start c.args.length)) (put_tail c.write_string.ensures)

@@ -15,5 +15,4 @@ pub pairs_at-requires : goal.pairs_at-requires
 pairs_at-requires c = omega (arith, c.requires, ap length (binary_is c.args.s.now), length-append (letters "$") (hex_pairs c.args.s.now), c.byte_at-first.ensures.next, c.byte_at-first.auto.out)
 
 pub returns : goal.returns
-returns c = let pairs-at = c.pairs_at in
-    put_as (sym (binary_is c.args.s.now)) (put_whole (put_next (omega arith) c.byte_at-first.ensures pairs-at.ensures))
+returns c = put_as (sym (binary_is c.args.s.now)) (put_whole (put_next (omega arith) c.byte_at-first.ensures c.pairs_at.ensures))

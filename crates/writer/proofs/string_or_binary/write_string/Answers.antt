@@ -22,20 +22,17 @@ escapes_at-last-requires c = omega (
     )
 
 pub byte_at-requires : goal.byte_at-requires
-byte_at-requires c = let escapes-at = c.escapes_at-last in
-    omega (
+byte_at-requires c = omega (
       arith,
       c.requires,
       ap length (quoted_parts c.args.s.now),
       length_three (letters "\"") (escapes c.args.s.now) (letters "\""),
       c.byte_at-first.ensures.next,
       c.byte_at-first.auto.out,
-      escapes-at.ensures.next,
-      escapes-at.auto.0,
+      c.escapes_at-last.ensures.next,
+      c.escapes_at-last.auto.out,
     )
 
 pub returns : goal.returns
-returns c = let escapes-at = c.escapes_at-last in
-    let byte-at2 = c.byte_at in
-    put_as (sym (quoted_parts c.args.s.now)) (put_whole (put_next (omega arith) (put_next (omega arith) c.byte_at-first.ensures escapes-at.ensures)
-    byte-at2.ensures))
+returns c = put_as (sym (quoted_parts c.args.s.now)) (put_whole (put_next (omega arith) (put_next (omega arith) c.byte_at-first.ensures c.escapes_at-last.ensures)
+    c.byte_at.ensures))

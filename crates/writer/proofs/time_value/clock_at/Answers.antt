@@ -12,89 +12,73 @@ pub digits_at-a-requires : goal.digits_at-a-requires
 digits_at-a-requires c = omega (arith, c.requires, clock_length c.args.t)
 
 pub byte_at-b-requires : goal.byte_at-b-requires
-byte_at-b-requires c = let digits-at = c.digits_at-a in
-    omega (arith, c.requires, clock_length c.args.t, digits-at.ensures.next, digits-at.auto.0, fixed_length 2 (c.args.t / 3600000000000))
+byte_at-b-requires c = omega (arith, c.requires, clock_length c.args.t, c.digits_at-a.ensures.next, c.digits_at-a.auto.out, fixed_length 2 (c.args.t / 3600000000000))
 
 pub digits_at-c-requires : goal.digits_at-c-requires
-digits_at-c-requires c = let digits-at = c.digits_at-a in
-    omega (
+digits_at-c-requires c = omega (
       arith,
       c.requires,
       clock_length c.args.t,
-      digits-at.ensures.next,
-      digits-at.auto.0,
+      c.digits_at-a.ensures.next,
+      c.digits_at-a.auto.out,
       fixed_length 2 (c.args.t / 3600000000000),
       c.byte_at-b.ensures.next,
       c.byte_at-b.auto.out,
     )
 
 pub byte_at-d-requires : goal.byte_at-d-requires
-byte_at-d-requires c = let digits-at = c.digits_at-a in
-    let digits-at2 = c.digits_at-c in
-    omega (
+byte_at-d-requires c = omega (
       arith,
       c.requires,
       clock_length c.args.t,
-      digits-at.ensures.next,
-      digits-at.auto.0,
+      c.digits_at-a.ensures.next,
+      c.digits_at-a.auto.out,
       fixed_length 2 (c.args.t / 3600000000000),
       c.byte_at-b.ensures.next,
       c.byte_at-b.auto.out,
-      digits-at2.ensures.next,
-      digits-at2.auto.0,
+      c.digits_at-c.ensures.next,
+      c.digits_at-c.auto.out,
       fixed_length 2 (c.args.t / 60000000000 % 60),
     )
 
 pub digits_at-e-requires : goal.digits_at-e-requires
-digits_at-e-requires c = let digits-at = c.digits_at-a in
-    let digits-at2 = c.digits_at-c in
-    let byte-at2 = c.byte_at-d in
-    omega (
+digits_at-e-requires c = omega (
       arith,
       c.requires,
       clock_length c.args.t,
-      digits-at.ensures.next,
-      digits-at.auto.0,
+      c.digits_at-a.ensures.next,
+      c.digits_at-a.auto.out,
       fixed_length 2 (c.args.t / 3600000000000),
       c.byte_at-b.ensures.next,
       c.byte_at-b.auto.out,
-      digits-at2.ensures.next,
-      digits-at2.auto.0,
+      c.digits_at-c.ensures.next,
+      c.digits_at-c.auto.out,
       fixed_length 2 (c.args.t / 60000000000 % 60),
-      byte-at2.ensures.next,
-      byte-at2.auto.0,
+      c.byte_at-d.ensures.next,
+      c.byte_at-d.auto.out,
     )
 
 pub fraction_at-requires : goal.fraction_at-requires
-fraction_at-requires c = let digits-at = c.digits_at-a in
-    let digits-at2 = c.digits_at-c in
-    let byte-at2 = c.byte_at-d in
-    let digits-at3 = c.digits_at-e in
-    omega (
+fraction_at-requires c = omega (
       arith,
       c.requires,
       clock_length c.args.t,
-      digits-at.ensures.next,
-      digits-at.kept.0,
+      c.digits_at-a.ensures.next,
+      c.digits_at-a.auto.out,
       fixed_length 2 (c.args.t / 3600000000000),
       c.byte_at-b.ensures.next,
       c.byte_at-b.auto.out,
-      digits-at2.ensures.next,
-      digits-at2.auto.0,
+      c.digits_at-c.ensures.next,
+      c.digits_at-c.auto.out,
       fixed_length 2 (c.args.t / 60000000000 % 60),
-      byte-at2.ensures.next,
-      byte-at2.auto.0,
-      digits-at3.ensures.next,
-      digits-at3.auto.0,
+      c.byte_at-d.ensures.next,
+      c.byte_at-d.auto.out,
+      c.digits_at-e.ensures.next,
+      c.digits_at-e.auto.out,
       fixed_length 2 (c.args.t / 1000000000 % 60),
     )
 
 pub returns : goal.returns
-returns c = let digits-at = c.digits_at-a in
-    let digits-at2 = c.digits_at-c in
-    let byte-at2 = c.byte_at-d in
-    let digits-at3 = c.digits_at-e in
-    let fraction-at = c.fraction_at in
-    put_at_as (sym (clock_parts c.args.t)) (put_next (omega (arith, c.requires)) (put_next (omega (arith, c.requires))
-    (put_next (omega (arith, c.requires)) (put_next (omega (arith, c.requires)) (put_next (omega (arith, c.requires)) digits-at.ensures c.byte_at-b.ensures)
-    digits-at2.ensures) byte-at2.ensures) digits-at3.ensures) fraction-at.ensures)
+returns c = put_at_as (sym (clock_parts c.args.t)) (put_next (omega (arith, c.requires)) (put_next (omega (arith, c.requires))
+    (put_next (omega (arith, c.requires)) (put_next (omega (arith, c.requires)) (put_next (omega (arith, c.requires)) c.digits_at-a.ensures c.byte_at-b.ensures)
+    c.digits_at-c.ensures) c.byte_at-d.ensures) c.digits_at-e.ensures) c.fraction_at.ensures)

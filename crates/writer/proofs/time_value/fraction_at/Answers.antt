@@ -31,6 +31,5 @@ digits_at-requires c = omega (
     )
 
 pub returns : goal.returns
-returns c = let digits-at = c.digits_at in
-    put_at_as (sym (fraction_some c.args.n c.if-n-eq0.false ∙ ap (λ (l : List _). letters "." ++ l) c.trimmed-t.ensures.text))
-    (put_next (omega (arith, c.requires)) c.byte_at-first.ensures digits-at.ensures)
+returns c = put_at_as (sym (fraction_some c.args.n c.if-n-eq0.false ∙ ap (λ (l : List _). letters "." ++ l) c.trimmed-t.ensures.text))
+    (put_next (omega (arith, c.requires)) c.byte_at-first.ensures c.digits_at.ensures)

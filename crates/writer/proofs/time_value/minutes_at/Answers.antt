@@ -10,24 +10,20 @@ pub digits_at-a-requires : goal.digits_at-a-requires
 digits_at-a-requires c = omega (arith, c.requires, minutes_length c.args.n)
 
 pub byte_at-b-requires : goal.byte_at-b-requires
-byte_at-b-requires c = let digits-at = c.digits_at-a in
-    omega (arith, c.requires, minutes_length c.args.n, digits-at.ensures.next, digits-at.auto.0, fixed_length 2 (c.args.n / 60))
+byte_at-b-requires c = omega (arith, c.requires, minutes_length c.args.n, c.digits_at-a.ensures.next, c.digits_at-a.auto.out, fixed_length 2 (c.args.n / 60))
 
 pub digits_at-requires : goal.digits_at-requires
-digits_at-requires c = let digits-at = c.digits_at-a in
-    omega (
+digits_at-requires c = omega (
       arith,
       c.requires,
       minutes_length c.args.n,
-      digits-at.ensures.next,
-      digits-at.auto.0,
+      c.digits_at-a.ensures.next,
+      c.digits_at-a.auto.out,
       fixed_length 2 (c.args.n / 60),
       c.byte_at-b.ensures.next,
       c.byte_at-b.auto.out,
     )
 
 pub returns : goal.returns
-returns c = let digits-at = c.digits_at-a in
-    let digits-at2 = c.digits_at in
-    put_next (omega (arith, c.requires, minutes_length c.args.n)) (put_next (omega (arith, c.requires, minutes_length c.args.n)) digits-at.ensures c.byte_at-b.ensures)
-    digits-at2.ensures
+returns c = put_next (omega (arith, c.requires, minutes_length c.args.n)) (put_next (omega (arith, c.requires, minutes_length c.args.n)) c.digits_at-a.ensures c.byte_at-b.ensures)
+    c.digits_at.ensures

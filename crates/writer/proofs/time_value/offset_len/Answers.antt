@@ -10,9 +10,7 @@ pub overflow_cast-offset : goal.overflow_cast-offset
 overflow_cast-offset c = offset_cast _ c.ranges.offset
 
 pub returns-then-o-eq0 : goal.returns-then-o-eq0
-returns-then-o-eq0 c = let sign-and-size = c.sign_and_size-o in
-    (sym (ap length (offset_at_zero _ sign-and-size.result (offset_sign _ c.ranges.offset _ sign-and-size.ensures) c.if-o-eq0.true)), omega arith)
+returns-then-o-eq0 c = (sym (ap length (offset_at_zero _ c.sign_and_size-o.result (offset_sign _ c.ranges.offset _ c.sign_and_size-o.ensures) c.if-o-eq0.true)), omega arith)
 
 pub returns : goal.returns
-returns c = let sign-and-size = c.sign_and_size-o in
-    (sym (offset_signed _ sign-and-size.result (offset_sign _ c.ranges.offset _ sign-and-size.ensures) c.if-o-eq0.false), omega arith)
+returns c = (sym (offset_signed _ c.sign_and_size-o.result (offset_sign _ c.ranges.offset _ c.sign_and_size-o.ensures) c.if-o-eq0.false), omega arith)

@@ -20,8 +20,7 @@ pub returns-in-LocalDateTime : goal.returns-in-LocalDateTime
 returns-in-LocalDateTime c = omega (arith, c.clock_len-in-LocalDateTime.ensures.0, ap length (ap time_text c.in-LocalDateTime.is), local_date_time_length c.in-LocalDateTime.date c.in-LocalDateTime.clock)
 
 pub returns-in-OffsetDateTime : goal.returns-in-OffsetDateTime
-returns-in-OffsetDateTime c = let known-told3 = c.known_told-in-OffsetDateTime-1 in
-    let f : SFits w16 c.in-OffsetDateTime.offset = record { sfits = known-told3.given.1.1.0.1 } in
+returns-in-OffsetDateTime c = let f : SFits w16 c.in-OffsetDateTime.offset = record { sfits = c.in-OffsetDateTime.known_told-in-OffsetDateTime-1-own.given.1.1.0.1 } in
     omega (
       arith,
       c.clock_len-in-OffsetDateTime.ensures.0,

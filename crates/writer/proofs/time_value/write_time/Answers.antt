@@ -19,27 +19,25 @@ pub date_at-letter-requires : goal.date_at-letter-requires
 date_at-letter-requires c = omega (arith, c.requires, ap length (ap time_text c.in-LocalDateTime.is), local_date_time_length c.in-LocalDateTime.d c.in-LocalDateTime.clock, date_length c.in-LocalDateTime.d)
 
 pub byte_at-first-requires : goal.byte_at-first-requires
-byte_at-first-requires c = let date-at2 = c.date_at-letter in
-    omega (
+byte_at-first-requires c = omega (
       arith,
       c.requires,
       ap length (ap time_text c.in-LocalDateTime.is),
       local_date_time_length c.in-LocalDateTime.d c.in-LocalDateTime.clock,
       date_length c.in-LocalDateTime.d,
-      date-at2.ensures.next,
-      date-at2.auto.0,
+      c.date_at-letter.ensures.next,
+      c.date_at-letter.auto.out,
     )
 
 pub clock_at-requires-in-LocalDateTime : goal.clock_at-requires-in-LocalDateTime
-clock_at-requires-in-LocalDateTime c = let date-at2 = c.date_at-letter in
-    omega (
+clock_at-requires-in-LocalDateTime c = omega (
       arith,
       c.requires,
       ap length (ap time_text c.in-LocalDateTime.is),
       local_date_time_length c.in-LocalDateTime.d c.in-LocalDateTime.clock,
       date_length c.in-LocalDateTime.d,
-      date-at2.ensures.next,
-      date-at2.auto.0,
+      c.date_at-letter.ensures.next,
+      c.date_at-letter.auto.out,
       c.byte_at-first.ensures.next,
       c.byte_at-first.auto.out,
     )
@@ -54,71 +52,56 @@ date_at-letter-requires-in-OffsetDateTime c = omega (
     )
 
 pub byte_at-first-requires-in-OffsetDateTime : goal.byte_at-first-requires-in-OffsetDateTime
-byte_at-first-requires-in-OffsetDateTime c = let date-at3 = c.date_at-letter-in-OffsetDateTime in
-    omega (
+byte_at-first-requires-in-OffsetDateTime c = omega (
       arith,
       c.requires,
       ap length (ap time_text c.in-OffsetDateTime.is),
       offset_date_time_length c.in-OffsetDateTime.d c.in-OffsetDateTime.clock c.in-OffsetDateTime.offset,
       date_length c.in-OffsetDateTime.d,
-      date-at3.ensures.next,
-      date-at3.auto.0,
+      c.date_at-letter-in-OffsetDateTime.ensures.next,
+      c.date_at-letter-in-OffsetDateTime.auto.out,
     )
 
 pub clock_at-after-requires : goal.clock_at-after-requires
-clock_at-after-requires c = let date-at3 = c.date_at-letter-in-OffsetDateTime in
-    let byte-at2 = c.byte_at-first-in-OffsetDateTime in
-    omega (
+clock_at-after-requires c = omega (
       arith,
       c.requires,
       ap length (ap time_text c.in-OffsetDateTime.is),
       offset_date_time_length c.in-OffsetDateTime.d c.in-OffsetDateTime.clock c.in-OffsetDateTime.offset,
       date_length c.in-OffsetDateTime.d,
-      date-at3.ensures.next,
-      date-at3.auto.0,
-      byte-at2.ensures.next,
-      byte-at2.auto.0,
+      c.date_at-letter-in-OffsetDateTime.ensures.next,
+      c.date_at-letter-in-OffsetDateTime.auto.out,
+      c.byte_at-first-in-OffsetDateTime.ensures.next,
+      c.byte_at-first-in-OffsetDateTime.auto.out,
     )
 
 pub offset_at-requires : goal.offset_at-requires
-offset_at-requires c = let date-at3 = c.date_at-letter-in-OffsetDateTime in
-    let byte-at2 = c.byte_at-first-in-OffsetDateTime in
-    let clock-at3 = c.clock_at-after in
-    let known-told4 = c.known_told-in-OffsetDateTime-1 in
-    omega (
+offset_at-requires c = omega (
       arith,
       c.requires,
       ap length (ap time_text c.in-OffsetDateTime.is),
       offset_date_time_length c.in-OffsetDateTime.d c.in-OffsetDateTime.clock c.in-OffsetDateTime.offset,
       date_length c.in-OffsetDateTime.d,
-      date-at3.ensures.next,
-      date-at3.auto.0,
-      byte-at2.ensures.next,
-      byte-at2.auto.0,
-      clock-at3.ensures.next,
-      clock-at3.auto.0,
-      ap length (offset_held c.in-OffsetDateTime.offset (record { sfits = known-told4.given.1.1.0.1 })),
+      c.date_at-letter-in-OffsetDateTime.ensures.next,
+      c.date_at-letter-in-OffsetDateTime.auto.out,
+      c.byte_at-first-in-OffsetDateTime.ensures.next,
+      c.byte_at-first-in-OffsetDateTime.auto.out,
+      c.clock_at-after.ensures.next,
+      c.clock_at-after.auto.out,
+      ap length (offset_held c.in-OffsetDateTime.offset (record { sfits = c.in-OffsetDateTime.known_told-in-OffsetDateTime-1-own.given.1.1.0.1 })),
     )
 
 pub returns-in-LocalDate : goal.returns-in-LocalDate
-returns-in-LocalDate c = let date-at = c.date_at in
-    put_as (sym (ap time_text c.in-LocalDate.is ∙ date_alone c.in-LocalDate.d)) (put_whole date-at.ensures)
+returns-in-LocalDate c = put_as (sym (ap time_text c.in-LocalDate.is ∙ date_alone c.in-LocalDate.d)) (put_whole c.date_at.ensures)
 
 pub returns-in-LocalTime : goal.returns-in-LocalTime
-returns-in-LocalTime c = let clock-at = c.clock_at in
-    put_as (sym (ap time_text c.in-LocalTime.is ∙ clock_alone c.in-LocalTime.clock)) (put_whole clock-at.ensures)
+returns-in-LocalTime c = put_as (sym (ap time_text c.in-LocalTime.is ∙ clock_alone c.in-LocalTime.clock)) (put_whole c.clock_at.ensures)
 
 pub returns-in-LocalDateTime : goal.returns-in-LocalDateTime
-returns-in-LocalDateTime c = let date-at2 = c.date_at-letter in
-    let clock-at2 = c.clock_at-in-LocalDateTime in
-    put_as (sym (ap time_text c.in-LocalDateTime.is ∙ local_date_time c.in-LocalDateTime.d c.in-LocalDateTime.clock))
-    (put_whole (put_next (omega arith) (put_next (omega arith) date-at2.ensures c.byte_at-first.ensures) clock-at2.ensures))
+returns-in-LocalDateTime c = put_as (sym (ap time_text c.in-LocalDateTime.is ∙ local_date_time c.in-LocalDateTime.d c.in-LocalDateTime.clock))
+    (put_whole (put_next (omega arith) (put_next (omega arith) c.date_at-letter.ensures c.byte_at-first.ensures) c.clock_at-in-LocalDateTime.ensures))
 
 pub returns-in-OffsetDateTime : goal.returns-in-OffsetDateTime
-returns-in-OffsetDateTime c = let date-at3 = c.date_at-letter-in-OffsetDateTime in
-    let byte-at2 = c.byte_at-first-in-OffsetDateTime in
-    let clock-at3 = c.clock_at-after in
-    let known-told4 = c.known_told-in-OffsetDateTime-1 in
-    put_as (sym (ap time_text c.in-OffsetDateTime.is ∙ offset_date_time c.in-OffsetDateTime.d c.in-OffsetDateTime.clock c.in-OffsetDateTime.offset))
-    (put_whole (put_next (omega arith) (put_next (omega arith) (put_next (omega arith) date-at3.ensures byte-at2.ensures) clock-at3.ensures)
-    (put_at_as (offset_held c.in-OffsetDateTime.offset (record { sfits = known-told4.given.1.1.0.1 })) c.offset_at.ensures)))
+returns-in-OffsetDateTime c = put_as (sym (ap time_text c.in-OffsetDateTime.is ∙ offset_date_time c.in-OffsetDateTime.d c.in-OffsetDateTime.clock c.in-OffsetDateTime.offset))
+    (put_whole (put_next (omega arith) (put_next (omega arith) (put_next (omega arith) c.date_at-letter-in-OffsetDateTime.ensures c.byte_at-first-in-OffsetDateTime.ensures) c.clock_at-after.ensures)
+    (put_at_as (offset_held c.in-OffsetDateTime.offset (record { sfits = c.in-OffsetDateTime.known_told-in-OffsetDateTime-1-own.given.1.1.0.1 })) c.offset_at.ensures)))

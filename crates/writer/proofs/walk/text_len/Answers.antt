@@ -6,31 +6,28 @@ pub loop-i-init : goal.loop-i-init
 loop-i-init c = sum_begin c.args.tape.now c.args.store.now c.requires
 
 pub share_of-total-requires : goal.share_of-total-requires
-share_of-total-requires c = let loop-test = c.loop-i-test in (
-      read_bytes c.args.tape.now c.args.store.now c.loop-i.invariant.well _ _ loop-test.true c.record_at-r.ensures,
+share_of-total-requires c = (
+      read_bytes c.args.tape.now c.args.store.now c.loop-i.invariant.well _ _ c.loop-i-test.true c.record_at-r.ensures,
       store_small c.args.tape.now c.args.store.now c.loop-i.invariant.well,
       omega
-          (arith, loop-test.true, few_records c.args.tape.now c.args.store.now c.loop-i.invariant.well),
+          (arith, c.loop-i-test.true, few_records c.args.tape.now c.args.store.now c.loop-i.invariant.well),
     )
 
 pub overflow_add-total : goal.overflow_add-total
-overflow_add-total c = let loop-test = c.loop-i-test in
-    omega (
+overflow_add-total c = omega (
       arith,
-      sum_small c.args.tape.now c.args.store.now (sum_more c.args.tape.now c.args.store.now c.loop-i.invariant _ _ loop-test.true
+      sum_small c.args.tape.now c.args.store.now (sum_more c.args.tape.now c.args.store.now c.loop-i.invariant _ _ c.loop-i-test.true
           c.record_at-r.ensures c.share_of-total.ensures),
     )
 
 pub overflow_add-i : goal.overflow_add-i
-overflow_add-i c = let loop-test = c.loop-i-test in
-    omega (arith, loop-test.true, few_records c.args.tape.now c.args.store.now c.loop-i.invariant.well)
+overflow_add-i c = omega (arith, c.loop-i-test.true, few_records c.args.tape.now c.args.store.now c.loop-i.invariant.well)
 
 pub loop-i-smaller : goal.loop-i-smaller
 loop-i-smaller c = omega arith
 
 pub loop-i-preserved : goal.loop-i-preserved
-loop-i-preserved c = let loop-test = c.loop-i-test in
-    (sum_more c.args.tape.now c.args.store.now c.loop-i.invariant _ _ loop-test.true c.record_at-r.ensures c.share_of-total.ensures)
+loop-i-preserved c = (sum_more c.args.tape.now c.args.store.now c.loop-i.invariant _ _ c.loop-i-test.true c.record_at-r.ensures c.share_of-total.ensures)
 
 pub overflow_sub-result : goal.overflow_sub-result
 overflow_sub-result c = sum_some c.args.tape.now c.args.store.now c.loop-i.invariant c.loop-i-test.false

@@ -28,16 +28,11 @@ pub loop-i-preserved-in-Pass : goal.loop-i-preserved-in-Pass
 loop-i-preserved-in-Pass c = walk_pass c.loop-i.invariant c.if-i-until.true c.comma_at-piece.ensures c.record_at-r.ensures
     c.printed_at-at.ensures c.effect_of.ensures c.in-Pass.is
 
-shallow : (c : tie.After-known-told2 invariant_loop decreases_loop)
-    → c.before.before.before.before.before.before.before.before.before.before.before.before.before.before.loop.depth < 64
+shallow : (c : goal.In-Open)
+    → c.loop-i.depth < 64
 shallow c =
-    let effect = c.before.before.before in
-    let print = effect.before.before.before in
-    let look = print.before.before in
-    let sep = look.before.before.before in
-    let test = sep.before.before in
-    walk_shallow test.before.loop.invariant test.if1.true sep.comma_at.ensures look.record_at.ensures
-    print.printed-at.ensures effect.effect_of.ensures c.before.closer.given.1
+    walk_shallow c.loop-i.invariant c.if-i-until.true c.comma_at-piece.ensures c.record_at-r.ensures
+    c.printed_at-at.ensures c.effect_of.ensures c.in-Open.is
 
 pub offset_bounds-ends-depth : goal.offset_bounds-ends-depth
 offset_bounds-ends-depth c = omega (arith, shallow c)
