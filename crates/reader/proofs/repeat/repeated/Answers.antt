@@ -1,8 +1,8 @@
-use mathlib.Core.Logic.{⊎_elim}
 use native.Mathlib.Omega.{arith}
 use Rattle.reader.proofs.RepeatLaws.{seeks_sane, seeking_begins, seeking_stands, seeking_before, seeking_inside, seeking_finds, seeking_falls}
 use Rattle.reader.proofs.RepeatLaws.{seeking_past, seeking_past_tag, seeking_ends}
 use Rattle.reader.proofs.repeat.repeated.Goals as goal
+use Rattle.reader.proofs.repeat.repeated.Goals.{then-tag_of-tag+else-same_key, else-tag_of-tag}
 
 pub newest-i-requires : goal.newest-i-requires
 newest-i-requires c = seeks_sane c.args.text.now c.args.seen.now c.args.at
@@ -65,20 +65,14 @@ loop-i-smaller c = seeking_falls c.args.text.now
     c.loop-i.invariant c.loop-i-test.true _ c.earlier-i.ensures
 
 pub loop-i-preserved : goal.loop-i-preserved
-loop-i-preserved c = ⊎_elim
-    (λ y. seeking_past c.args.text.now
-    c.args.seen.now
-    c.args.at
-    c.args.tag c.requires
-    c.loop-i.i c.loop-i.invariant c.loop-i-test.true _ _ _
-    y.1.ensures y.2.ensures y.3.left c.earlier-i.ensures)
-    (λ y. seeking_past_tag c.args.text.now
-    c.args.seen.now
-    c.args.at
-    c.args.tag c.requires
-    c.loop-i.i c.loop-i.invariant c.loop-i-test.true _ _
-    c.tag_of.ensures y.left c.earlier-i.ensures)
-    c.if-tag_of-tag.branch
+loop-i-preserved c = elim c.if-tag_of-tag.branch [
+  then-tag_of-tag+else-same_key w ↦ seeking_past c.args.text.now c.args.seen.now c.args.at c.args.tag c.requires
+      c.loop-i.i c.loop-i.invariant c.loop-i-test.true _ _ _
+      w.place_of-place.ensures w.same_key.ensures w.if-same_key.false c.earlier-i.ensures
+  | else-tag_of-tag w ↦ seeking_past_tag c.args.text.now c.args.seen.now c.args.at c.args.tag c.requires
+      c.loop-i.i c.loop-i.invariant c.loop-i-test.true _ _
+      c.tag_of.ensures w.if-tag_of-tag.false c.earlier-i.ensures
+]
 
 pub returns : goal.returns
 returns c = seeking_ends c.args.text.now c.args.seen.now

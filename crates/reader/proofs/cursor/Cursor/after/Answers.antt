@@ -2,17 +2,14 @@ use Rattle.reader.proofs.CursorBracketLaws.{after_broken, after_end, after_comma
 use Rattle.reader.proofs.cursor.Cursor.after.Goals as goal
 
 pub returns-then-at-text : goal.returns-then-at-text
-returns-then-at-text c = let at' = c.at-1 in
-    after_end c.args.text.now c.args.self c.args.closing at'.given.0.0 (rw at'.given.1 at c.pass.ensures) c.if-at-text.true
+returns-then-at-text c = after_end c.args.text.now c.args.self c.args.closing c.in-Ended.at (rw c.in-Ended.is at c.pass.ensures) c.if-at-text.true
 
 pub returns-then-b-eq44 : goal.returns-then-b-eq44
-returns-then-b-eq44 c = let at' = c.at-1 in
-    after_comma c.args.text.now c.args.self c.args.closing at'.given.0.0 (rw at'.given.1 at c.pass.ensures)
+returns-then-b-eq44 c = after_comma c.args.text.now c.args.self c.args.closing c.in-Ended.at (rw c.in-Ended.is at c.pass.ensures)
     c.if-at-text.false c.if-b-eq44.true
 
 pub returns-then-b-closing : goal.returns-then-b-closing
-returns-then-b-closing c = let at' = c.at-1 in
-    after_close c.args.text.now c.args.self c.args.closing at'.given.0.0 (rw at'.given.1 at c.pass.ensures)
+returns-then-b-closing c = after_close c.args.text.now c.args.self c.args.closing c.in-Ended.at (rw c.in-Ended.is at c.pass.ensures)
     c.if-at-text.false c.if-b-closing.true
 
 pub returns-in-NotGrammar : goal.returns-in-NotGrammar
@@ -20,6 +17,5 @@ returns-in-NotGrammar c = after_broken c.args.text.now c.args.self c.args.closin
     (rw c.in-NotGrammar.is at c.pass.ensures)
 
 pub returns-else-b-closing : goal.returns-else-b-closing
-returns-else-b-closing c = let at' = c.at-1 in
-    after_wrong c.args.text.now c.args.self c.args.closing at'.given.0.0 (rw at'.given.1 at c.pass.ensures)
+returns-else-b-closing c = after_wrong c.args.text.now c.args.self c.args.closing c.in-Ended.at (rw c.in-Ended.is at c.pass.ensures)
     c.if-at-text.false c.if-b-eq44.false c.if-b-closing.false

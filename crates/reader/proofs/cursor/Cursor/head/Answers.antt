@@ -21,6 +21,5 @@ pub returns-in-Refused : goal.returns-in-Refused
 returns-in-Refused c = rw c.in-Refused.is at c.scalar.ensures
 
 pub returns-in-Item : goal.returns-in-Item
-returns-in-Item c = let scalar' = c.scalar in
-    let w = rw c.in-Item.is at scalar'.ensures in
+returns-in-Item c = let w = rw c.in-Item.is at c.scalar.ensures in
     record { scalar = w; records = refl; stored = ap (λ n. c.args.self.stored + n) c.stored_by.ensures }
