@@ -1,4 +1,6 @@
 // UTF-8 and the calendar, by themselves: the metrology group links this crate alone.
+#![tactic(auto)]
+
 mod blocks;
 mod calendar;
 pub mod exports;
