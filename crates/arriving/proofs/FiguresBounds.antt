@@ -15,7 +15,6 @@ use Rattle.items.specs.declared.number.Acc.{Acc}
 use Rattle.items.specs.Between.NumberOrTime.{IsDigit, acc_of, pushed, raised_by}
 use Rattle.arriving.specs.declared.states.Decimal.{Decimal}
 use Rattle.arriving.specs.declared.states.Figure.{Figure}
-use Rattle.arriving.specs.declared.states.Figure.TheVariants as Figure
 use Rattle.arriving.specs.declared.states.Moment.{Moment}
 use Rattle.arriving.specs.declared.states.Mode.TheVariants.{Timing}
 use Rattle.arriving.specs.declared.states.Out.{Out}

@@ -19,7 +19,6 @@ use Rattle.machine.specs.Numeric.{month, day, hour, minute, second, offset_hour,
 use Rattle.machine.proofs.Numeric.Rows.{dg_class, DgIs}
 use Rattle.arriving.specs.declared.states.Stamp.{Stamp}
 use Rattle.arriving.specs.declared.states.Slot.{Slot}
-use Rattle.arriving.specs.declared.states.Slot.TheVariants as Slot
 use Rattle.arriving.specs.declared.states.Moment.{Moment}
 use Rattle.arriving.specs.declared.states.Moment.TheVariants.{Field, Spaced, Point, Fraction, Zulu}
 use Rattle.arriving.specs.declared.states.Mode.{Mode}

@@ -13,9 +13,7 @@ use Rattle.machine.proofs.Runs.{NoDigit}
 use Rattle.machine.proofs.Numeric.Rows.{dg_digit, dg_none, sec_digit, sec_class, SecIs, day_class, DayIs}
 use Rattle.arriving.specs.declared.states.Stamp.{Stamp}
 use Rattle.arriving.specs.declared.states.Slot.{Slot}
-use Rattle.arriving.specs.declared.states.Slot.TheVariants as Slot
 use Rattle.arriving.specs.declared.states.Moment.{Moment}
-use Rattle.arriving.specs.declared.states.Moment.TheVariants as Moment
 use Rattle.arriving.specs.declared.states.Out.{Out}
 use Rattle.arriving.specs.declared.states.Out.TheVariants.{Breaks}
 use Rattle.arriving.specs.Between.Times.{judged, within, goes_on, field_due, tested_out, next_day, next_offset, next_zone, next_second}

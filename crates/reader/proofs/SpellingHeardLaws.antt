@@ -14,7 +14,7 @@ use Rattle.machine.specs.Machine.{Frame, Conf, at, fail, lift, on_got, on_out, s
 use Rattle.machine.specs.Machine.{Class, class_of, blank_c, hash_c, slash_c, comma_c, colon_c, plus_c, quote_c, dollar_c, letter_n, letter_t, letter_f, letter_c, other_c}
 use Rattle.machine.specs.Machine.{open_c, close_c}
 use Rattle.machine.specs.Machine as Machine
-use Rattle.machine.specs.Heard.{Heard, names, Told, tell, key_heard, key_at, at_got, at_key, at_out}
+use Rattle.machine.specs.Heard.{Heard, Told, tell, key_heard, key_at, at_got, at_key, at_out}
 use Rattle.machine.specs.Strings
 use Rattle.machine.specs.Names
 use Rattle.machine.proofs.Heard.{fail_told}

@@ -3,7 +3,7 @@ use mathlib.Core.Path.{◌≡◌, refl, sym, ap, ◌∙◌, subst}
 use mathlib.Core.Bool.{Bool, true, false, cond}
 use mathlib.Core.Logic.{◌⊎◌, inl, inr}
 use mathlib.Core.List.{List, [], ◌∷◌, ◌++◌, append_assoc, append-nil}
-use Prim.Native.Nat.{ℕ, zero, suc, ◌+◌, ◌*◌, ◌-◌, ◌/◌, ◌%◌, ◌≤◌, ◌<◌}
+use Prim.Native.Nat.{ℕ, suc, ◌+◌, ◌*◌, ◌-◌, ◌/◌, ◌%◌, ◌≤◌, ◌<◌}
 use native.Mathlib.Omega.{arith}
 use native.Mathlib.Nat.{zero-add}
 use native.Mathlib.Decide.{dec_lt, ℕ_discrete}
@@ -16,7 +16,7 @@ use Rattle.rules.proofs.Numbers.{row_1, row_2, row_3, row_4}
 use Rattle.meaning.specs.declared.Refusal.{Refusal}
 use Rattle.meaning.specs.declared.Refusal.TheVariants.{NotGrammar, BadEscape}
 use Rattle.meaning.specs.Letters.{ch}
-use Rattle.machine.specs.Scan.{Out, takes, stops, breaks, over, Ran, ended, broke, ran}
+use Rattle.machine.specs.Scan.{Out, takes, breaks, over, ended, broke, ran}
 use Rattle.machine.specs.Strings
 use Rattle.machine.specs.Strings.{Bad, fine, spoilt, whole, mk, St, one, two, lines0, lines, body, done, begin, plain_byte, line_byte, on_body, on_lines, first}
 use Rattle.machine.specs.Names

@@ -6,7 +6,6 @@ use Rattle.meaning.specs.Bytes.{le, flag}
 use Rattle.meaning.specs.Between.Words.{get}
 use Rattle.meaning.specs.Limits.{depth_limit}
 use Rattle.meaning.specs.declared.Refusal.{Refusal}
-use Rattle.meaning.specs.declared.Refusal.TheVariants as Refusal
 use Rattle.items.specs.declared.number.Acc.{Acc}
 use Rattle.arriving.specs.declared.Core.{Core}
 use Rattle.arriving.specs.declared.Check.{Check}

@@ -26,7 +26,7 @@ use Rattle.meaning.specs.declared.Refusal.TheVariants.{RepeatedKey}
 use Rattle.meaning.specs.Letters.{letters}
 use Rattle.meaning.specs.Limits.{text_limit, depth_limit}
 use Rattle.meaning.specs.Meaning.{Meaning, Members, null, bool, number, string, array, object, none, more, bare, member}
-use Rattle.meaning.specs.Good.{Bytes, GoodParts, most, depth, Good}
+use Rattle.meaning.specs.Good.{GoodParts, most, depth, Good}
 use Rattle.meaning.specs.Once.{same, held, once, once_elements, once_members}
 use Rattle.meaning.specs.Bytes.{le, unnamed}
 use Rattle.meaning.specs.Tape.{records, members_records, elements_count, members_count, store_of, members_store, bytes, records_of, record_bytes, records_bytes, tape_of}
@@ -47,7 +47,6 @@ use Rattle.grammar.proofs.Sizes.{Fits, text_fits}
 use Rattle.grammar.proofs.Canonical.{text_derived}
 use Rattle.arriving.specs.Between.Arriving.{joined}
 use Rattle.tape.specs.declared.Looked.{Looked}
-use Rattle.tape.specs.Looking.{Looks}
 use Rattle.meaning.specs.Between.Words.{get}
 use Rattle.tape.specs.Between.Shapes.{record_of, not_finite}
 use Rattle.tape.proofs.JudgingMachineLaws.{nay, slot, put, enter, give, settle, size_of, start_of, does, act_of, push, finish, run}
@@ -56,10 +55,8 @@ use Rattle.tape.proofs.JudgingWholeLaws.{verdict}
 use Rattle.tape.proofs.JudgingOnceLaws.{nay_ill}
 use Rattle.tape.proofs.Outcomes.{look_well_formed}
 use Rattle.reader.specs.declared.Answer.{Answer}
-use Rattle.reader.specs.Answers.{tape_bytes, Measures, Loosely, Reads}
+use Rattle.reader.specs.Answers.{tape_bytes, Loosely}
 use Rattle.reader.proofs.Claims.{one_outcome_loosely, measure_refuses, read_refuses}
-use Rattle.writer.specs.declared.Written.{Written}
-use Rattle.writer.specs.Written.{WritesJaxn, WritesJson}
 use Rattle.lanternrung.specs.Trials.Samples.{Outcome, Says, IsTaken, Case, All, ◌&◌}
 use Rattle.lanternrung.proofs.Claims.PList.{p_list, slips_hold, keys_twice}
 use Rattle.lanternrung.specs.Claims.{Counted, Takes, Holds, RepeatsFirst, Room, Wrote, Prints}

@@ -1,12 +1,10 @@
 -- `p_list`: the cases marked P hold; `slips_hold`: and so do the slips (docs/FORMAT.md, 14). Assumes nothing.
-use mathlib.Core.Path.{◌≡◌, refl, sym, ap, ◌∙◌, subst}
+use mathlib.Core.Path.{◌≡◌, refl, sym, subst}
 use mathlib.Core.Bool.{true}
 use mathlib.Core.List.{List, [], ◌∷◌}
 use mathlib.Core.Option.{some}
 use Prim.Native.Nat.{ℕ}
-use native.Mathlib.Omega.{arith}
 use lib.Count.{count_leading_zeros}
-use lib.ListN.{length}
 use Rattle.rules.specs.Between.Posts.{low_of, high_of}
 use Rattle.rules.specs.Rfc3629.{encode}
 use Rattle.rules.specs.Between.Decided.{is_wide, length_at, fault_from, judged}
@@ -27,7 +25,7 @@ use Rattle.machine.specs.Numeric.{strip, settle}
 use Rattle.machine.specs.Strings as S
 use Rattle.machine.specs.Binaries as B
 use Rattle.machine.specs.Names as N
-use Rattle.machine.specs.Machine.{Verdict, Ok, No, read, reading}
+use Rattle.machine.specs.Machine.{Ok, No, read, reading}
 use Rattle.machine.specs.Verdict.{decoded, verdict}
 use Rattle.machine.specs.Heard.{tell, telling, heard_of}
 use Rattle.machine.proofs.Whole.{sound}

@@ -1,4 +1,3 @@
-use Rattle.reader.specs.Between.Layout.{LayoutEnds}
 use Rattle.reader.proofs.WalkLaws.{walk_at, walk_seen, walk_breaks, walk_refused, walk_ended}
 use Rattle.reader.proofs.walk.Goals as goal
 

@@ -1,5 +1,5 @@
 -- What the readers of layout (docs/FORMAT.md, 2) promise. Assumes nothing.
-use Rattle.std.specs.Prelude.{◌≡◌, List, ℕ, ◌≤◌, ◌<◌, length, get_or}
+use Rattle.std.specs.Prelude.{◌≡◌, List, ℕ, ◌<◌, length, get_or}
 use Rattle.meaning.specs.declared.Refusal.TheVariants.{NotGrammar}
 use Rattle.machine.specs.Machine.{Base, Mode, base, Frame, Conf, at}
 use Rattle.machine.specs.Machine as Machine

@@ -1,8 +1,6 @@
 use native.Mathlib.Omega.{arith}
 use Prim.Native.Nat.{◌+◌}
 use Rattle.meaning.specs.declared.Refusal.TheVariants.{NotGrammar, BadEscape}
-use Rattle.machine.specs.Strings
-use Rattle.items.specs.Between.PlacedPart.{Ended}
 use Rattle.reader.proofs.JoinedLaws.{part_length, part_refused, part_closed, part_linked}
 use Rattle.reader.proofs.joined.string_part.Goals as goal
 

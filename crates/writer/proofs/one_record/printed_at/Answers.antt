@@ -25,24 +25,24 @@ string_at-requires c = (omega (arith, c.requires.0, ap bytes_end c.in-Str.is), o
 
 pub string_at-colon-requires : goal.string_at-colon-requires
 string_at-colon-requires c = (
-      omega (arith, c.requires.0, ap bytes_end c.in-Key.is),
-      omega (
-        arith,
-        c.requires.1,
-        ap length (key_printed c.args.store.now c.in-Key.is),
-        length-append (quoted (part c.args.store.now c.in-Key.length c.in-Key.start)) (letters ":"),
-      ),
-    )
+  omega (arith, c.requires.0, ap bytes_end c.in-Key.is),
+  omega (
+    arith,
+    c.requires.1,
+    ap length (key_printed c.args.store.now c.in-Key.is),
+    length-append (quoted (part c.args.store.now c.in-Key.length c.in-Key.start)) (letters ":"),
+  ),
+)
 
 pub byte_at-requires : goal.byte_at-requires
 byte_at-requires c = omega (
-      arith,
-      c.requires.1,
-      ap length (key_printed c.args.store.now c.in-Key.is),
-      length-append (quoted (part c.args.store.now c.in-Key.length c.in-Key.start)) (letters ":"),
-      c.string_at-colon.ensures.next,
-      c.string_at-colon.auto.out,
-    )
+  arith,
+  c.requires.1,
+  ap length (key_printed c.args.store.now c.in-Key.is),
+  length-append (quoted (part c.args.store.now c.in-Key.length c.in-Key.start)) (letters ":"),
+  c.string_at-colon.ensures.next,
+  c.string_at-colon.auto.out,
+)
 
 pub binary_at-requires : goal.binary_at-requires
 binary_at-requires c = (omega (arith, c.requires.0, ap bytes_end c.in-Bin.is), omega (arith, c.requires.1, ap length (binary_printed c.args.store.now c.in-Bin.is)))

@@ -16,10 +16,10 @@ loop-i-smaller c = omega arith
 
 pub loop-i-preserved : goal.loop-i-preserved
 loop-i-preserved c = (
-      omega arith,
-      writing_put (escaped (get_or c.args.s.now c.loop-i.i 0)) (writing_as (escapes_more c.args.s.now c.loop-i.i c.loop-i-test.true) c.loop-i.invariant.1)
-          c.escaped_at-end.ensures,
-    )
+  omega arith,
+  writing_put (escaped (get_or c.args.s.now c.loop-i.i 0)) (writing_as (escapes_more c.args.s.now c.loop-i.i c.loop-i-test.true) c.loop-i.invariant.1)
+      c.escaped_at-end.ensures,
+)
 
 pub shape_of-out : goal.shape_of-out
 shape_of-out c = writing_length c.loop-i.invariant.1

@@ -22,7 +22,7 @@ loop-count-preserved c = (c.loop-count.invariant.0 ∙ trimmed_cut c.loop-count.
 
 pub returns : goal.returns
 returns c = let z : c.loop-count.count ≡ 0 = omega arith in record {
-      text = c.loop-count.invariant.0 ∙ ap (λ (k : ℕ). trimmedText k c.loop-count.rest) z
-          ∙ trimmed_zero c.loop-count.rest c.loop-count.rest;
-      few = omega arith;
-    }
+  text = c.loop-count.invariant.0 ∙ ap (λ (k : ℕ). trimmedText k c.loop-count.rest) z
+      ∙ trimmed_zero c.loop-count.rest c.loop-count.rest;
+  few = omega arith;
+}

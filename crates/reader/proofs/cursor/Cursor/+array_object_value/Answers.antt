@@ -1,9 +1,9 @@
 use mathlib.Core.Path.{refl, ◌∙◌}
-use Prim.Native.Nat.{ℕ, ◌-◌, ◌≤◌}
+use Prim.Native.Nat.{◌-◌}
 use native.Mathlib.Omega.{arith}
 use Rattle.machine.specs.Machine.{square, curly}
 use Rattle.reader.proofs.CursorTableLaws.{seen_opens}
-use Rattle.reader.proofs.CursorLoopLaws.{Waiting, Onward, Further, round_first, closed_took, round_ready, round_seen, round_counts}
+use Rattle.reader.proofs.CursorLoopLaws.{round_first, closed_took, round_ready, round_seen, round_counts}
 use Rattle.reader.proofs.CursorLoopLaws.{element_onward, member_onward, waiting_seen, value_ready, value_followed}
 use Rattle.reader.proofs.CursorLoopLaws.{took_item, opened_inner, opened_seen, opened_deep, says_inside}
 use Rattle.reader.proofs.cursor.Cursor.+array_object_value.Goals as goal
@@ -72,11 +72,11 @@ array-loop-why-smaller t c = let f = rw c.in-Comma.is at (value_followed (rw c.i
 
 pub array-loop-why-preserved : goal.array-loop-why-preserved
 array-loop-why-preserved t c = (
-      (rw c.in-Comma.is at (value_followed (rw c.in-More.is at (element_onward c.loop-why.invariant.0 c.ahead.result c.ahead.ensures)).0 _ _ _ c.value.auto.tape c.value.auto.seen c.value.result c.value.ensures c.followed.result c.followed.ensures)).0,
-      c.value.auto.tape ∙ c.loop-why.invariant.1,
-      c.value.auto.store ∙ c.loop-why.invariant.2,
-      c.value.auto.seen ∙ c.loop-why.invariant.3,
-    )
+  (rw c.in-Comma.is at (value_followed (rw c.in-More.is at (element_onward c.loop-why.invariant.0 c.ahead.result c.ahead.ensures)).0 _ _ _ c.value.auto.tape c.value.auto.seen c.value.result c.value.ensures c.followed.result c.followed.ensures)).0,
+  c.value.auto.tape ∙ c.loop-why.invariant.1,
+  c.value.auto.store ∙ c.loop-why.invariant.2,
+  c.value.auto.seen ∙ c.loop-why.invariant.3,
+)
 
 pub object-opened-requires : goal.object-opened-requires
 object-opened-requires t c = seen_opens _ c.requires.1
@@ -151,11 +151,11 @@ object-loop-why-smaller t c = let f = rw c.in-Comma.is at (value_followed (rw c.
 
 pub object-loop-why-preserved : goal.object-loop-why-preserved
 object-loop-why-preserved t c = (
-      (rw c.in-Comma.is at (value_followed (rw c.in-More.is at (member_onward c.loop-why.invariant.0 _ _ _ c.member_ahead.auto.seen c.member_ahead.result c.member_ahead.ensures)).0 _ _ _ c.value.auto.tape c.value.auto.seen c.value.result c.value.ensures c.followed.result c.followed.ensures)).0,
-      c.value.auto.tape ∙ c.member_ahead.auto.tape ∙ c.loop-why.invariant.1,
-      c.value.auto.store ∙ c.member_ahead.auto.store ∙ c.loop-why.invariant.2,
-      c.value.auto.seen ∙ c.member_ahead.auto.seen ∙ c.loop-why.invariant.3,
-    )
+  (rw c.in-Comma.is at (value_followed (rw c.in-More.is at (member_onward c.loop-why.invariant.0 _ _ _ c.member_ahead.auto.seen c.member_ahead.result c.member_ahead.ensures)).0 _ _ _ c.value.auto.tape c.value.auto.seen c.value.result c.value.ensures c.followed.result c.followed.ensures)).0,
+  c.value.auto.tape ∙ c.member_ahead.auto.tape ∙ c.loop-why.invariant.1,
+  c.value.auto.store ∙ c.member_ahead.auto.store ∙ c.loop-why.invariant.2,
+  c.value.auto.seen ∙ c.member_ahead.auto.seen ∙ c.loop-why.invariant.3,
+)
 
 pub value-head-requires : goal.value-head-requires
 value-head-requires t c = c.requires.0
@@ -175,9 +175,9 @@ value-overflow_sub-depth t c = omega (arith, c.if-depth-eq0.false)
 
 pub value-array-requires : goal.value-array-requires
 value-array-requires t c = let h = rw c.in-Array.is at c.head.ensures in (
-      omega (arith, c.decreases, c.if-depth-eq0.false),
-      (opened_inner square c.in-Array.inside c.requires.0 h.0, opened_seen square c.in-Array.inside c.requires.0 h.0 _ c.requires.1),
-    )
+  omega (arith, c.decreases, c.if-depth-eq0.false),
+  (opened_inner square c.in-Array.inside c.requires.0 h.0, opened_seen square c.in-Array.inside c.requires.0 h.0 _ c.requires.1),
+)
 
 pub value-returns-then-depth-eq0-2 : goal.value-returns-then-depth-eq0-2
 value-returns-then-depth-eq0-2 t c = opened_deep curly c.in-Object.inside
@@ -189,9 +189,9 @@ value-overflow_sub-depth-in-Object t c = omega (arith, c.if-depth-eq0-2.false)
 
 pub value-object-requires : goal.value-object-requires
 value-object-requires t c = let h = rw c.in-Object.is at c.head.ensures in (
-      omega (arith, c.decreases, c.if-depth-eq0-2.false),
-      (opened_inner curly c.in-Object.inside c.requires.0 h.0, opened_seen curly c.in-Object.inside c.requires.0 h.0 _ c.requires.1),
-    )
+  omega (arith, c.decreases, c.if-depth-eq0-2.false),
+  (opened_inner curly c.in-Object.inside c.requires.0 h.0, opened_seen curly c.in-Object.inside c.requires.0 h.0 _ c.requires.1),
+)
 
 pub value-returns-in-Refused : goal.value-returns-in-Refused
 value-returns-in-Refused t c = λ k s. (rw c.in-Refused.is at c.head.ensures) c.args.depth k s
