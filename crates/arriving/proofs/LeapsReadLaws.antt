@@ -375,7 +375,8 @@ module _ (part : List ℕ) (x : Spot) (ks : List ℕ) (y : Spot) where
 
 -- ---- numbers and time values
 
-numeric_likes : (base : ℕ) (m : ModeOf.Mode) (s : Numeric.St) (n p b : ℕ) → NumericIs base m s n → b < 256 → base + p ≤ text_limit → sane_mode (base + p) m ≡ true
+numeric_likes : (base : ℕ) (m : ModeOf.Mode) (s : Numeric.St) (n p b : ℕ) → NumericIs base m s n → b < 256 → base + p ≤ text_limit → sane_mode (base + p) m
+    ≡ true
     → Alike (NumericIs base) MeaningGives base n (step_of m (base + p) b) (Numeric.scan p s b)
 unfolding sane_mode
 numeric_likes base m s n p b h l f o = by m (numeric_mode h) h o

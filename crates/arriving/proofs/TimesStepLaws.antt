@@ -129,7 +129,8 @@ module _ (s : Stamp) where
     pub full_month : {y : ℕ} → l ≡ Slot.Month y → r ≡ only_then s (Slot.Day y v) (ch "-") p b → r ≡ next_full s l v p b
     full_month e h = h ∙ rw e
 
-    pub full_day : {y m : ℕ} {g : Bool} {t : Stamp} → l ≡ Slot.Day y m → g ≡ is_date y m v → t ≡ judged s g → r ≡ next_day t (day_of b) → r ≡ next_full s l v p b
+    pub full_day : {y m : ℕ} {g : Bool} {t : Stamp} → l ≡ Slot.Day y m → g ≡ is_date y m v → t ≡ judged s g → r ≡ next_day t (day_of b) → r
+        ≡ next_full s l v p b
     full_day e f k h = h ∙ rw (k, f, e)
 
     module _ {t : Stamp} where

@@ -78,5 +78,6 @@ pub data TimeValue (k : Bool) : List ℕ → M.Time → Type 0 where
   local_time : {a : List ℕ} {n : ℕ} → LocalTimeText k a n → TimeValue k a (LocalTime n)
   local_date_time : {a b : List ℕ} {d : D.Date} {x n : ℕ} → LocalDateText k a d → Separator x → LocalTimeText k b n
       → TimeValue k (a ++ (x ∷ b)) (LocalDateTime d n)
-  offset_date_time : {a b c : List ℕ} {d : D.Date} {x n : ℕ} {o : ℤ} → LocalDateText k a d → Separator x → LocalTimeText k b n
+  offset_date_time : {a b c : List ℕ} {d : D.Date} {x n : ℕ} {o : ℤ} → LocalDateText k a d → Separator x
+      → LocalTimeText k b n
       → TimeOffset k c o → TimeValue k (a ++ (x ∷ (b ++ c))) (OffsetDateTime d n o)

@@ -40,7 +40,8 @@ module _ (s : List ℕ) (p : ℕ) where
       by (Dec.no g) = absurd (omega (arith, digit_none (omega arith)))
 
   module _ (c : St) (next : ℕ → St) (instead : Out St (List ℕ)) where
-    pub digit_goes : scan p c (get_or s p 0) ≡ on_digit (hex_of (get_or s p 0)) next instead → digit_at s p < no_digit → Runs scan s c p (next (digit_at s p)) (p + 1)
+    pub digit_goes : scan p c (get_or s p 0) ≡ on_digit (hex_of (get_or s p 0)) next instead → digit_at s p < no_digit
+        → Runs scan s c p (next (digit_at s p)) (p + 1)
     unfolding on_digit
     digit_goes e h =
         let i = digit_in h in
@@ -125,7 +126,8 @@ module _ (s : List ℕ) (p : ℕ) where
 
         pub escape_low : no_digit ≤ digit_at s (p + 2) → EscapeSays s p (Octet.NotGrammar (p + 2))
         unfolding scan
-        escape_low l = λ c a. after_high c a ∙ digit_breaks s (p + 2) (hex_low c a (digit_at s (p + 1))) (λ x. text c (a ++ ((16 * digit_at s (p + 1) + x) ∷ [])))
+        escape_low l = λ c a. after_high c a ∙ digit_breaks s (p + 2) (hex_low c a (digit_at s (p + 1)))
+            (λ x. text c (a ++ ((16 * digit_at s (p + 1) + x) ∷ [])))
             (λ b. refl) l
 
         pub escape_hex : digit_at s (p + 2) < no_digit → EscapeSays s p (Octet.Byte (16 * digit_at s (p + 1) + digit_at s (p + 2)) (p + 3))

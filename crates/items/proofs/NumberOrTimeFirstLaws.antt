@@ -104,7 +104,8 @@ module _ (s : List ℕ) (q : ℕ) (g : Bool) (i : ℕ) where
         → Reads s i (sign q g) r
     sign_digit a c o r l u t =
         let b = byte_in s i h in
-        same (int q g 0) (rw (b, fst_digit (get_or s i 0) (record { low = l; high = u }), num_digit (get_or s i 0) (omega arith))) (t.reads 0 (holds_none a c o))
+        same (int q g 0) (rw (b, fst_digit (get_or s i 0) (record { low = l; high = u }), num_digit (get_or s i 0) (omega arith)))
+        (t.reads 0 (holds_none a c o))
 
 -- ---- the first byte
 

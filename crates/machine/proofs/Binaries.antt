@@ -60,7 +60,8 @@ escape_steps (BEscape.short {b = b} {c = c} x) p q acc =
     let u = short_of_lem x in
     eats scan Steps.stay (rw (ne_eqb b 0x78 u.1.no_x, u.0, lt-ltb c 256 (omega arith)))
 escape_steps (BEscape.byte (Digits.next {x = x} h (Digits.next {x = y} g z))) p q acc =
-    let e = over_is z in rw (e.0, e.1) (eats scan (eats scan (eats scan Steps.stay (digit_step g (λ y. text q (acc ++ ((16 * x + y) ∷ []))) _ ∙ rw (pair_value x y)))
+    let e = over_is z in rw (e.0, e.1) (eats scan (eats scan (eats scan Steps.stay
+    (digit_step g (λ y. text q (acc ++ ((16 * x + y) ∷ []))) _ ∙ rw (pair_value x y)))
     (digit_step h (hex_low q acc) _)) refl)
 
 back_step : (p q : ℕ) (acc : List ℕ) → scan p (text q acc) (ch "\\") ≡ takes (esc q acc)

@@ -147,7 +147,8 @@ binary_none p b i = rw (ne_eqb _ _ i)
 
 module _ (p d : ℕ) (k : List Frame) (z : Use) (u : List ℕ) where
   string_odd : (b : ℕ) → (b ≡ ch "\"" → ⊥) → (b ≡ ch "'" → ⊥) → odd p ≡ step p (at (item (string_part_of z u)) d k) b
-  string_odd b i j = sym (ap (λ (o : Out Strings.St (List ℕ)). on_out p d k b (Machine.lift (string_part z u) (λ x. string z (u ++ x)) o)) (string_none p b i j))
+  string_odd b i j = sym (ap (λ (o : Out Strings.St (List ℕ)). on_out p d k b (Machine.lift (string_part z u) (λ x. string z (u ++ x)) o))
+      (string_none p b i j))
 
   string_class : (b : ℕ) (c : Class) → ClassIs b c → (c ≡ blank_c → ⊥) → (c ≡ hash_c → ⊥) → (c ≡ slash_c → ⊥)
       → on_part p d k b (want_string z u) (step p (at (item (string_part_of z u)) d k) b) (odd p) c ≡ step p (at (item (string_part_of z u)) d k) b

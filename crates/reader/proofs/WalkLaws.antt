@@ -10,7 +10,8 @@ use Rattle.meaning.specs.Limits.{text_limit, depth_limit}
 use Rattle.meaning.specs.Meaning.{Meaning}
 use Rattle.meaning.specs.Tape.{tape_of}
 use Rattle.machine.specs.Machine.{want, got, value, base, at, fail, Class, class_of, on_got, Ok, No, reading}
-use Rattle.machine.specs.Machine.{blank_c, hash_c, slash_c, comma_c, colon_c, plus_c, quote_c, dollar_c, letter_n, letter_t, letter_f, letter_c, other_c, open_c, close_c}
+use Rattle.machine.specs.Machine.{blank_c, hash_c, slash_c, comma_c, colon_c, plus_c, quote_c, dollar_c, letter_n, letter_t, letter_f, letter_c, other_c}
+use Rattle.machine.specs.Machine.{open_c, close_c}
 use Rattle.machine.specs.Heard.{Heard, Told, tell, telling, heard_of}
 use Rattle.reader.specs.Between.Scanning.{Tells, Bare, Shut}
 use Rattle.reader.specs.Between.Layout.{Breaks, LayoutEnds}

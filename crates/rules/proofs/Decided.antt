@@ -121,7 +121,8 @@ pub length_is : (s : List ℕ) (i : ℕ) → i < length s → CharAt s i (length
 unfolding length_at
 length_is s i h = go (eqb (ones (get_or s i 0)) 0) refl (is_wide s i (ones (get_or s i 0))) refl
   where
-    go : (x : Bool) → eqb (ones (get_or s i 0)) 0 ≡ x → (y : Bool) → is_wide s i (ones (get_or s i 0)) ≡ y → CharAt s i (cond x 1 (cond y (ones (get_or s i 0)) 0))
+    go : (x : Bool) → eqb (ones (get_or s i 0)) 0 ≡ x → (y : Bool) → is_wide s i (ones (get_or s i 0)) ≡ y
+        → CharAt s i (cond x 1 (cond y (ones (get_or s i 0)) 0))
     go true e y f = ascii_char s i h (ascii (get_or s i 0) (eqb-true _ _ e))
     go false e true f = by_count s i (ones (get_or s i 0)) (is_wide_lem s i _ refl f)
     go false e false f = no_char s i (eqb-false _ _ e) (λ n w. differ (sym f ∙ ap (is_wide s i) (sym w.count) ∙ wide_is s i n w))

@@ -252,7 +252,8 @@ module _ (s : List ℕ) (i : ℕ) where
           utf8_3d {a = a} {b = b} {c = c} (omega (arith, u, v, t)) (omega (arith, u, v, t)) (omega (arith, u, v, t))
 
   pub back4 : Wide s i 4 → CharAt s i 4
-  back4 w = char {n = 4} (omega arith) w.fits (rw (take_4 w.fits) (go (get_or s i 0) (get_or s (i + 1) 0) (get_or s (i + 2) 0) (get_or s (i + 3) 0) refl refl refl
+  back4 w = char {n = 4} (omega arith) w.fits (rw (take_4 w.fits) (go (get_or s i 0) (get_or s (i + 1) 0) (get_or s (i + 2) 0) (get_or s (i + 3) 0) refl refl
+      refl
       refl (ℕ_discrete (get_or s i 0) 0xF0) (ℕ_discrete (get_or s i 0) 0xF4)))
     where
       u : 240 ≤ get_or s i 0

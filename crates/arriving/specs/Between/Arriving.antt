@@ -1,6 +1,7 @@
 -- The check while a text arrives (docs/FORMAT.md, 13.2): its state, what a part does to it, what it comes to. Assumes
 -- nothing.
-use Rattle.std.specs.Prelude.{ℕ, suc, ◌+◌, ◌*◌, ◌-◌, Bool, true, cond, ◌&&◌, List, [], ◌∷◌, ◌++◌, eqb, leb, length, replicate}
+use Rattle.std.specs.Prelude.{ℕ, suc, ◌+◌, ◌*◌, ◌-◌, Bool, true, cond, ◌&&◌, List, [], ◌∷◌, ◌++◌, eqb, leb, length}
+use Rattle.std.specs.Prelude.{replicate}
 use Rattle.meaning.specs.Limits.{text_limit, depth_limit}
 use Rattle.meaning.specs.declared.Refusal.TheVariants.{TextTooLong, NotUtf8, NotGrammar}
 use Rattle.reader.specs.declared.Answer.{Answer}

@@ -29,7 +29,8 @@ use Rattle.meaning.specs.Meaning.{Meaning, Members, null, bool, number, string, 
 use Rattle.meaning.specs.Good.{GoodParts, most, depth, Good}
 use Rattle.meaning.specs.Once.{same, held, once, once_elements, once_members}
 use Rattle.meaning.specs.Bytes.{le, unnamed}
-use Rattle.meaning.specs.Tape.{records, members_records, elements_count, members_count, store_of, members_store, bytes, records_of, record_bytes, records_bytes, tape_of}
+use Rattle.meaning.specs.Tape.{records, members_records, elements_count, members_count, store_of, members_store, bytes, records_of, record_bytes, records_bytes}
+use Rattle.meaning.specs.Tape.{tape_of}
 use Rattle.meaning.specs.Tape.{WellFormed}
 use Rattle.meaning.specs.Canonical.{decimal_in, decimal, escaped, escapes, quoted, power_text, text_with, canonical}
 use Rattle.meaning.specs.Filed.{filed_number, filed}

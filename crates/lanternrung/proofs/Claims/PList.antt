@@ -71,7 +71,8 @@ repeats text m keys p e h f = first_refused (sound text m e) keys h p f
 -- ---- the verdicts are computed, and the keys
 
 pub keys_twice : TextRefused (letters "{\"a\":1,b:2,a:3,b:4}") (RepeatedKey 11) × TextRefused (letters "{a:{b:1,b:2},a:3}") (RepeatedKey 8)
-unfolding verdict decoded judged fault_from length_at is_wide low_of high_of count_leading_zeros depth_limit strip settle read reading S.plain_byte S.on_body S.scan
+unfolding verdict decoded judged fault_from length_at is_wide low_of high_of count_leading_zeros depth_limit strip settle read reading S.plain_byte S.on_body
+    S.scan
     N.class_of N.on_start N.on_name N.scan same among first_repeat tell telling
 keys_twice = (
   repeats _ _ (begins ∷ named 1 (letters "a") ∷ named 7 (letters "b") ∷ named 11 (letters "a") ∷ named 15 (letters "b") ∷ ends ∷ []) 11 refl refl refl,
@@ -80,10 +81,13 @@ keys_twice = (
 )
 
 both : All samples × All slips
-unfolding verdict decoded judged fault_from length_at is_wide low_of high_of count_leading_zeros encode is_leap is_date depth_limit decimal_in decimal fixed trimmed escaped
-    escapes quoted hex_pairs binary_text power_text zeros pointed finite_text number_text date_text fraction_text clock_text time_text text_with strip settle read reading
+unfolding verdict decoded judged fault_from length_at is_wide low_of high_of count_leading_zeros encode is_leap is_date depth_limit decimal_in
+    decimal fixed trimmed escaped
+    escapes quoted hex_pairs binary_text power_text zeros pointed finite_text number_text date_text fraction_text clock_text time_text text_with strip settle
+    read reading
     S.hex_of
-    S.short_of S.alone S.unit S.in_braces S.hexed S.on_hex S.on_brace S.on_short S.plain_byte S.on_body S.line_byte S.on_lines S.scan B.on_digit B.on_short B.on_text B.scan
+    S.short_of S.alone S.unit S.in_braces S.hexed S.on_hex S.on_brace S.on_short S.plain_byte S.on_body S.line_byte S.on_lines S.scan B.on_digit B.on_short
+    B.on_text B.scan
     N.class_of N.on_start N.on_name N.scan N.word_scan once once_elements
 both = (
   refuses _ (NotGrammar 0) refl

@@ -107,7 +107,8 @@ same_text = record { texts = λ x y. same (text_good x) (text_good y); meanings 
 
 -- ---- read-back: the canonical text of a meaning within the limits is accepted, and gives the same tape and store
 
-back_meaning : {m : Meaning} {tape store : List ℕ} {a : Answer} {tape' store' : List ℕ} → Good m → length (canonical m) ≤ text_limit → tape_bytes m ≤ length tape
+back_meaning : {m : Meaning} {tape store : List ℕ} {a : Answer} {tape' store' : List ℕ} → Good m → length (canonical m) ≤ text_limit
+    → tape_bytes m ≤ length tape
     → bytes m ≤ length store
     → Reads (canonical m) tape store a tape' store' → Holds m tape store a tape' store'
 back_meaning {m} g l h k p = (accepted p).then m (record { means = text_derived m g l; tape_room = h; store_room = k })

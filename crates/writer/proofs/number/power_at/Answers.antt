@@ -10,7 +10,8 @@ use Rattle.writer.proofs.PiecesLaws.{length_three, power_at_zero, power_split}
 use Rattle.writer.proofs.number.power_at.Goals as goal
 
 pub returns-then-size-eq0 : goal.returns-then-size-eq0
-returns-then-size-eq0 c = put_at_as (sym (power_at_zero _ c.sign_and_size-p.result (held_sign _ _ c.ranges.power c.sign_and_size-p.ensures) c.if-size-eq0.true)) (put_none _ _)
+returns-then-size-eq0 c = put_at_as (sym (power_at_zero _ c.sign_and_size-p.result (held_sign _ _ c.ranges.power c.sign_and_size-p.ensures) c.if-size-eq0.true))
+    (put_none _ _)
 
 pub byte_at-sign-requires : goal.byte_at-sign-requires
 byte_at-sign-requires c = omega (

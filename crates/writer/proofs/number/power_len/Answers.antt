@@ -9,7 +9,11 @@ use Rattle.writer.proofs.PiecesLaws.{length_three, power_at_zero, power_split}
 use Rattle.writer.proofs.number.power_len.Goals as goal
 
 pub returns-then-size-eq0 : goal.returns-then-size-eq0
-returns-then-size-eq0 c = (sym (ap length (power_at_zero _ c.sign_and_size-p.result (held_sign _ _ c.ranges.power c.sign_and_size-p.ensures) c.if-size-eq0.true)), omega arith)
+returns-then-size-eq0 c = (
+  sym (ap length (power_at_zero _ c.sign_and_size-p.result (held_sign _ _ c.ranges.power c.sign_and_size-p.ensures)
+      c.if-size-eq0.true)),
+  omega arith,
+)
 
 pub returns : goal.returns
 returns c = (

@@ -34,5 +34,6 @@ byte_at-requires c = omega (
 )
 
 pub returns : goal.returns
-returns c = put_as (sym (quoted_parts c.args.s.now)) (put_whole (put_next (omega arith) (put_next (omega arith) c.byte_at-first.ensures c.escapes_at-last.ensures)
+returns c = put_as (sym (quoted_parts c.args.s.now)) (put_whole (put_next (omega arith)
+    (put_next (omega arith) c.byte_at-first.ensures c.escapes_at-last.ensures)
     c.byte_at.ensures))

@@ -12,7 +12,14 @@ pub digits_at-a-requires : goal.digits_at-a-requires
 digits_at-a-requires c = omega (arith, c.requires, clock_length c.args.t)
 
 pub byte_at-b-requires : goal.byte_at-b-requires
-byte_at-b-requires c = omega (arith, c.requires, clock_length c.args.t, c.digits_at-a.ensures.next, c.digits_at-a.auto.out, fixed_length 2 (c.args.t / 3600000000000))
+byte_at-b-requires c = omega (
+  arith,
+  c.requires,
+  clock_length c.args.t,
+  c.digits_at-a.ensures.next,
+  c.digits_at-a.auto.out,
+  fixed_length 2 (c.args.t / 3600000000000),
+)
 
 pub digits_at-c-requires : goal.digits_at-c-requires
 digits_at-c-requires c = omega (

@@ -25,5 +25,6 @@ digits_at-requires c = omega (
 )
 
 pub returns : goal.returns
-returns c = put_next (omega (arith, c.requires, minutes_length c.args.n)) (put_next (omega (arith, c.requires, minutes_length c.args.n)) c.digits_at-a.ensures c.byte_at-b.ensures)
+returns c = put_next (omega (arith, c.requires, minutes_length c.args.n)) (put_next (omega (arith, c.requires, minutes_length c.args.n)) c.digits_at-a.ensures
+    c.byte_at-b.ensures)
     c.digits_at.ensures
