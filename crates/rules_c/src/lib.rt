@@ -1,6 +1,6 @@
-// The two calls for C and Rust (include/lanternrung_rules.h): each is the call of the same name in `rules::exports`, with its promise. The metrology
-// group links this archive alone.
+// The two calls for C and Rust (include/lanternrung_rules.h): each is the call of the same name in `rules::exports`, with its promise.
 #![tactic(auto)]
+
 ghost use Rattle.rules.specs.Told.{Utf8Told, DateTold};
 
 use rules::exports::{self, Status};
