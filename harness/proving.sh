@@ -41,7 +41,7 @@ interrupted() { # SIGNAL
 needed() {
     NAME=$1 awk '
         { sub(/#.*/, ""); i = index($0, ":"); if (!i) next
-          name = substr($0, 1, i - 1); gsub(/[ \t]/, "", name); deps[name] = substr($0, i + 1); order[++n] = name }
+          split(substr($0, 1, i - 1), word, " "); name = word[1]; deps[name] = substr($0, i + 1); order[++n] = name }
         function mark(c,    a, k, m) { if (c in marked || !(c in deps)) return; marked[c]; m = split(deps[c], a, " "); for (k = 1; k <= m; k++) mark(a[k]) }
         END { mark(ENVIRON["NAME"]); for (k = 1; k <= n; k++) if (order[k] in marked) print order[k] }' crates.txt
 }
