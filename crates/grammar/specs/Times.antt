@@ -6,7 +6,7 @@ use Rattle.meaning.specs.declared.Time as M
 use Rattle.meaning.specs.declared.Time.TheVariants.{LocalDate, LocalTime, LocalDateTime, OffsetDateTime}
 use Rattle.meaning.specs.Limits.{fraction_digits}
 use Rattle.meaning.specs.Clock.{time_of_day}
-use Rattle.meaning.specs.Letters.{letters, ch}
+use Rattle.meaning.specs.Letters.{ch}
 use Rattle.grammar.specs.Checks.{Checked}
 use Rattle.grammar.specs.Characters.{Digit, Decimal}
 

@@ -1,21 +1,21 @@
 -- Binary parts, a byte at a time. Assumes nothing.
-use mathlib.Core.Path.{◌≡◌, refl, sym, ap, ◌∙◌, subst}
-use mathlib.Core.Bool.{Bool, true, false, cond}
+use mathlib.Core.Path.{◌≡◌, refl, sym, ap, ◌∙◌}
+use mathlib.Core.Bool.{false}
 use mathlib.Core.List.{List, [], ◌∷◌, ◌++◌}
-use Prim.Native.Nat.{ℕ, suc, ◌+◌, ◌*◌, ◌≤◌, ◌<◌}
+use Prim.Native.Nat.{ℕ, ◌+◌, ◌*◌, ◌≤◌, ◌<◌}
 use native.Mathlib.Omega.{arith}
 use native.Mathlib.Decide.{dec_lt}
-use lib.Dec.{eqb, ltb, leb}
+use lib.Dec.{eqb}
 use lib.ListN.{length, drop, get_or, set, length-append}
-use lib.Seq.{sets, length-sets}
+use lib.Seq.{sets}
 use borrow.Author.Tests.{lt-ltb, le-ltb, le-leb, lt-leb, eq-eqb, ne_eqb}
 use Rattle.meaning.specs.declared.Refusal.TheVariants.{NotGrammar}
 use Rattle.meaning.specs.Letters.{ch}
-use Rattle.machine.specs.Scan.{Out, takes, stops, breaks, over, Ran, ended, broke, ran}
+use Rattle.machine.specs.Scan.{Out, takes, stops, breaks, over, ended, broke, ran}
 use Rattle.machine.specs.Strings.{hex_of, no_digit, short_of, no_short}
-use Rattle.machine.specs.Binaries.{St, start, dollar, text, esc, hex, hex_low, low, pairs, dot, done, begin, on_digit, on_short, on_text, scan}
+use Rattle.machine.specs.Binaries.{St, dollar, text, esc, hex, hex_low, low, pairs, dot, done, begin, on_digit, on_short, on_text, scan}
 use Rattle.items.specs.Between.Places.{digit_at, Runs}
-use Rattle.items.specs.Between.BinaryPart.{PairSays, Escaped, EscapeSays, OneByte, OneByteSays, Closing, StateSays, PairsSays, TextSays, PieceSays}
+use Rattle.items.specs.Between.BinaryPart.{PairSays, Escaped, EscapeSays, OneByteSays, Closing, StateSays, PieceSays}
 use Rattle.items.specs.declared.binary_part.Pair.{Pair}
 use Rattle.items.specs.declared.binary_part.Octet.{Octet}
 use Rattle.items.specs.declared.binary_part.Piece.{Piece}

@@ -15,7 +15,6 @@ use Rattle.machine.specs.Binaries.{St, start, dollar, text, esc, hex, hex_low, l
 use Rattle.machine.proofs.Runs.{PartEnds, adv, Goes, took, halts, Steps, eats, steps_join, steps_go, OutIs}
 use Rattle.machine.proofs.Strings.Tests.{by_eqb, by_ltb, by_leb, hex_of_lem, hex_small, hex_ascii, hex_is, over_is, short_of_lem, short_is, ends_all}
 use Rattle.machine.proofs.Strings.Quotes.{Between, between, between_other, plain_char}
-use Rattle.machine.proofs.Strings.Ascii.{Ascii}
 
 abbrev Run : ℕ → St → List ℕ → St → Type 0
 Run = Steps scan

@@ -1,6 +1,6 @@
 -- What a byte's class says of it. Assumes nothing.
 use Prim.Native.Nat.{ℕ, ◌≤◌, ◌<◌}
-use mathlib.Core.Path.{◌≡◌, refl}
+use mathlib.Core.Path.{◌≡◌}
 use native.Mathlib.Omega.{arith}
 use Rattle.meaning.specs.Letters.{ch}
 use Rattle.machine.specs.Machine

@@ -1,9 +1,9 @@
 -- What the grammar derives, the machine reads, with that meaning; and what is heard meanwhile are its objects and keys. Assumes nothing.
-use Prim.Native.Nat.{ℕ, zero, suc, ◌+◌, ◌≤◌, ◌<◌}
+use Prim.Native.Nat.{ℕ, suc, ◌≤◌, ◌<◌}
 use mathlib.Core.Path.{◌≡◌, refl, sym, ap, ◌∙◌, subst}
 use mathlib.Core.Bool.{Bool, true, false}
-use mathlib.Core.Logic.{◌⊎◌, inl, inr}
-use mathlib.Core.Option.{Option, none, some}
+use mathlib.Core.Logic.{inl, inr}
+use mathlib.Core.Option.{some}
 use mathlib.Core.List.{List, [], ◌∷◌, ◌++◌, append_assoc, append-nil}
 use native.Mathlib.Omega.{arith}
 use Rattle.rules.specs.Rfc3629.{In}
@@ -12,14 +12,14 @@ use Rattle.meaning.specs.Limits.{depth_limit}
 use Rattle.meaning.specs.Meaning.{Meaning, Meanings, Members}
 use Rattle.meaning.specs.Between.Events.{Event, named}
 use Rattle.grammar.specs.Checks.{Room}
-use Rattle.grammar.specs.Comments.{Blank, LineEnd, CBeginLine, CLine, CBlock, Ws, Last}
+use Rattle.grammar.specs.Comments.{Blank, CBeginLine, CLine, CBlock, Ws, Last}
 use Rattle.grammar.specs.Characters.{Of}
 use Rattle.grammar.specs.Strings.{Quote, double, single, mark, StringPart, Concat, String}
 use Rattle.grammar.specs.Strings.{Quoted as Quoted-text}
 use Rattle.grammar.specs.Binary.{BValue, Binary}
 use Rattle.grammar.specs.Keys.{i_begin, Identifier, Key}
 use Rattle.grammar.specs.Values.{Inside, elements, members, Closes, Value, Rest, After, Item, Loose}
-use Rattle.machine.specs.Scan.{Out, takes, stops, breaks, over}
+use Rattle.machine.specs.Scan.{Out, takes, stops, over}
 use Rattle.machine.specs.Machine
 use Rattle.machine.specs.Machine.{Use, as_value, as_key, Got, Base, want, want_key, want_string, want_binary, got, Mode, base, line, item, Frame, inside}
 use Rattle.machine.specs.Machine.{pair, Conf, at, fail, step, read, reading, Verdict, Ok, No, class_of, Class, lift, scan, as_value_of, as_key_of, wanted}

@@ -1,6 +1,6 @@
 -- Every refusal's place is at most the text's length. Assumes nothing.
-use Prim.Native.Nat.{ℕ, zero, suc, ◌+◌, ◌*◌, ◌≤◌, ◌<◌}
-use mathlib.Core.Path.{◌≡◌, refl, sym, ap, ◌∙◌, subst}
+use Prim.Native.Nat.{ℕ, zero, suc, ◌+◌, ◌*◌, ◌≤◌}
+use mathlib.Core.Path.{◌≡◌, refl, ap}
 use mathlib.Core.Bool.{Bool, true, false, cond}
 use mathlib.Core.Option.{Option, none, some}
 use mathlib.Core.List.{List, [], ◌∷◌, ◌++◌}
@@ -32,7 +32,6 @@ use Rattle.machine.specs.Machine
 use Rattle.machine.specs.Machine.{Got, Base, want, want_key, want_string, want_binary, got, base, line, item, Frame, inside, pair, Conf, at, fail, step}
 use Rattle.machine.specs.Machine.{read, finish, reading, Verdict, Ok, No, class_of, Class, lift, scan}
 use Rattle.machine.specs.Verdict.{decoded, verdict}
-use Rattle.machine.proofs.Runs.{adv}
 use Rattle.machine.proofs.Layouts.{Lay, plain_l, slash_l, line_l, block_l, star_l, mode_of, layout_keeps}
 use Rattle.machine.proofs.Numeric.{Blame, first_of, first_begin, numeric_first, numeric_place}
 

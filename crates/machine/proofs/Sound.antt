@@ -1,28 +1,28 @@
 -- What the machine accepts, the grammar derives: backwards, `Comes c x t` says that t may still come at c for the text to mean x.
 -- Assumes nothing.
-use Prim.Native.Nat.{ℕ, zero, suc, ◌+◌, ◌≤◌, ◌<◌}
-use mathlib.Core.Path.{◌≡◌, refl, sym, ap, ap₂, ◌∙◌, subst, subst₂}
+use Prim.Native.Nat.{ℕ, zero, suc, ◌≤◌, ◌<◌}
+use mathlib.Core.Path.{◌≡◌, refl, sym, ap, ◌∙◌, subst}
 use mathlib.Core.Bool.{Bool, true, false}
-use mathlib.Core.Logic.{◌⊎◌, inl, inr, ⊎_elim}
+use mathlib.Core.Logic.{◌⊎◌, inl, inr}
 use mathlib.Core.Option.{Option, none, some}
 use mathlib.Core.List.{List, [], ◌∷◌, ◌++◌, append_assoc, append-nil}
 use native.Mathlib.Decide.{dec_lt, ℕ_discrete}
 use native.Mathlib.Omega.{arith}
 use lib.ListN.{length}
-use Rattle.rules.specs.Rfc3629.{In, Octets}
-use Rattle.rules.proofs.Characters.{after, split_ascii, join, same_head, same_tail}
+use Rattle.rules.specs.Rfc3629.{Octets}
+use Rattle.rules.proofs.Characters.{after, split_ascii, same_head}
 use Rattle.meaning.specs.Letters.{letters, ch}
 use Rattle.meaning.specs.Limits.{depth_limit, text_limit}
 use Rattle.meaning.specs.Meaning.{Meaning, Meanings, Members}
 use Rattle.meaning.specs.declared.Refusal.{Refusal}
 use Rattle.grammar.specs.Checks.{Room}
 use Rattle.grammar.specs.Characters.{Many}
-use Rattle.grammar.specs.Comments.{c_char, c_no_star, c_no_star_or_slash, Stars, CInner, Blank, LineEnd, CBeginLine, CLine, CBlock, Ws, Last}
+use Rattle.grammar.specs.Comments.{c_char, c_no_star, c_no_star_or_slash, Stars, Blank, LineEnd, CBeginLine, CLine, CBlock, Ws, Last}
 use Rattle.meaning.specs.declared.Time.TheVariants.{LocalDate}
 use Rattle.grammar.specs.Times.{TimeValue}
-use Rattle.grammar.specs.Strings.{StringPart, Concat, String}
-use Rattle.grammar.specs.Binary.{BValue, Binary}
-use Rattle.grammar.specs.Keys.{Identifier, Key}
+use Rattle.grammar.specs.Strings.{StringPart, Concat}
+use Rattle.grammar.specs.Binary.{BValue}
+use Rattle.grammar.specs.Keys.{Key}
 use Rattle.grammar.specs.Values.{Inside, elements, members, Closes, Value, Rest, After, Item, Loose}
 use Rattle.grammar.proofs.Utf8 as Utf8
 use Rattle.grammar.proofs.Bytewise

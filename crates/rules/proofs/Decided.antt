@@ -8,11 +8,10 @@ use native.Mathlib.Omega.{arith}
 use lib.Count.{count_leading_zeros}
 use lib.Dec.{eqb, leb, ltb}
 use lib.ListN.{length, get_or}
-use borrow.Author.Tests.{eqb-true, eqb-false, leb-true, leb-false, ltb-true, ltb-false, le-leb, lt-ltb, le-ltb}
+use borrow.Author.Tests.{eqb-true, eqb-false, leb-true, leb-false, le-leb, lt-ltb, le-ltb}
 use Rattle.rules.specs.Rfc3629.{Octets, Judged, done}
-use Rattle.rules.specs.Between.Posts.{Passed, CharAt, Tails, Tailed, tailed, broken, low_of, high_of}
+use Rattle.rules.specs.Between.Posts.{Passed, CharAt, Tails, Tailed, tailed, broken}
 use Rattle.rules.specs.Between.Decided.{ones, conj, bounds, is_wide, length_at, fault_from, judged}
-use Rattle.rules.specs.declared.Utf8Answer.{Utf8Answer}
 use Rattle.rules.specs.declared.Utf8Answer.TheVariants.{Done, IllFormed}
 use Rattle.rules.proofs.Places.{step1, down⁻, Wide, no_char, ascii_char, back2, back3, back4}
 use Rattle.rules.proofs.Outcomes.{one_outcome_utf8, utf8_done}

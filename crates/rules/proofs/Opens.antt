@@ -11,7 +11,7 @@ use Rattle.rules.specs.Between.Posts.{AtMost, Ascii, Passed, CharAt, char, gap, 
 use Rattle.rules.specs.Between.Beside.{Greater, IsTail, Wanted, Barred, Beside, Clean, Topped, BlockIs, plain, wide, faulty, Open, whole, one, two, three}
 use Rattle.rules.specs.Between.Beside.{Begun}
 use Rattle.rules.specs.declared.blocks.Block.{Block}
-use Rattle.rules.specs.declared.blocks.Block.TheVariants.{Plain, Wide, Faulty}
+use Rattle.rules.specs.declared.blocks.Block.TheVariants.{Plain, Wide}
 use Rattle.rules.proofs.Characters.{short}
 use Rattle.rules.proofs.Places
 use Rattle.rules.proofs.Places.{up, down, down⁻, step2, step3, step4, step5}

@@ -61,7 +61,7 @@ use Rattle.reader.proofs.Claims.{one_outcome_loosely, measure_refuses, read_refu
 use Rattle.writer.specs.declared.Written.{Written}
 use Rattle.writer.specs.Written.{WritesJaxn, WritesJson}
 use Rattle.lanternrung.specs.Trials.Samples.{Outcome, Says, IsTaken, Case, All, ◌&◌}
-use Rattle.lanternrung.proofs.Claims.PList.{PList, slips_hold, keys_twice}
+use Rattle.lanternrung.proofs.Claims.PList.{p_list, slips_hold, keys_twice}
 use Rattle.lanternrung.specs.Claims.{Counted, Takes, Holds, RepeatsFirst, Room, Wrote, Prints}
 use Rattle.lanternrung.specs.Trials.Impostors.{Lent, Measurer, KeepsMeasure, Reader, KeepsRead, Writer, KeepsJaxn, KeepsJson}
 use Rattle.lanternrung.specs.Trials.Impostors.{Looker, KeepsLook, KeepsUtf8, Calendar, KeepsDate, WritesOnly, older_tape}
@@ -382,7 +382,7 @@ one_count f r s g k =
 
 counts_all : (f : Measurer) → ((text : List ℕ) → Counted (f text)) → KeepsMeasure f → ⊥
 counts_all f g k =
-    let x = first PList in
+    let x = first p_list in
     let d = g [] in
     subst (Says 3 0) d.2 (x.measured (f []) (k [] (record { each = tt; few = lit< tt })))
 

@@ -1,4 +1,4 @@
--- P-list: the cases marked P hold; slips-hold: and so do the slips (docs/FORMAT.md, 14). Assumes nothing.
+-- `p_list`: the cases marked P hold; `slips_hold`: and so do the slips (docs/FORMAT.md, 14). Assumes nothing.
 use mathlib.Core.Path.{◌≡◌, refl, sym, ap, ◌∙◌, subst}
 use mathlib.Core.Bool.{true}
 use mathlib.Core.List.{List, [], ◌∷◌}
@@ -116,8 +116,8 @@ both = (
       & done,
 )
 
-pub PList : All samples
-PList = both.0
+pub p_list : All samples
+p_list = both.0
 
 pub slips_hold : All slips
 slips_hold = both.1
