@@ -41,13 +41,13 @@ interrupted() { # SIGNAL
 needed() {
     NAME=$1 awk '
         { sub(/#.*/, ""); i = index($0, ":"); if (!i) next
-          name = substr($0, 1, i - 1); gsub(/[ \t]/, "", name); deps[name] = substr($0, i + 1); order[++n] = name }
+          split(substr($0, 1, i - 1), word, " "); name = word[1]; deps[name] = substr($0, i + 1); order[++n] = name }
         function mark(c,    a, k, m) { if (c in marked || !(c in deps)) return; marked[c]; m = split(deps[c], a, " "); for (k = 1; k <= m; k++) mark(a[k]) }
         END { mark(ENVIRON["NAME"]); for (k = 1; k <= n; k++) if (order[k] in marked) print order[k] }' crates.txt
 }
 
-# tell WHO BEGAN CRATE..: one line for each change in what is proved, until target/log/WHO.over has rt's status. rt keeps a word on each
-# crate in target/log/CRATE.res: failed, until it is proved; none for a crate whose archive it makes, which is the last.
+# tell WHO BEGAN CRATE..: one line for each change in what is proved, until target/log/WHO.over has rt's status. In target/log/WHO.log rt says where it
+# begins with a crate, and its verdict on it; of a crate that was proved before it says nothing. Those that a crate stands on come before it.
 tell() {
     who=$1 began=$2
     shift 2
@@ -55,22 +55,19 @@ tell() {
     while :; do
         over=''
         { read -r over <"target/log/$who.over"; } 2>/dev/null
-        new='' now='' left=''
+        now=$(sed -n 's/^rt: chose --jobs [0-9]* for //p' "target/log/$who.log" 2>/dev/null | tail -n 1)
+        done=" $(awk '/^crate / { sub(/:$/, "", $2); crate = $2 } /^logic=proved / { print crate }' "target/log/$who.log" 2>/dev/null | tr '\n' ' ')"
+        [ -z "$now" ] || done="$done$(needed "$now" | sed '$d' | tr '\n' ' ')"
+        new=''
         for crate; do
+            [ "$over" != 0 ] || done="$done$crate "
             case $proved in *" $crate "*) continue ;; esac
-            word=''
-            { read -r word <"target/log/$crate.res"; } 2>/dev/null
-            [ "$over" != 0 ] || word=proved
-            case $word in
-            proved | built) proved="$proved$crate " new="$new $crate" count=$((count + 1)) ;;
-            failed) now="$now $crate" ;;
-            *) left="$left $crate" ;;
-            esac
+            case $done in *" $crate "*) proved="$proved$crate " new="$new $crate" count=$((count + 1)) ;; esac
         done
-        [ "$count" -ne $(($# - 1)) ] || now=$now$left
+        case $proved in *" $now "*) now='' ;; esac
         if [ -n "$new" ] || [ "$now" != "$told" ]; then
             took=$(($(date +%s) - began))
-            printf '%s: %d:%02d  %d of %d proved%s%s\n' "$who" $((took / 60)) $((took % 60)) "$count" $# "${new:+:$new}" "${now:+; proving$now}" >&2
+            printf '%s: %d:%02d  %d of %d proved%s%s\n' "$who" $((took / 60)) $((took % 60)) "$count" $# "${new:+:$new}" "${now:+; proving $now}" >&2
             told=$now
         fi
         [ -z "$over" ] && kill -s 0 $$ 2>/dev/null || return 0
@@ -78,25 +75,24 @@ tell() {
     done
 }
 
-# proves WHO NAME WORDS..: runs rt WORDS, which proves the crate NAME, and gives its status. Standard error is told how far it is; all that
-# rt says is kept in target/log/WHO.log, and where it fails the end of that is shown.
+# proves WHO TOP WORDS..: runs rt WORDS in crates/TOP, which proves that crate and those that it stands on, and gives its status. Standard error is
+# told how far it is; all that rt says is kept in target/log/WHO.log, and where it fails the end of that is shown.
 proves() {
-    who=$1 name=$2
+    who=$1 top=$2
     shift 2
     said=target/log/$who.log
-    crates=$(needed "$name")
-    rm -f "target/log/$who.over"
-    for crate in $crates; do rm -f "target/log/$crate.res"; done
-    # shellcheck disable=SC2086 # names of crates are words
-    tell "$who" "$(date +%s)" $crates 9>&- &
+    rm -f "target/log/$who.over" "$said"
+    # shellcheck disable=SC2046 # names of crates are words
+    tell "$who" "$(date +%s)" $(needed "$top") 9>&- &
     teller=$!
-    alone rt "$@" >"$said" 2>&1
+    # shellcheck disable=SC2016 # the inner shell's words
+    alone sh -c 'cd "$1" && shift && exec rt "$@"' sh "crates/$top" "$@" >"$said" 2>&1
     result=$?
     echo "$result" >"target/log/$who.over"
     wait "$teller"
     [ "$result" -eq 0 ] && return
     grep -v ': proved$' "$said" | tail -n 20 >&2
-    echo "$who: rt $* ended with status $result; all that it said is in $said" >&2
+    echo "$who: rt $* ended with status $result in crates/$top; all that it said is in $said" >&2
     return "$result"
 }
 

@@ -19,7 +19,7 @@ DECLARED = re.compile(r"^\s*(?:(?:abbrev|unfoldable|pub|data|record|ruleset)\s+)
 LAID_DOWN = re.compile(r"^\s*(?:(?:pub|data|record|ruleset)\s+)+([^\s(){};,:=.]+)")
 # Where two names would fall together, by hand; the last two with constructors of `Time`.
 BY_HAND = {"asKey": "as_key_of", "asValue": "as_value_of", "binaryPart": "binary_part_of", "stringPart": "string_part_of",
-           "Local-date": "LocalDateText", "Local-time": "LocalTimeText"}
+           "P-list": "p_list", "Local-date": "LocalDateText", "Local-time": "LocalTimeText"}
 TOKEN = re.compile(r"[^\s(){}\[\];,.@«»\"`λ]+")
 IMPORTED = re.compile(r"^use ([^\s{;]+?)\.\{([^}]*)\}", re.M)
 

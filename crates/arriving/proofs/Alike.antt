@@ -1,7 +1,7 @@
 -- What a byte does to an item as the check keeps it, and to the same item as the machine has it. The check may stand at another place
 -- than the machine, `base` further on: so one law serves the whole text (base 0) and an item read within a part. Assumes nothing.
 use Prim.Native.Nat.{ℕ, ◌+◌}
-use mathlib.Core.Path.{◌≡◌, refl}
+use mathlib.Core.Path.{◌≡◌}
 use Rattle.meaning.specs.declared.Refusal.{Refusal}
 use Rattle.meaning.specs.declared.Refusal.TheVariants.{TextTooLong, NotUtf8, NotGrammar, BadEscape, BadTime}
 use Rattle.meaning.specs.declared.Refusal.TheVariants.{BadNumber, TooDeep, TapeTooShort, StoreTooShort}

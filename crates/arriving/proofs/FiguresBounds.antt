@@ -9,13 +9,13 @@ use Rattle.meaning.specs.Letters.{ch}
 use Rattle.meaning.specs.Limits.{coefficient_limit}
 use Rattle.meaning.specs.declared.Refusal.TheVariants.{BadNumber}
 use Rattle.machine.specs.Numeric.{Num, num_of, digit_n, point_n, e_n, x_n, colon_n, minus_n, other_n}
-use Rattle.machine.specs.Numeric.{Fst, fst_of, nought_f, digit_f, plus_f, minus_f, point_f, n_f, i_f, other_f, ExpB, exp_of, Dg, dg_of, HexB, hex_of, value, no_hex}
+use Rattle.machine.specs.Numeric.{Fst, fst_of, nought_f, digit_f, plus_f, minus_f, point_f, n_f, i_f, other_f, ExpB, exp_of, Dg, dg_of, HexB, hex_of, value}
+use Rattle.machine.specs.Numeric.{no_hex}
 use Rattle.machine.proofs.Numeric.Rows.{DgIs, dg_class, ExpIs, exp_class}
 use Rattle.items.specs.declared.number.Acc.{Acc}
 use Rattle.items.specs.Between.NumberOrTime.{IsDigit, acc_of, pushed, raised_by}
 use Rattle.arriving.specs.declared.states.Decimal.{Decimal}
 use Rattle.arriving.specs.declared.states.Figure.{Figure}
-use Rattle.arriving.specs.declared.states.Figure.TheVariants as Figure
 use Rattle.arriving.specs.declared.states.Moment.{Moment}
 use Rattle.arriving.specs.declared.states.Mode.TheVariants.{Timing}
 use Rattle.arriving.specs.declared.states.Out.{Out}

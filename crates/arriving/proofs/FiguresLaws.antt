@@ -19,7 +19,6 @@ use Rattle.items.specs.Between.NumberOrTime.{IsDigit, pushed}
 use Rattle.items.proofs.NumberHexLaws.{HexValue, value_is}
 use Rattle.arriving.specs.declared.states.Decimal.{Decimal}
 use Rattle.arriving.specs.declared.states.Figure.{Figure}
-use Rattle.arriving.specs.declared.states.Figure.TheVariants as Figure
 use Rattle.arriving.specs.declared.states.Slot.TheVariants.{Month, Minute}
 use Rattle.arriving.specs.declared.states.Moment.TheVariants.{Field}
 use Rattle.arriving.specs.declared.states.Mode.TheVariants.{Timing}

@@ -45,7 +45,7 @@ use Rattle.arriving.specs.Between.Figures.{begin_figure, next_figure}
 use Rattle.arriving.specs.Between.Times.{next_moment}
 use Rattle.arriving.specs.Between.Strings.{open_quote, next_quoted}
 use Rattle.arriving.specs.Between.Small.{next_word, next_octets, next_name}
-use Rattle.arriving.specs.Between.Steps.{Stand, next, on_mode, between, begun, begun_figure, done, on_value, on_key}
+use Rattle.arriving.specs.Between.Steps.{here_of, Stand, next, on_mode, between, begun, begun_figure, done, on_value, on_key}
 use Rattle.arriving.specs.Between.Leaps.{Skips, due_at, stand_of, spot_of, Bytes, Placed, WordPassed, stays, passed, Plainly}
 use Rattle.arriving.proofs.Alike.{Alike}
 use Rattle.arriving.proofs.PushdownModes.{InNumber, counting, timing, numeric_mode, InString, quoting, string_mode}
@@ -375,7 +375,8 @@ module _ (part : List ℕ) (x : Spot) (ks : List ℕ) (y : Spot) where
 
 -- ---- numbers and time values
 
-numeric_likes : (base : ℕ) (m : ModeOf.Mode) (s : Numeric.St) (n p b : ℕ) → NumericIs base m s n → b < 256 → base + p ≤ text_limit → sane_mode (base + p) m ≡ true
+numeric_likes : (base : ℕ) (m : ModeOf.Mode) (s : Numeric.St) (n p b : ℕ) → NumericIs base m s n → b < 256 → base + p ≤ text_limit → sane_mode (base + p) m
+    ≡ true
     → Alike (NumericIs base) MeaningGives base n (step_of m (base + p) b) (Numeric.scan p s b)
 unfolding sane_mode
 numeric_likes base m s n p b h l f o = by m (numeric_mode h) h o
@@ -431,7 +432,7 @@ number_class x p p' b s (close_c curly) i f h = absurd (no_number p' b s (rw i) 
 number_begins : (x : Spot) (ks : List ℕ) (p p' b : ℕ) (s : Numeric.St) → due_at x ≡ Due.Value → Plainly b → Numeric.scan p' Numeric.begin b ≡ Scan.takes s
     → next (stand_of x ks) p b ≡ begun_figure (stand_of x ks) p (begin_figure p b)
 unfolding on_mode between
-number_begins x ks p p' b s u f h = rw u (number_class _ p p' b s (class_of b) (class_is_lem b) f h)
+number_begins x ks p p' b s u f h = simp u (number_class (here_of Mode.At Due.Value x.depth x.records x.stored, ks) p p' b s (class_of b) (class_is_lem b) f h)
 
 taken_first : {S M : Type 0} (scan : ℕ → S → ℕ → Scan.Out S M) (p : ℕ) (s : S) (b : ℕ) (t : List ℕ) (v : M) (q : ℕ) → ran scan p s (b ∷ t) ≡ ended v q
     → p < q → (s' : S) × (scan p s b ≡ Scan.takes s')

@@ -1,5 +1,5 @@
 -- Which bytes leave the check where it stands, and that they do. Assumes nothing.
-use Prim.Native.Nat.{ℕ, ◌+◌, ◌*◌, ◌-◌, ◌≤◌, ◌<◌, ◌%◌}
+use Prim.Native.Nat.{ℕ, ◌+◌, ◌-◌, ◌≤◌, ◌<◌, ◌%◌}
 use mathlib.Core.Path.{◌≡◌, refl, sym, ap, ◌∙◌, subst}
 use mathlib.Core.Bool.{Bool, true, false, cond}
 use mathlib.Core.List.{List}
@@ -196,13 +196,14 @@ module _ (part : List ℕ) (u : DueOf.Due) (d r w : ℕ) (ks : List ℕ) (at to 
   pub line_leaps : RanTo part at Run.Line 0 to → Leaps part (here_of Mode.Line u d r w, ks) at (here_of Mode.Line u d r w, ks) to
   unfolding on_mode sane_mode
   line_leaps h =
-      run_leaps part Run.Line 0 (λ k. (here_of Mode.Line u d r w, ks)) (λ k p b e. line_note b (note_of b) (note_is_lem b) e _ p)
+      run_leaps part Run.Line 0 (λ k. (here_of Mode.Line u d r w, ks)) (λ k p b e. line_note b (note_of b) (note_is_lem b) e (here_of Mode.Line u d r w, ks) p)
       (λ k n i. within_more n _ _ i i.deep (omega arith) (omega arith) refl) 0 at to h
 
   pub block_leaps : RanTo part at Run.Block 0 to → Leaps part (here_of Mode.Block u d r w, ks) at (here_of Mode.Block u d r w, ks) to
   unfolding on_mode sane_mode
   block_leaps h =
-      run_leaps part Run.Block 0 (λ k. (here_of Mode.Block u d r w, ks)) (λ k p b e. block_note b (note_of b) (note_is_lem b) e _ p)
+      run_leaps part Run.Block 0 (λ k. (here_of Mode.Block u d r w, ks)) (λ k p b e.
+      block_note b (note_of b) (note_is_lem b) e (here_of Mode.Block u d r w, ks) p)
       (λ k n i. within_more n _ _ i i.deep (omega arith) (omega arith) refl) 0 at to h
 
 between_hash : (u : DueOf.Due) (d r w : ℕ) (ks : List ℕ) (p b : ℕ) → b ≡ ch "#"

@@ -106,15 +106,15 @@ module _ (part : List ℕ) (x : Spot) (ks : List ℕ) (y : Spot) (ls : List ℕ)
       → Skips part x ks y ls
   unfolding on_mode between
   value_opens c u e h =
-      stepped_skips x ks y part (λ s p. Steps.opened s p c) ls within (λ p. rw (u, open_class (get_or part x.at 0) c e)) h
+      stepped_skips x ks y part (λ s p. Steps.opened s p c) ls within (λ p. simp (u, open_class (get_or part x.at 0) c e)) h
 
   pub value_closes : due_at x ≡ Due.Value → get_or part x.at 0 ≡ ch "]" → Stepped (λ s p. Steps.closed s p square) x ks y ls → Skips part x ks y ls
   unfolding on_mode between
-  value_closes u e h = stepped_skips x ks y part (λ s p. Steps.closed s p square) ls within (λ p. rw (u, e)) h
+  value_closes u e h = stepped_skips x ks y part (λ s p. Steps.closed s p square) ls within (λ p. simp (u, e)) h
 
   pub key_closes : due_at x ≡ Due.Key → get_or part x.at 0 ≡ ch "}" → Stepped (λ s p. Steps.closed s p curly) x ks y ls → Skips part x ks y ls
   unfolding on_mode between
-  key_closes u e h = stepped_skips x ks y part (λ s p. Steps.closed s p curly) ls within (λ p. rw (u, e)) h
+  key_closes u e h = stepped_skips x ks y part (λ s p. Steps.closed s p curly) ls within (λ p. simp (u, e)) h
 
   pub after_skips : (u : DueOf.Due) → Afters u → due_at x ≡ u → (b : ℕ) → b ≡ get_or part x.at 0
       → Stepped (λ s p. on_after s p (class_of b)) x ks y ls → Skips part x ks y ls

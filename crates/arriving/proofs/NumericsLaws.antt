@@ -27,7 +27,6 @@ use Rattle.items.specs.declared.number.Acc.{Acc}
 use Rattle.items.specs.Between.NumberOrTime.{IsDigit, Held, Capped, pushed}
 use Rattle.items.proofs.NumberSettleLaws.{of_none, of_over, of_fits, capped_up, capped_dn}
 use Rattle.arriving.specs.declared.states.Figure.{Figure}
-use Rattle.arriving.specs.declared.states.Figure.TheVariants as Figure
 use Rattle.arriving.specs.declared.states.Stamp.{Stamp}
 use Rattle.arriving.specs.declared.states.Moment.{Moment}
 use Rattle.arriving.specs.declared.states.Mode.{Mode}

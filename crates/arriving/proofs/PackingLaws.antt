@@ -11,7 +11,6 @@ use Rattle.meaning.specs.Bytes.{le, flag}
 use Rattle.meaning.specs.Between.Words.{get}
 use Rattle.meaning.specs.Limits.{depth_limit}
 use Rattle.meaning.specs.declared.Refusal.{Refusal}
-use Rattle.meaning.specs.declared.Refusal.TheVariants as Refusal
 use Rattle.meaning.proofs.Bytes.{le_length, get_at, get_le}
 use Rattle.arriving.specs.declared.Check.{Check}
 use Rattle.arriving.specs.declared.states.Due as DueOf

@@ -21,12 +21,10 @@ use Rattle.reader.specs.declared.Answer.{Answer}
 use Rattle.reader.specs.declared.Answer.TheVariants.{Counts, Refused}
 use Rattle.arriving.specs.declared.states.Due.{Due}
 use Rattle.arriving.specs.declared.states.Mode.{Mode}
-use Rattle.arriving.specs.declared.states.Mode.TheVariants as Mode
 use Rattle.arriving.specs.declared.states.Here.{Here}
 use Rattle.arriving.specs.declared.states.Out.{Out}
 use Rattle.arriving.specs.Between.Steps.{Stand, here_of, walked}
 use Rattle.arriving.specs.Between.Arriving.{sane_here, complete, end_out, end_mode}
-use Rattle.arriving.proofs.Alike
 use Rattle.arriving.proofs.Alike.{Alike}
 use Rattle.arriving.proofs.StepsLaws.{next_sane}
 use Rattle.arriving.proofs.PushdownModes.{InNumber, spelling, counting, timing, numeric_mode, InString, quoting, string_mode}

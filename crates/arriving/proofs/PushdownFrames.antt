@@ -11,7 +11,6 @@ use Rattle.meaning.specs.Tape.{records, elements_records, members_records, store
 use Rattle.grammar.specs.Values.{elements, members}
 use Rattle.machine.specs.Machine.{Bracket, square, curly, Frame, inside, pair, bare_of}
 use Rattle.arriving.specs.declared.states.Due.{Due}
-use Rattle.arriving.specs.declared.states.Due.TheVariants as Due
 use Rattle.arriving.specs.Between.Steps.{kind_of, top_of}
 
 -- ---- what a frame holds

@@ -19,9 +19,7 @@ use Rattle.machine.specs.Binaries as Binaries
 use Rattle.machine.specs.Names as Names
 use Rattle.machine.specs.Machine.{Use, as_value, as_key, Item, word, numeric, string_part, binary_part, identifier, Got, value, key, string, binary, lift, scan}
 use Rattle.arriving.specs.declared.states.Due.{Due}
-use Rattle.arriving.specs.declared.states.Due.TheVariants as Due
 use Rattle.arriving.specs.declared.states.Mode.{Mode}
-use Rattle.arriving.specs.declared.states.Mode.TheVariants as Mode
 use Rattle.arriving.specs.declared.states.Octets.TheVariants as Octets
 use Rattle.arriving.specs.declared.states.Out.{Out}
 use Rattle.arriving.specs.declared.states.Out.TheVariants.{Takes, Stops}
@@ -30,7 +28,6 @@ use Rattle.arriving.specs.Between.Times.{next_moment}
 use Rattle.arriving.specs.Between.Strings.{open_quote, next_quoted}
 use Rattle.arriving.specs.Between.Small.{next_word, next_octets, next_name}
 use Rattle.arriving.specs.Between.Arriving.{sane_mode}
-use Rattle.arriving.proofs.Alike
 use Rattle.arriving.proofs.Alike.{Alike}
 use Rattle.arriving.proofs.NumericsLaws.{NumericIs, MeaningGives, numeric_begin, figures_alike, timing_alike, spelling_alike, numeric_end}
 use Rattle.arriving.proofs.StringsLaws.{StringIs, strings_alike, strings_begin, strings_end}

@@ -11,7 +11,6 @@ use Rattle.arriving.specs.declared.states.Stamp.{Stamp}
 use Rattle.arriving.specs.declared.states.Moment.{Moment}
 use Rattle.arriving.specs.declared.states.Octets.{Octets}
 use Rattle.arriving.specs.declared.states.Mode.{Mode}
-use Rattle.arriving.specs.declared.states.Mode.TheVariants as Mode
 use Rattle.arriving.proofs.NumericsLaws.{NumericIs, numeric_by}
 use Rattle.arriving.proofs.StringsLaws.{StringIs, is_one, is_two, is_opened, is_cr, is_lines, is_body, is_escape, is_unicode, is_hex, is_brace_open}
 use Rattle.arriving.proofs.StringsLaws.{is_brace, is_done}

@@ -30,9 +30,7 @@ use Rattle.machine.specs.Machine.{Class, blank_c, hash_c, slash_c, comma_c, colo
 use Rattle.machine.specs.Machine.{open_c, close_c, Note, line_end, star_n, slash_n, plain_n, control_n}
 use Rattle.machine.proofs.Classes.{ClassIs, class_is_lem}
 use Rattle.arriving.specs.declared.states.Due.{Due}
-use Rattle.arriving.specs.declared.states.Due.TheVariants as Due
 use Rattle.arriving.specs.declared.states.Mode.{Mode}
-use Rattle.arriving.specs.declared.states.Mode.TheVariants as Mode
 use Rattle.arriving.specs.declared.states.Out.{Out}
 use Rattle.arriving.specs.declared.states.Out.TheVariants.{Takes}
 use Rattle.arriving.specs.Between.Figures.{begin_figure}
@@ -41,7 +39,6 @@ use Rattle.arriving.specs.declared.states.Here.{Here}
 use Rattle.arriving.specs.Between.Steps
 use Rattle.arriving.specs.Between.Steps.{Stand, here_of, kind_of, comma, closed, opened, begun_figure, between, done, on_mode, next}
 use Rattle.arriving.specs.Between.Arriving.{sane_mode, sane_here}
-use Rattle.arriving.proofs.Alike
 use Rattle.arriving.proofs.Alike.{Alike, moved}
 use Rattle.arriving.proofs.SmallLaws.{Spelt, null_spelt, true_spelt, false_spelt, class_letter}
 use Rattle.arriving.proofs.PushdownModes.{InNumber, spelling, counting, timing, numeric_mode, InString, quoting, string_mode}

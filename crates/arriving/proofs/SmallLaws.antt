@@ -167,6 +167,7 @@ name_alike base (Names.name acc) n p b (named e) = by (Names.class_of b)
     by Names.letter = takes (named (longer acc b n e))
     by Names.figure = takes (named (longer acc b n e))
     by Names.neither = stops e
+name_alike base Names.start n p b x = elim x [ ]
 
 pub name_begin : (base p b : ℕ) → Names.class_of b ≡ Names.letter
     → Alike NameIs (λ u m. length u ≡ m) base 0 (Takes Naming 1) (Names.scan p Names.begin b)

@@ -19,7 +19,6 @@ use Rattle.machine.specs.Numeric.{month, day, hour, minute, second, offset_hour,
 use Rattle.machine.proofs.Numeric.Rows.{dg_class, DgIs}
 use Rattle.arriving.specs.declared.states.Stamp.{Stamp}
 use Rattle.arriving.specs.declared.states.Slot.{Slot}
-use Rattle.arriving.specs.declared.states.Slot.TheVariants as Slot
 use Rattle.arriving.specs.declared.states.Moment.{Moment}
 use Rattle.arriving.specs.declared.states.Moment.TheVariants.{Field, Spaced, Point, Fraction, Zulu}
 use Rattle.arriving.specs.declared.states.Mode.{Mode}
@@ -286,7 +285,8 @@ module _ (Is : Mode → St → ℕ → Type 0) (Gives : Meaning → ℕ → Type
     field_alike p l two DgIs.other = Alike.breaks refl
     field_alike p l (one h) DgIs.other = Alike.breaks refl
 
-    spaced_alike : (d : Date) {b : ℕ} {c : Dg} → DgIs b c → Alike Is Gives base 0 (next_spaced (stamp (base + q) true (ok_date d)) b c) (Numeric.on_spaced q d b c)
+    spaced_alike : (d : Date) {b : ℕ} {c : Dg} → DgIs b c → Alike Is Gives base 0 (next_spaced (stamp (base + q) true (ok_date d)) b c)
+        (Numeric.on_spaced q d b c)
     spaced_alike d (DgIs.digit i) = rw zero-add (on_alike (inside {l = hour d} (one (omega arith))))
     spaced_alike d DgIs.other = tested_alike q true {g = ok_date d} (LocalDate d) refl
 

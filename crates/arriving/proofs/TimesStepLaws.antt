@@ -13,9 +13,7 @@ use Rattle.machine.proofs.Runs.{NoDigit}
 use Rattle.machine.proofs.Numeric.Rows.{dg_digit, dg_none, sec_digit, sec_class, SecIs, day_class, DayIs}
 use Rattle.arriving.specs.declared.states.Stamp.{Stamp}
 use Rattle.arriving.specs.declared.states.Slot.{Slot}
-use Rattle.arriving.specs.declared.states.Slot.TheVariants as Slot
 use Rattle.arriving.specs.declared.states.Moment.{Moment}
-use Rattle.arriving.specs.declared.states.Moment.TheVariants as Moment
 use Rattle.arriving.specs.declared.states.Out.{Out}
 use Rattle.arriving.specs.declared.states.Out.TheVariants.{Breaks}
 use Rattle.arriving.specs.Between.Times.{judged, within, goes_on, field_due, tested_out, next_day, next_offset, next_zone, next_second}
@@ -131,7 +129,8 @@ module _ (s : Stamp) where
     pub full_month : {y : ℕ} → l ≡ Slot.Month y → r ≡ only_then s (Slot.Day y v) (ch "-") p b → r ≡ next_full s l v p b
     full_month e h = h ∙ rw e
 
-    pub full_day : {y m : ℕ} {g : Bool} {t : Stamp} → l ≡ Slot.Day y m → g ≡ is_date y m v → t ≡ judged s g → r ≡ next_day t (day_of b) → r ≡ next_full s l v p b
+    pub full_day : {y m : ℕ} {g : Bool} {t : Stamp} → l ≡ Slot.Day y m → g ≡ is_date y m v → t ≡ judged s g → r ≡ next_day t (day_of b) → r
+        ≡ next_full s l v p b
     full_day e f k h = h ∙ rw (k, f, e)
 
     module _ {t : Stamp} where

@@ -1,4 +1,6 @@
 // A check of a text that arrives in parts, cut anywhere: `check_finish` answers what `measure` answers for the parts joined, with 15 left out.
+#![tactic(auto)]
+
 mod classes;
 mod ends;
 mod figures;

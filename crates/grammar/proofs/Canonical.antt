@@ -93,7 +93,8 @@ module _ (f : NumberMeant → List ℕ) (numbers : (n : NumberMeant) → GoodNum
     value_with (binary s) g d h = Value.binary (binary_derived s g)
     value_with (time t) g d h = Value.time_value (time_derived t g)
     value_with (array ms) g d h = deeper (λ d. Value true d (text_with f (array ms)) (array ms)) (λ e l. Value.array Room.falls (elements_whole ms g e l)) d h
-    value_with (object ms) g d h = deeper (λ d. Value true d (text_with f (object ms)) (object ms)) (λ e l. Value.object Room.falls (members_whole ms g e l)) d h
+    value_with (object ms) g d h = deeper (λ d. Value true d (text_with f (object ms)) (object ms)) (λ e l. Value.object Room.falls (members_whole ms g e l)) d
+        h
 
     elements_before : (ms : Meanings) → GoodElements ms → (d : ℕ) → elements_depth ms ≤ d
         → Before d (elements none) (elements_with f ms ++ elements_comma ms) (elements ms)
@@ -121,7 +122,8 @@ module _ (f : NumberMeant → List ℕ) (numbers : (n : NumberMeant) → GoodNum
         (members_before ms g.0 d (most_left (members_depth ms) (depth m) d h))
         (member_derived ms (Key.string (string_derived g.1)) (value_with m g.2 d (most_right (members_depth ms) (depth m) d h))))
 
-    members_whole : (ms : Members) → GoodMembers ms → (d : ℕ) → members_depth ms ≤ d → Rest true d (members bare) (members_with f ms ++ letters "}") (members ms)
+    members_whole : (ms : Members) → GoodMembers ms → (d : ℕ) → members_depth ms ≤ d
+        → Rest true d (members bare) (members_with f ms ++ letters "}") (members ms)
     members_whole bare g d h = Rest.close Ws.none Closes.brace
     members_whole (member ms k m) g d h =
         subst (λ (s : List ℕ). Rest true d (members bare) (s ++ letters "}") (members (member ms k m)))

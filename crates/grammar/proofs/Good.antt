@@ -1,15 +1,14 @@
 -- With the checks on, every derived meaning is good. Assumes nothing.
-use Prim.Native.Nat.{ℕ, zero, suc, ◌+◌, ◌*◌, ◌-◌, ◌≤◌, ◌<◌, ◌^◌, ◌%◌}
-use mathlib.Core.Path.{◌≡◌, refl, sym, ap, ◌∙◌, subst}
+use Prim.Native.Nat.{ℕ, zero, suc, ◌+◌, ◌*◌, ◌≤◌, ◌<◌, ◌^◌}
+use mathlib.Core.Path.{◌≡◌, refl, sym, ap, ◌∙◌}
 use mathlib.Core.Bool.{Bool, true, false, cond}
-use mathlib.Core.Logic.{◌⊎◌, inl, inr}
+use mathlib.Core.Logic.{inr}
 use mathlib.Core.List.{List, [], ◌∷◌, ◌++◌}
 use native.Mathlib.Nat.{mul_assoc, mul_comm, mul-one, mul-suc, suc-mul, pow-zero, pow-suc, pow-succ', mul-le-mul_right}
 use native.Mathlib.Omega.{arith}
-use lib.Dec.{T, leb, leb→le, lit≤, lit<}
-use lib.IntN.{ℤ, pos, negsuc, neg_ℤ, nat_abs}
-use borrow.Author.Tests.{leb-true, leb-false}
-use Rattle.rules.specs.Rfc3629.{In, Char, Octets, Scalar, encode}
+use lib.Dec.{T, leb, lit≤, lit<}
+use lib.IntN.{ℤ, pos, neg_ℤ, nat_abs}
+use Rattle.rules.specs.Rfc3629.{In, Octets, Scalar}
 use Rattle.rules.proofs.Characters.{join, one}
 use Rattle.rules.proofs.Numbers.{encoded}
 use Rattle.meaning.specs.declared.Number.{Number as NumberMeant}
@@ -20,13 +19,13 @@ use Rattle.meaning.specs.Limits.{depth_limit, day, offset_limit}
 use Rattle.meaning.specs.Good.{GoodFinite, GoodNumber, GoodDate, GoodTime, Bytes, GoodParts, GoodElements, GoodMembers, most, depth, elements_depth}
 use Rattle.meaning.specs.Good.{members_depth, Good}
 use Rattle.grammar.specs.Checks.{Room}
-use Rattle.grammar.specs.Characters.{Range, ◌to◌, Of, Among, Ascii, Many, Digit, Hexdig, Digits, Decimal, Hexadecimal}
+use Rattle.grammar.specs.Characters.{Range, Among, Ascii, Digit, Hexdig, Digits, Hexadecimal}
 use Rattle.grammar.specs.Numbers.{Finite, Unsigned, Number}
 use Rattle.grammar.specs.Strings.{Quote, double, single, mark, other, Chars, Quoted, Short, joined, Escape, unescaped, StringPart, Concat, String}
 use Rattle.grammar.specs.Times.{Fraction, TimeSecfrac, TimeHour, TimeMinute, LocalTimeText, LocalDateText, signed, TimeOffset, TimeValue}
 use Rattle.grammar.specs.Binary.{BEscape, b_unescaped, BPart, BDirect, BValue, Binary}
-use Rattle.grammar.specs.Keys.{Identifier, Key}
-use Rattle.grammar.specs.Values.{Inside, elements, members, Closes, Value, Rest, After, Item, Loose, Text}
+use Rattle.grammar.specs.Keys.{Key}
+use Rattle.grammar.specs.Values.{Inside, elements, members, Value, Rest, After, Item, Loose, Text}
 use Rattle.grammar.proofs.Utf8.{ascii, among, under, below, m_chars, identifier_octets}
 
 -- ---- how large digits can be

@@ -1,11 +1,10 @@
 -- Records and store bytes are each at most the text's length. Assumes nothing.
-use Prim.Native.Nat.{ℕ, zero, suc, ◌+◌, ◌≤◌, ◌<◌}
+use Prim.Native.Nat.{ℕ, suc, ◌+◌, ◌≤◌}
 use mathlib.Core.Path.{◌≡◌, refl, ap}
 use mathlib.Core.Bool.{Bool, true, false, cond}
 use mathlib.Core.List.{List, [], ◌∷◌, ◌++◌}
 use native.Mathlib.Omega.{arith}
 use lib.Dec.{leb, lit≤}
-use lib.IntN.{ℤ}
 use lib.ListN.{length, length-append}
 use Rattle.rules.specs.Rfc3629.{encode}
 use Rattle.meaning.specs.declared.Number.{Number as NumberMeant}
@@ -14,7 +13,7 @@ use Rattle.meaning.specs.declared.Time.{Time as TimeMeant}
 use Rattle.meaning.specs.Meaning.{Meaning, Meanings, Members}
 use Rattle.meaning.specs.Letters.{ch}
 use Rattle.meaning.specs.Tape.{records, elements_records, members_records, store_of, elements_store, members_store, bytes}
-use Rattle.grammar.specs.Characters.{Ascii, Digits, Hexadecimal}
+use Rattle.grammar.specs.Characters.{Digits}
 use Rattle.grammar.specs.Numbers.{Int, Frac1, Dec, Unsigned, Number}
 use Rattle.grammar.specs.Strings.{Quote, Chars, Quoted, joined, Escape, StringPart, Concat, String}
 use Rattle.grammar.specs.Times.{LocalTimeText, LocalDateText, TimeValue}

@@ -1,11 +1,11 @@
 -- Every derived text is UTF-8. Assumes nothing.
-use Prim.Native.Nat.{ℕ, zero, suc, ◌+◌, ◌*◌, ◌-◌, ◌≤◌, ◌<◌}
+use Prim.Native.Nat.{ℕ, ◌≤◌}
 use mathlib.Core.Bool.{Bool, true, false, cond}
-use mathlib.Core.Logic.{◌⊎◌, inl, inr}
-use mathlib.Core.List.{List, [], ◌∷◌, ◌++◌}
+use mathlib.Core.Logic.{inl, inr}
+use mathlib.Core.List.{List, [], ◌∷◌}
 use native.Mathlib.Omega.{arith}
 use lib.Dec.{T, leb, leb→le, lit≤}
-use Rattle.rules.specs.Rfc3629.{In, Char, Octets, Scalar, encode}
+use Rattle.rules.specs.Rfc3629.{Char, Octets}
 use Rattle.rules.proofs.Characters.{join, one}
 use Rattle.rules.proofs.Numbers.{encoded}
 use lib.IntN.{ℤ}

@@ -1,12 +1,13 @@
 -- Numbers, and the sign, coefficient and power that each means (docs/FORMAT.md, 5). Assumes nothing.
-use Rattle.std.specs.Prelude.{ℕ, zero, suc, ◌+◌, ◌*◌, ◌-◌, ◌≤◌, ◌<◌, ◌%◌, ◌^◌, ◌≡◌, Bool, true, false, List, [], ◌∷◌, ◌++◌, pos, negsuc}
+use Rattle.std.specs.Prelude.{ℕ, suc, ◌+◌, ◌*◌, ◌-◌, ◌≤◌, ◌<◌, ◌%◌, ◌^◌, ◌≡◌, Bool, true, false, List, [], ◌∷◌, ◌++◌}
+use Rattle.std.specs.Prelude.{pos, negsuc}
 use Rattle.rules.specs.Rfc3629.{In}
 use Rattle.meaning.specs.declared.Number as M
 use Rattle.meaning.specs.declared.Number.TheVariants.{NotANumber, Infinite, Finite as FiniteNumber}
 use Rattle.meaning.specs.Limits.{coefficient_limit, power_limit}
 use Rattle.meaning.specs.Letters.{letters, ch}
 use Rattle.grammar.specs.Checks.{Checked}
-use Rattle.grammar.specs.Characters.{Digit, Decimal, Hexadecimal}
+use Rattle.grammar.specs.Characters.{Decimal, Hexadecimal}
 
 -- m × 10 ^ up / 10 ^ dn as a sign, a coefficient that does not end in the digit 0 and a power of ten, nothing
 -- rounded; zero has coefficient 0 and power 0. The coefficient is below 2^64; the power lies from -9,999 to 9,999.

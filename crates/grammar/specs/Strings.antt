@@ -1,5 +1,5 @@
 -- Strings: their parts, their escapes, and how parts are joined (docs/FORMAT.md, 3). Assumes nothing.
-use Rattle.std.specs.Prelude.{ℕ, zero, suc, ◌+◌, ◌*◌, ◌-◌, ◌≡◌, Bool, List, [], ◌∷◌, ◌++◌}
+use Rattle.std.specs.Prelude.{ℕ, suc, ◌+◌, ◌*◌, ◌-◌, ◌≡◌, Bool, List, [], ◌∷◌, ◌++◌}
 use Rattle.rules.specs.Rfc3629.{In, Scalar, encode}
 use Rattle.meaning.specs.Letters.{letters, ch}
 use Rattle.grammar.specs.Checks.{Checked}

@@ -6,7 +6,7 @@ use Rattle.meaning.specs.declared.Time as M
 use Rattle.meaning.specs.declared.Time.TheVariants.{LocalDate, LocalTime, LocalDateTime, OffsetDateTime}
 use Rattle.meaning.specs.Limits.{fraction_digits}
 use Rattle.meaning.specs.Clock.{time_of_day}
-use Rattle.meaning.specs.Letters.{letters, ch}
+use Rattle.meaning.specs.Letters.{ch}
 use Rattle.grammar.specs.Checks.{Checked}
 use Rattle.grammar.specs.Characters.{Digit, Decimal}
 
@@ -78,5 +78,6 @@ pub data TimeValue (k : Bool) : List ℕ → M.Time → Type 0 where
   local_time : {a : List ℕ} {n : ℕ} → LocalTimeText k a n → TimeValue k a (LocalTime n)
   local_date_time : {a b : List ℕ} {d : D.Date} {x n : ℕ} → LocalDateText k a d → Separator x → LocalTimeText k b n
       → TimeValue k (a ++ (x ∷ b)) (LocalDateTime d n)
-  offset_date_time : {a b c : List ℕ} {d : D.Date} {x n : ℕ} {o : ℤ} → LocalDateText k a d → Separator x → LocalTimeText k b n
+  offset_date_time : {a b c : List ℕ} {d : D.Date} {x n : ℕ} {o : ℤ} → LocalDateText k a d → Separator x
+      → LocalTimeText k b n
       → TimeOffset k c o → TimeValue k (a ++ (x ∷ (b ++ c))) (OffsetDateTime d n o)

@@ -1,21 +1,21 @@
 -- Binary parts, a byte at a time. Assumes nothing.
-use mathlib.Core.Path.{◌≡◌, refl, sym, ap, ◌∙◌, subst}
-use mathlib.Core.Bool.{Bool, true, false, cond}
+use mathlib.Core.Path.{◌≡◌, refl, sym, ap, ◌∙◌}
+use mathlib.Core.Bool.{false}
 use mathlib.Core.List.{List, [], ◌∷◌, ◌++◌}
-use Prim.Native.Nat.{ℕ, suc, ◌+◌, ◌*◌, ◌≤◌, ◌<◌}
+use Prim.Native.Nat.{ℕ, ◌+◌, ◌*◌, ◌≤◌, ◌<◌}
 use native.Mathlib.Omega.{arith}
 use native.Mathlib.Decide.{dec_lt}
-use lib.Dec.{eqb, ltb, leb}
+use lib.Dec.{eqb}
 use lib.ListN.{length, drop, get_or, set, length-append}
-use lib.Seq.{sets, length-sets}
+use lib.Seq.{sets}
 use borrow.Author.Tests.{lt-ltb, le-ltb, le-leb, lt-leb, eq-eqb, ne_eqb}
 use Rattle.meaning.specs.declared.Refusal.TheVariants.{NotGrammar}
 use Rattle.meaning.specs.Letters.{ch}
-use Rattle.machine.specs.Scan.{Out, takes, stops, breaks, over, Ran, ended, broke, ran}
+use Rattle.machine.specs.Scan.{Out, takes, stops, breaks, over, ended, broke, ran}
 use Rattle.machine.specs.Strings.{hex_of, no_digit, short_of, no_short}
-use Rattle.machine.specs.Binaries.{St, start, dollar, text, esc, hex, hex_low, low, pairs, dot, done, begin, on_digit, on_short, on_text, scan}
+use Rattle.machine.specs.Binaries.{St, dollar, text, esc, hex, hex_low, low, pairs, dot, done, begin, on_digit, on_short, on_text, scan}
 use Rattle.items.specs.Between.Places.{digit_at, Runs}
-use Rattle.items.specs.Between.BinaryPart.{PairSays, Escaped, EscapeSays, OneByte, OneByteSays, Closing, StateSays, PairsSays, TextSays, PieceSays}
+use Rattle.items.specs.Between.BinaryPart.{PairSays, Escaped, EscapeSays, OneByteSays, Closing, StateSays, PieceSays}
 use Rattle.items.specs.declared.binary_part.Pair.{Pair}
 use Rattle.items.specs.declared.binary_part.Octet.{Octet}
 use Rattle.items.specs.declared.binary_part.Piece.{Piece}
@@ -40,7 +40,8 @@ module _ (s : List ℕ) (p : ℕ) where
       by (Dec.no g) = absurd (omega (arith, digit_none (omega arith)))
 
   module _ (c : St) (next : ℕ → St) (instead : Out St (List ℕ)) where
-    pub digit_goes : scan p c (get_or s p 0) ≡ on_digit (hex_of (get_or s p 0)) next instead → digit_at s p < no_digit → Runs scan s c p (next (digit_at s p)) (p + 1)
+    pub digit_goes : scan p c (get_or s p 0) ≡ on_digit (hex_of (get_or s p 0)) next instead → digit_at s p < no_digit
+        → Runs scan s c p (next (digit_at s p)) (p + 1)
     unfolding on_digit
     digit_goes e h =
         let i = digit_in h in
@@ -125,7 +126,8 @@ module _ (s : List ℕ) (p : ℕ) where
 
         pub escape_low : no_digit ≤ digit_at s (p + 2) → EscapeSays s p (Octet.NotGrammar (p + 2))
         unfolding scan
-        escape_low l = λ c a. after_high c a ∙ digit_breaks s (p + 2) (hex_low c a (digit_at s (p + 1))) (λ x. text c (a ++ ((16 * digit_at s (p + 1) + x) ∷ [])))
+        escape_low l = λ c a. after_high c a ∙ digit_breaks s (p + 2) (hex_low c a (digit_at s (p + 1)))
+            (λ x. text c (a ++ ((16 * digit_at s (p + 1) + x) ∷ [])))
             (λ b. refl) l
 
         pub escape_hex : digit_at s (p + 2) < no_digit → EscapeSays s p (Octet.Byte (16 * digit_at s (p + 1) + digit_at s (p + 2)) (p + 3))

@@ -1,12 +1,12 @@
 -- Identifiers, letter by letter. Assumes nothing.
-use mathlib.Core.Path.{◌≡◌, refl, sym, ap, ◌∙◌}
+use mathlib.Core.Path.{◌≡◌, ◌∙◌}
 use mathlib.Core.List.{List, [], ◌∷◌, ◌++◌, append_assoc, append-nil}
 use Prim.Native.Nat.{ℕ, suc, ◌+◌, ◌-◌, ◌≤◌, ◌<◌}
 use native.Mathlib.Omega.{arith}
 use lib.ListN.{length, take, drop, get_or, length-drop}
 use lib.Seq.{take-suc, get_or-drop}
 use Rattle.machine.specs.Scan.{takes, ran}
-use Rattle.machine.specs.Names.{St, name, scan, on_name, on_start, Class, class_of, letter, figure, neither}
+use Rattle.machine.specs.Names.{name, scan, on_name, class_of, letter, figure, neither}
 use Rattle.items.specs.Between.Places.{Onward}
 use Rattle.items.specs.Between.Identifier.{NameEnds}
 use Rattle.items.proofs.PlacesLaws.{run_take, here, further}

@@ -78,7 +78,10 @@ module _ (q : ℕ) (g : Bool) (m f : ℕ) where
   same_exp p b x y = go (digit? b)
     where
       none : NoDigit b → S.exp_of b ≡ S.other_e
-      none (NoDigit.under h) = found S.exp_table S.other_e b S.other_e (inr ((λ i. omega arith), inr ((λ i. x (omega arith)), inr ((λ i. y (omega arith)), refl))))
+      none (NoDigit.under h) = found S.exp_table S.other_e b S.other_e (inr (
+        (λ i. omega arith),
+        inr ((λ i. x (omega arith)), inr ((λ i. y (omega arith)), refl)),
+      ))
       none (NoDigit.past h) = found S.exp_table S.other_e b S.other_e (inr ((λ i. omega arith), inr ((λ i. omega arith), inr ((λ i. omega arith), refl))))
 
       go : IsDigit b ⊎ NoDigit b → scan p (exp q g m f) b ≡ scan p (exp_sign q g m f false) b
@@ -116,7 +119,8 @@ module _ (s : List ℕ) (q : ℕ) (g : Bool) (a : Acc) (f i : ℕ) (r : Scanned)
   pub none_over : length s ≤ i → Settles q g a 0 f i r → From s a i (λ m. frac q g m f) r
   none_over h t = record { reads = λ m o. halts (settle q g m 0 f) (rw (byte_out s i h)) (t.closes m o) }
 
-  pub none_other : i < length s → Edge s i → (get_or s i 0 ≡ ch "e" → ⊥) → (get_or s i 0 ≡ ch "E" → ⊥) → Settles q g a 0 f i r → From s a i (λ m. frac q g m f) r
+  pub none_other : i < length s → Edge s i → (get_or s i 0 ≡ ch "e" → ⊥) → (get_or s i 0 ≡ ch "E" → ⊥) → Settles q g a 0 f i r
+      → From s a i (λ m. frac q g m f) r
   none_other h e x y t = record {
     reads = λ m o. halts (settle q g m 0 f) (frac_other q g m f (num_class (byte_at s i)) (edge_none e) (rw (← byte_in s i h) at x)
         (rw (← byte_in s i h) at y)) (t.closes m o);
@@ -192,7 +196,8 @@ module _ (s : List ℕ) (q : ℕ) (g : Bool) (i : ℕ) where
 
   module _ (a : Acc) (c : a.c ≡ 0) (v : a.over ≡ false) (r : Scanned) (h : i < length s) where
     pub point_digits : IsDigit (get_or s i 0) → From s a i (λ m. frac q g m 0) r → Reads s i (point q g) r
-    point_digits d t = let b = byte_in s i h in same (frac q g 0 0) (rw (b, dg_digit (get_or s i 0) d, num_digit (get_or s i 0) d)) (t.reads 0 (holds_none a c v))
+    point_digits d t = let b = byte_in s i h in same (frac q g 0 0) (rw (b, dg_digit (get_or s i 0) d, num_digit (get_or s i 0) d))
+        (t.reads 0 (holds_none a c v))
 
     pub nought_e : (get_or s i 0 ≡ ch "e") ⊎ (get_or s i 0 ≡ ch "E") → From s a i (λ m. frac q g m 0) r → Reads s i (nought q g) r
     nought_e (inl e) t = let b = byte_in s i h in same (frac q g 0 0) (rw (b, e)) (t.reads 0 (holds_none a c v))
@@ -201,7 +206,8 @@ module _ (s : List ℕ) (q : ℕ) (g : Bool) (i : ℕ) where
     pub nought_point : get_or s i 0 ≡ ch "." → From s a (i + 1) (λ m. frac q g m 0) r → Reads s i (nought q g) r
     nought_point e t = took (frac q g 0 0) h (rw e) (t.reads 0 (holds_none a c v))
 
-  pub nought_x : (r : Scanned) → i < length s → (get_or s i 0 ≡ ch "x") ⊎ (get_or s i 0 ≡ ch "X") → Reads s (i + 1) (S.hex_mark q g) r → Reads s i (nought q g) r
+  pub nought_x : (r : Scanned) → i < length s → (get_or s i 0 ≡ ch "x") ⊎ (get_or s i 0 ≡ ch "X") → Reads s (i + 1) (S.hex_mark q g) r
+      → Reads s i (nought q g) r
   nought_x r h (inl e) t = took (S.hex_mark q g) h (rw e) t
   nought_x r h (inr e) t = took (S.hex_mark q g) h (rw e) t
 

@@ -1,5 +1,5 @@
 -- Words, a sign, and what begins a number or a time value. Assumes nothing.
-use Prim.Native.Nat.{ℕ, suc, ◌+◌, ◌-◌, ◌≤◌, ◌<◌}
+use Prim.Native.Nat.{ℕ, suc, ◌+◌, ◌≤◌, ◌<◌}
 use mathlib.Core.Path.{◌≡◌, refl, subst}
 use mathlib.Core.Bool.{Bool, true, false, cond}
 use mathlib.Core.List.{List, [], ◌∷◌}
@@ -104,7 +104,8 @@ module _ (s : List ℕ) (q : ℕ) (g : Bool) (i : ℕ) where
         → Reads s i (sign q g) r
     sign_digit a c o r l u t =
         let b = byte_in s i h in
-        same (int q g 0) (rw (b, fst_digit (get_or s i 0) (record { low = l; high = u }), num_digit (get_or s i 0) (omega arith))) (t.reads 0 (holds_none a c o))
+        same (int q g 0) (rw (b, fst_digit (get_or s i 0) (record { low = l; high = u }), num_digit (get_or s i 0) (omega arith)))
+        (t.reads 0 (holds_none a c o))
 
 -- ---- the first byte
 

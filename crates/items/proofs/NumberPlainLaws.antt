@@ -1,29 +1,26 @@
 -- Plain digits: their value as it is, and what they lead to. Assumes nothing.
-use Prim.Native.Nat.{ℕ, zero, suc, ◌+◌, ◌*◌, ◌-◌, ◌≤◌, ◌<◌, ◌%◌, ◌^◌}
-use mathlib.Core.Path.{◌≡◌, refl, sym, ◌∙◌, ap, subst}
+use Prim.Native.Nat.{ℕ, zero, suc, ◌+◌, ◌*◌, ◌-◌, ◌≤◌, ◌<◌, ◌^◌}
+use mathlib.Core.Path.{◌≡◌, refl, sym, ◌∙◌, subst}
 use mathlib.Core.Bool.{Bool, true, false}
-use mathlib.Core.Logic.{◌⊎◌, inl, inr}
+use mathlib.Core.Logic.{inl}
 use mathlib.Core.List.{List}
 use native.Mathlib.Omega.{arith}
-use native.Mathlib.Nat.{mul-one, zero-mul, zero-add, pow-suc, pow-le-pow_right, mul-le-mul_right}
-use native.Mathlib.Numerals.{add-one}
-use lib.Dec.{eqb, leb}
+use native.Mathlib.Nat.{zero-mul, zero-add, pow-suc, pow-le-pow_right, mul-le-mul_right}
+use lib.Dec.{leb}
 use lib.ListN.{length, get_or}
-use borrow.Author.Tests.{leb-true, leb-false, ne_eqb}
+use borrow.Author.Tests.{leb-true, leb-false}
 use Rattle.meaning.specs.Letters.{ch}
-use Rattle.machine.specs.Scan.{takes}
-use Rattle.machine.specs.Numeric as S
-use Rattle.machine.specs.Numeric.{St, scan, dig, begin, both, int, frac, settle, d1, d2, d3, d4}
-use Rattle.machine.proofs.Numeric.Rows.{num_class, num_digit}
+use Rattle.machine.specs.Numeric.{dig, int, frac, settle}
+use Rattle.machine.proofs.Numeric.Rows.{num_class}
 use Rattle.items.specs.Between.Places.{byte_at}
-use Rattle.items.specs.Between.NumberOrTime.{Reads, IsDigit, Edge, Held, Holds, Span, Ended, PlainSays, Settles, Onto, len_of, From}
+use Rattle.items.specs.Between.NumberOrTime.{Reads, Edge, Held, Holds, Span, Ended, PlainSays, Settles}
 use Rattle.items.specs.declared.number.Acc.{Acc}
 use Rattle.items.specs.declared.number.Plain.{Plain}
 use Rattle.items.specs.declared.Scanned.{Scanned}
 use Rattle.items.proofs.PlacesLaws.{byte_in, byte_out}
 use Rattle.items.proofs.NumberOrTimeLaws.{edge_none, took, halts, same}
 use Rattle.items.proofs.NumberDigitLaws.{span_next}
-use Rattle.items.proofs.NumberDecimalLaws.{span_low, span_int, span_frac, frac_other, int_other}
+use Rattle.items.proofs.NumberDecimalLaws.{span_low, span_frac, frac_other, int_other}
 
 -- ---- values
 

@@ -1,5 +1,5 @@
 -- Blocks of plain bytes. Assumes nothing.
-use mathlib.Core.Path.{◌≡◌, refl, sym, ap, ◌∙◌, subst}
+use mathlib.Core.Path.{◌≡◌, sym, ap, ◌∙◌}
 use mathlib.Core.List.{List, ◌++◌, append_assoc}
 use Prim.Native.Nat.{ℕ, zero, suc, ◌+◌, ◌-◌, ◌≤◌, ◌<◌}
 use native.Mathlib.Decide.{ℕ_discrete}
@@ -8,7 +8,6 @@ use lib.ListN.{length, get_or, take, drop}
 use lib.Seq.{take-add, drop-drop}
 use Rattle.meaning.specs.Letters.{ch}
 use Rattle.machine.specs.Scan.{over}
-use Rattle.machine.specs.Strings as S
 use Rattle.machine.specs.Strings.{mk, whole, body, scan}
 use Rattle.items.specs.Between.StringPart.{gap, Plain, Plains, Passed}
 use Rattle.items.specs.Between.Places.{ran_from}

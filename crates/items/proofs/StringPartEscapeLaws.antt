@@ -58,57 +58,58 @@ module _ (s : List ℕ) (at : ℕ) (h0 : at < length s) (e0 : get_or s at 0 ≡ 
 
 -- ---- four digits
 
-module _ (s : List ℕ) (at : ℕ) (pre : (at + 2 < length s) × (get_or s at 0 ≡ ch "\\") × (get_or s (at + 1) 0 ≡ ch "u") × (get_or s (at + 2) 0 ≡ ch "{" → ⊥)) where
-  to0 : (base : ℕ) (k : Ctx) → Goes scan base s (body k) at (hex k (base + at) 3 0) (at + 2)
-  to0 base k = to_hex base s at (omega (arith, pre.0)) pre.1 k (omega (arith, pre.0)) pre.2 pre.0 pre.3
+module _ (s : List ℕ) (at : ℕ) (pre : (at + 2 < length s) × (get_or s at 0 ≡ ch "\\") × (get_or s (at + 1) 0 ≡ ch "u") × (get_or s (at + 2) 0 ≡ ch "{" → ⊥))
+  where
+    to0 : (base : ℕ) (k : Ctx) → Goes scan base s (body k) at (hex k (base + at) 3 0) (at + 2)
+    to0 base k = to_hex base s at (omega (arith, pre.0)) pre.1 k (omega (arith, pre.0)) pre.2 pre.0 pre.3
 
-  module _ (a : ℕ) (ea : a ≡ digit_at s (at + 2)) where
-    pub four0 : 16 ≤ a → Broken s at (at + 2)
-    four0 g = record { ends = λ base k. to0 base k ∙ undig base s k (base + at) (at + 2) (omega arith) 3 0; within = omega (arith, pre.0) }
+    module _ (a : ℕ) (ea : a ≡ digit_at s (at + 2)) where
+      pub four0 : 16 ≤ a → Broken s at (at + 2)
+      four0 g = record { ends = λ base k. to0 base k ∙ undig base s k (base + at) (at + 2) (omega arith) 3 0; within = omega (arith, pre.0) }
 
-    module _ (la : a < 16) where
-      to1 : (base : ℕ) (k : Ctx) → Goes scan base s (body k) at (hex k (base + at) 2 a) (at + 3)
-      unfolding hexed
-      to1 base k = to0 base k ∙ dig base s k (base + at) 3 0 (at + 2) (at + 3) a (omega arith) (omega arith) (omega arith)
+      module _ (la : a < 16) where
+        to1 : (base : ℕ) (k : Ctx) → Goes scan base s (body k) at (hex k (base + at) 2 a) (at + 3)
+        unfolding hexed
+        to1 base k = to0 base k ∙ dig base s k (base + at) 3 0 (at + 2) (at + 3) a (omega arith) (omega arith) (omega arith)
 
-      module _ (b : ℕ) (eb : b ≡ digit_at s (at + 3)) where
-        pub four1 : 16 ≤ b → Broken s at (at + 3)
-        four1 g = record { ends = λ base k. to1 base k ∙ undig base s k (base + at) (at + 3) (omega arith) 2 a; within = omega (arith, pre.0) }
+        module _ (b : ℕ) (eb : b ≡ digit_at s (at + 3)) where
+          pub four1 : 16 ≤ b → Broken s at (at + 3)
+          four1 g = record { ends = λ base k. to1 base k ∙ undig base s k (base + at) (at + 3) (omega arith) 2 a; within = omega (arith, pre.0) }
 
-        module _ (lb : b < 16) where
-          to2 : (base : ℕ) (k : Ctx) → Goes scan base s (body k) at (hex k (base + at) 1 (16 * a + b)) (at + 4)
-          unfolding hexed
-          to2 base k = to1 base k ∙ dig base s k (base + at) 2 a (at + 3) (at + 4) (16 * a + b) (omega arith) (omega arith) (omega arith)
+          module _ (lb : b < 16) where
+            to2 : (base : ℕ) (k : Ctx) → Goes scan base s (body k) at (hex k (base + at) 1 (16 * a + b)) (at + 4)
+            unfolding hexed
+            to2 base k = to1 base k ∙ dig base s k (base + at) 2 a (at + 3) (at + 4) (16 * a + b) (omega arith) (omega arith) (omega arith)
 
-          module _ (c : ℕ) (ec : c ≡ digit_at s (at + 4)) where
-            pub four2 : 16 ≤ c → Broken s at (at + 4)
-            four2 g = record {
-              ends = λ base k. to2 base k ∙ undig base s k (base + at) (at + 4) (omega arith) 1 (16 * a + b);
-              within = omega (arith, digit_in s (at + 3) (omega arith));
-            }
+            module _ (c : ℕ) (ec : c ≡ digit_at s (at + 4)) where
+              pub four2 : 16 ≤ c → Broken s at (at + 4)
+              four2 g = record {
+                ends = λ base k. to2 base k ∙ undig base s k (base + at) (at + 4) (omega arith) 1 (16 * a + b);
+                within = omega (arith, digit_in s (at + 3) (omega arith));
+              }
 
-            module _ (lc : c < 16) where
-              to3 : (base : ℕ) (k : Ctx) → Goes scan base s (body k) at (hex k (base + at) 0 (16 * (16 * a + b) + c)) (at + 5)
-              unfolding hexed
-              to3 base k = to2 base k ∙ dig base s k (base + at) 1 (16 * a + b) (at + 4) (at + 5) (16 * (16 * a + b) + c) (omega arith) (omega arith)
-                  (omega arith)
-
-              module _ (d : ℕ) (ed : d ≡ digit_at s (at + 5)) where
-                pub four3 : 16 ≤ d → Broken s at (at + 5)
-                four3 g = record {
-                  ends = λ base k. to3 base k ∙ undig base s k (base + at) (at + 5) (omega arith) 0 (16 * (16 * a + b) + c);
-                  within = omega (arith, digit_in s (at + 4) (omega arith));
-                }
-
-                pub four4 : d < 16 → Halved s at (at + 6) (16 * (16 * (16 * a + b) + c) + d)
+              module _ (lc : c < 16) where
+                to3 : (base : ℕ) (k : Ctx) → Goes scan base s (body k) at (hex k (base + at) 0 (16 * (16 * a + b) + c)) (at + 5)
                 unfolding hexed
-                four4 ld = record {
-                  goes = λ base k. to3 base k ∙ dig base s k (base + at) 0 (16 * (16 * a + b) + c) (at + 5) (at + 6) (16 * (16 * (16 * a + b) + c) + d)
-                      (omega arith) (omega arith) (omega arith);
-                  six = refl;
-                  within = omega (arith, digit_in s (at + 5) (omega arith));
-                  small = omega arith;
-                }
+                to3 base k = to2 base k ∙ dig base s k (base + at) 1 (16 * a + b) (at + 4) (at + 5) (16 * (16 * a + b) + c) (omega arith) (omega arith)
+                    (omega arith)
+
+                module _ (d : ℕ) (ed : d ≡ digit_at s (at + 5)) where
+                  pub four3 : 16 ≤ d → Broken s at (at + 5)
+                  four3 g = record {
+                    ends = λ base k. to3 base k ∙ undig base s k (base + at) (at + 5) (omega arith) 0 (16 * (16 * a + b) + c);
+                    within = omega (arith, digit_in s (at + 4) (omega arith));
+                  }
+
+                  pub four4 : d < 16 → Halved s at (at + 6) (16 * (16 * (16 * a + b) + c) + d)
+                  unfolding hexed
+                  four4 ld = record {
+                    goes = λ base k. to3 base k ∙ dig base s k (base + at) 0 (16 * (16 * a + b) + c) (at + 5) (at + 6) (16 * (16 * (16 * a + b) + c) + d)
+                        (omega arith) (omega arith) (omega arith);
+                    six = refl;
+                    within = omega (arith, digit_in s (at + 5) (omega arith));
+                    small = omega arith;
+                  }
 
 -- ---- digits in braces
 

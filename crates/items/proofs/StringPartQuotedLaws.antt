@@ -60,7 +60,8 @@ module _ (s : List ℕ) (q from : ℕ) where
   }
 
   module _ (at : ℕ) (t : Passing s q from at) where
-    pub pass_more : at < length s → (get_or s at 0 ≡ ch "\\" → ⊥) → (get_or s at 0 ≡ q → ⊥) → 0x20 ≤ get_or s at 0 → get_or s at 0 < over → Passing s q from (at + 1)
+    pub pass_more : at < length s → (get_or s at 0 ≡ ch "\\" → ⊥) → (get_or s at 0 ≡ q → ⊥) → 0x20 ≤ get_or s at 0 → get_or s at 0 < over
+        → Passing s q from (at + 1)
     unfolding scan on_body plain_byte
     pass_more h a b c d =
         let n : at + 1 - from ≡ suc (at - from) = omega (arith, t.behind) in
@@ -259,7 +260,8 @@ module _ (s : List ℕ) (at : ℕ) (entry : List ℕ) where
     module _ (h1 : 2 ≤ length s) where
       pub one_body : (get_or s 1 0 ≡ q → ⊥) → (exit : List ℕ) (r : Part) → InnerSays s q at entry exit r → OneSays s q at entry exit r
       unfolding scan
-      one_body n exit r t = says_as (length s) at entry exit (λ base. ran_from scan base s (one q) 1) (λ base. ran_from scan base s (body (mk q fine whole [])) 1)
+      one_body n exit r t = says_as (length s) at entry exit (λ base. ran_from scan base s (one q) 1)
+          (λ base. ran_from scan base s (body (mk q fine whole [])) 1)
           (λ base. like scan base s (one q) (body (mk q fine whole [])) 1 (omega arith) (simp (ne_eqb _ _ n))) r t
 
       module _ (e1 : get_or s 1 0 ≡ q) where

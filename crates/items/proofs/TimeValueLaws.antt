@@ -165,7 +165,8 @@ module _ (q : ℕ) (c : Clock) (at : ℕ) (y : Bool) (f : y ≡ clock_test c) wh
   module _ (d : Date) (x : Bool) (e : x ≡ ok_date d) where
     pub stamp_good : x ≡ true → y ≡ true → (n : ℕ) → n ≡ clock_of → (r : Scanned) → r ≡ Item (Item.Time (LocalDateTime d n)) at
         → Closes at (clock_done q (S.on d) c.hour c.minute c.second c.nanos) r
-    stamp_good g h n k r j = test_yes q at (ok_date d && clock_test c) (LocalDateTime d clock_of) r (both_true (ok_date d) (clock_test c) (sym e ∙ g) (sym f ∙ h))
+    stamp_good g h n k r j = test_yes q at (ok_date d && clock_test c) (LocalDateTime d clock_of) r
+        (both_true (ok_date d) (clock_test c) (sym e ∙ g) (sym f ∙ h))
         (j ∙ ap (λ (z : ℕ). Item (Item.Time (LocalDateTime d z)) at) k)
 
     pub stamp_clock : y ≡ false → Closes at (clock_done q (S.on d) c.hour c.minute c.second c.nanos) (Refused (BadTime q))

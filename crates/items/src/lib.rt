@@ -1,4 +1,6 @@
 // The items of a text, each by itself: words, identifiers, parts of strings and of binary, numbers and times.
+#![tactic(auto)]
+
 pub mod binary_part;
 pub mod hex_digit;
 pub mod identifier;

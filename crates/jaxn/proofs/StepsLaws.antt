@@ -1,10 +1,9 @@
 -- A text read into a tape and a store, and these written: the line that is printed. Assumes nothing.
 use mathlib.Core.Path.{◌≡◌, refl, sym, ap, ◌∙◌, subst}
-use mathlib.Core.Bool.{true}
-use mathlib.Core.List.{List, ◌++◌}
+use mathlib.Core.List.{List}
 use Prim.Native.Nat.{ℕ, ◌*◌, ◌≤◌, ◌<◌}
 use native.Mathlib.Omega.{arith}
-use lib.ListN.{length, take, drop}
+use lib.ListN.{length, take}
 use lib.Seq.{take_at}
 use Rattle.rules.specs.Paper.{Said, refused, number_said, place_said}
 use Rattle.rules.proofs.Outcomes.{done_apart}
@@ -14,7 +13,7 @@ use Rattle.meaning.specs.Meaning.{Meaning}
 use Rattle.meaning.specs.Limits.{text_limit}
 use Rattle.meaning.specs.Paper.{number_of, place_of, refusal_said}
 use Rattle.meaning.specs.Canonical.{canonical}
-use Rattle.meaning.specs.Tape.{tape_of, store_of, records, bytes, WellFormed}
+use Rattle.meaning.specs.Tape.{tape_of, store_of, bytes, WellFormed}
 use Rattle.meaning.proofs.Text.{canonical_short}
 use Rattle.meaning.proofs.Whole.{tape_length}
 use Rattle.grammar.specs.Values.{Text}
@@ -22,13 +21,13 @@ use Rattle.grammar.proofs.Good.{text_good}
 use Rattle.grammar.proofs.Sizes.{text_fits}
 use Rattle.reader.specs.declared.Answer.{Answer}
 use Rattle.reader.specs.declared.Answer.TheVariants.{Counts}
-use Rattle.reader.specs.Answers.{Reads, answer_said, tape_bytes, filled, tape_short, store_short}
+use Rattle.reader.specs.Answers.{Reads, tape_bytes, filled, tape_short, store_short}
 use Rattle.reader.proofs.Claims.{Held, read_accepts}
 use Rattle.writer.specs.declared.Written.{Written}
 use Rattle.writer.specs.declared.Written.TheVariants.{Wrote, Refused}
 use Rattle.writer.specs.Paper.{write_said}
 use Rattle.writer.specs.Written.{Writes, WritesJaxn, too_long, too_short, written}
-use Rattle.writer.proofs.Outcomes.{written_jaxn, wrote_length, refused_apart}
+use Rattle.writer.proofs.Outcomes.{written_jaxn, wrote_length}
 use Rattle.lanternrung.proofs.Claims.Writing.{text_length}
 use Rattle.jaxn.specs.Line.{room, refused_line, Line, output_short, printed}
 use Rattle.jaxn.specs.Between.Steps.{Rewrites, refusing, printing}

@@ -6,7 +6,8 @@ ghost use Rattle.jaxn.specs.Line.{refused_line, Tells};
 ghost use Rattle.jaxn.specs.Between.Steps.{Within, Rewrites};
 
 use lanternrung::{Answer, Written};
-use libc::{STDIN_FILENO, STDOUT_FILENO};
+use std::io;
+use std::io::{Read, Write};
 use writer::byte_or_digit;
 
 // The longest input, and what is lent for the tape, the store and the output.
@@ -15,28 +16,24 @@ const ROOM: usize = 65536;
 // One byte more tells a longer input.
 const MORE: usize = ROOM + 1;
 
-// What standard input gave: so many bytes, or a read that failed.
+// What standard input gave: so many bytes, or a read that failed, and why.
 #[derive(Clone, Copy)]
 enum Input {
     Bytes(usize),
-    Failed,
+    Failed(io::Error),
 }
 
 // Reads until the room is full or the input ends; a read that brings little, as from a pipe, is no end.
-fn fill(room: &mut [u8]) -> Input
+fn fill<R: Read>(from: &mut R, room: &mut [u8]) -> Input
     ensures { Within result (length room.old) }
 {
     let mut at: usize = 0;
     while at < room.len() {
-        let got = libc::read(STDIN_FILENO, &mut room[at..]);
-        if got < 0 {
-            return Input::Failed;
+        match from.read(&mut room[at..]) {
+            Err(why) => return Input::Failed(why),
+            Ok(0) => return Input::Bytes(at),
+            Ok(more) => at += more,
         }
-        let more = io::count(got, &room[at..]);
-        if more == 0 {
-            return Input::Bytes(at);
-        }
-        at += more;
     }
     Input::Bytes(at)
 }
@@ -87,16 +84,37 @@ fn line(input: &[u8], out: &mut [u8]) -> usize
     }
 }
 
+// The reason alone: after it an error's text has its number.
+fn reason(text: &str) -> &str {
+    match text.split_once(" (os error ") {
+        Some((words, _)) => words,
+        None => text,
+    }
+}
+
+// Tells on standard error what could not be read or written, and the reason.
+fn tell(rt: &impl Eprint, what: &str, why: io::Error) {
+    let mut text = [0u8; 256];
+    let mut rest = &mut text[..];
+    let _ = write!(rest, "{why}");
+    let left = rest.len();
+    let size = text.len().saturating_sub(left);
+    let _ = match str::from_utf8(&text[..size]) {
+        Ok(words) => eprintln!(rt; "jaxn: {what}: {}", reason(words)),
+        Err(_) => eprintln!(rt; "jaxn: {what}"),
+    };
+}
+
 // Standard input whole, or so much that it is known to be too long; then its line.
-fn main() {
+fn main(rt: HostRuntime) {
     let mut input = [0u8; MORE];
     let mut out = [0u8; MORE];
-    match fill(&mut input) {
-        Input::Failed => os::fail(b"jaxn: standard input"),
+    match fill(&mut rt.stdin(), &mut input) {
+        Input::Failed(why) => tell(&rt, "standard input", why),
         Input::Bytes(n) => {
             let size = line(&input[..n], &mut out);
-            if !io::write_all(STDOUT_FILENO, &out[..size]) {
-                os::fail(b"jaxn: standard output");
+            if let Err(why) = rt.write_all(&out[..size]) {
+                tell(&rt, "standard output", why);
             }
         }
     }

@@ -2,8 +2,6 @@
 -- about any program that keeps them. Assumes nothing.
 use Rattle.std.specs.Prelude.{◌≡◌, ◌↔◌, ◌⊎◌, true, List, [], ◌++◌, ℕ, ◌*◌, ◌/◌, ◌≤◌, length, take, drop}
 use Rattle.std.proofs.Math.Option.{none}
-use Rattle.rules.specs.declared.Utf8Answer.{Utf8Answer}
-use Rattle.rules.specs.declared.DateAnswer.{DateAnswer}
 use Rattle.rules.specs.Rfc3629.{Judged}
 use Rattle.rules.specs.Rfc3339.{Dated}
 use Rattle.meaning.specs.declared.Refusal.{Refusal}
@@ -18,7 +16,6 @@ use Rattle.meaning.specs.Paper.{number_of}
 use Rattle.meaning.specs.Tape.{records, bytes, tape_of, store_of, WellFormed}
 use Rattle.grammar.specs.Values.{Loose, Text}
 use Rattle.grammar.specs.Refused.{Repeats, TextRefused}
-use Rattle.tape.specs.declared.Looked.{Looked}
 use Rattle.tape.specs.Looking.{Looks}
 use Rattle.reader.specs.declared.Answer.{Answer}
 use Rattle.reader.specs.Answers.{tape_bytes, Measures, Loosely, Reads}
@@ -26,10 +23,8 @@ use Rattle.arriving.specs.declared.Check.{Check}
 use Rattle.arriving.specs.Between.Arriving.{started, fed, feds, ended, joined}
 use Rattle.writer.specs.declared.Written.{Written}
 use Rattle.writer.specs.Written.{WritesJaxn, WritesJson}
-use Rattle.lanternrung.specs.declared.exports.Status.{Status}
 use Rattle.lanternrung.specs.declared.exports.Sizes.{Sizes}
 use Rattle.lanternrung.specs.declared.exports.Text.{Text as TextStruct}
-use Rattle.lanternrung.specs.declared.exports.Fields.{Fields}
 use Rattle.lanternrung.specs.Told.{Utf8Told, DateTold, MeasureTold, ReadTold, LookTold, JaxnTold, JsonTold}
 use Rattle.lanternrung.specs.Told.{CheckStartTold, CheckFeedTold, CheckFinishTold, LooselyTold}
 

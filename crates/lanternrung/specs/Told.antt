@@ -2,8 +2,6 @@
 -- and 0 where nothing is refused; in a refusal all else is 0. Assumes nothing.
 use Rattle.std.specs.Prelude.{◌≡◌, List, ℕ, ◌+◌, ℤ, pos}
 use Rattle.std.proofs.lemmas.List.Edits.{sets}
-use Rattle.rules.specs.declared.Utf8Answer.{Utf8Answer}
-use Rattle.rules.specs.declared.DateAnswer.{DateAnswer}
 use Rattle.rules.specs.Paper.{Said, utf8_said, date_said, number_said, place_said}
 use Rattle.rules.specs.Rfc3339.{Dated}
 use Rattle.rules.specs.Rfc3629.{Judged}

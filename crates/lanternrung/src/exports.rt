@@ -1,4 +1,5 @@
-// The calls for C and Rust (include/lanternrung.h). Each passes on the library's answer, as its number and place (docs/FORMAT.md, 10.1).
+// The calls for C and Rust (include/lanternrung.h), which crate `lanternrung_c` exports under these names. Each passes on the library's answer, as its
+// number and place (docs/FORMAT.md, 10.1).
 ghost use Rattle.std.specs.Prelude.{◌≡◌};
 ghost use Rattle.meaning.specs.Bytes.{flag};
 ghost use Rattle.lanternrung.specs.Told.{sizes_of, text_of, refused_fields, plain_fields, container_fields, number_fields, dated_fields, time_fields, fields_of};
@@ -275,8 +276,7 @@ fn fields_of(r: Record) -> Fields
 }
 
 // Whether the bytes are UTF-8: refusal 2, with its place, where they are not.
-#[unsafe(no_mangle)]
-pub extern "C" fn lanternrung_utf8(bytes: &[u8]) -> Status
+pub fn lanternrung_utf8(bytes: &[u8]) -> Status
     ensures { Utf8Told bytes.now result }
 {
     match rules::utf8(bytes) {
@@ -292,8 +292,7 @@ pub extern "C" fn lanternrung_utf8(bytes: &[u8]) -> Status
 }
 
 // Whether there is such a date: refusal 5, at place 0, where there is none.
-#[unsafe(no_mangle)]
-pub extern "C" fn lanternrung_date(year: u64, month: u64, day: u64) -> Status
+pub fn lanternrung_date(year: u64, month: u64, day: u64) -> Status
     ensures { DateTold year month day result }
 {
     match rules::date(year, month, day) {
@@ -309,24 +308,21 @@ pub extern "C" fn lanternrung_date(year: u64, month: u64, day: u64) -> Status
 }
 
 // How many records and store bytes the text needs, or the refusal.
-#[unsafe(no_mangle)]
-pub extern "C" fn lanternrung_measure(text: &[u8]) -> Sizes
+pub fn lanternrung_measure(text: &[u8]) -> Sizes
     ensures { MeasureTold text.now result }
 {
     sizes_of(reader::measure(text))
 }
 
 // How many records and store bytes the text has filled, or the refusal.
-#[unsafe(no_mangle)]
-pub extern "C" fn lanternrung_read(text: &[u8], tape: &mut [u8], store: &mut [u8]) -> Sizes
+pub fn lanternrung_read(text: &[u8], tape: &mut [u8], store: &mut [u8]) -> Sizes
     ensures { ReadTold text.now tape.old store.old result tape.new store.new }
 {
     sizes_of(reader::read(text, tape, store))
 }
 
 // The record at this index, or the refusal.
-#[unsafe(no_mangle)]
-pub extern "C" fn lanternrung_look(tape: &[u8], store: &[u8], index: u64) -> Fields
+pub fn lanternrung_look(tape: &[u8], store: &[u8], index: u64) -> Fields
     ensures { LookTold tape.now store.now index result }
 {
     match tape::look(tape, store, index as usize) {
@@ -336,40 +332,35 @@ pub extern "C" fn lanternrung_look(tape: &[u8], store: &[u8], index: u64) -> Fie
 }
 
 // The length of the canonical text in the output, or the refusal.
-#[unsafe(no_mangle)]
-pub extern "C" fn lanternrung_write_jaxn(tape: &[u8], store: &[u8], out: &mut [u8]) -> Text
+pub fn lanternrung_write_jaxn(tape: &[u8], store: &[u8], out: &mut [u8]) -> Text
     ensures { JaxnTold tape.now store.now out.old result out.new }
 {
     text_of(writer::write_jaxn(tape, store, out))
 }
 
 // The length of the JSON text in the output, or the refusal.
-#[unsafe(no_mangle)]
-pub extern "C" fn lanternrung_write_json(tape: &[u8], store: &[u8], out: &mut [u8]) -> Text
+pub fn lanternrung_write_json(tape: &[u8], store: &[u8], out: &mut [u8]) -> Text
     ensures { JsonTold tape.now store.now out.old result out.new }
 {
     text_of(writer::write_json(tape, store, out))
 }
 
 // A check of a text in parts begins: its state is put into the first bytes lent, whatever they held.
-#[unsafe(no_mangle)]
-pub extern "C" fn lanternrung_check_start(state: &mut [u8])
+pub fn lanternrung_check_start(state: &mut [u8])
     ensures { CheckStartTold state.old state.new }
 {
     packing::keep(arriving::check_start(), state);
 }
 
 // The next part of the text.
-#[unsafe(no_mangle)]
-pub extern "C" fn lanternrung_check_feed(state: &mut [u8], part: &[u8])
+pub fn lanternrung_check_feed(state: &mut [u8], part: &[u8])
     ensures { CheckFeedTold state.old part.now state.new }
 {
     packing::keep(arriving::check_feed(packing::kept(state), part), state);
 }
 
 // What `lanternrung_measure` hands over for the parts joined, with 15 left out. The state stays as it is.
-#[unsafe(no_mangle)]
-pub extern "C" fn lanternrung_check_finish(state: &[u8]) -> Sizes
+pub fn lanternrung_check_finish(state: &[u8]) -> Sizes
     ensures { CheckFinishTold state.now result }
 {
     sizes_of(arriving::check_finish(packing::kept(state)))

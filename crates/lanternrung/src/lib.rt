@@ -1,5 +1,7 @@
 // The public calls under one roof, with the types of their answers. Each call stands, with its promise, in the crate that is named
 // here. A refusal's number and place in the table of docs/FORMAT.md, 10, are `number` and `place`; the same calls for C are in `exports`.
+#![tactic(auto)]
+
 ghost use Rattle.std.specs.Prelude.{◌≡◌};
 ghost use Rattle.meaning.specs.Paper.{number_of, place_of};
 

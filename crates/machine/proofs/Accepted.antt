@@ -1,7 +1,7 @@
 -- What is accepted and what is refused, where every key may stand once in its object: no text has two meanings, or two refusals, or both; and
 -- which it has is told by the keys that the machine hears. Assumes nothing.
 use Prim.Native.Nat.{ℕ, ◌≤◌}
-use mathlib.Core.Path.{◌≡◌, sym, ap, ◌∙◌, subst}
+use mathlib.Core.Path.{◌≡◌, sym, ap, ◌∙◌}
 use mathlib.Core.Bool.{true}
 use mathlib.Core.Option.{none, some}
 use mathlib.Core.List.{List, []}
@@ -12,11 +12,11 @@ use Rattle.meaning.specs.declared.Refusal.TheVariants.{RepeatedKey}
 use Rattle.meaning.specs.Between.Events.{Event, first_repeat}
 use Rattle.meaning.proofs.Events.{none_once, once_none}
 use Rattle.grammar.specs.Values.{Loose, Text}
-use Rattle.grammar.specs.Refused.{Repeats, TextRefused, loose, repeated}
+use Rattle.grammar.specs.Refused.{TextRefused, loose, repeated}
 use Rattle.machine.specs.Heard.{Told, telling, heard_of}
 use Rattle.machine.proofs.Whole.{loosely_unambiguous}
 use Rattle.machine.proofs.Refusals.Whole.{one_loose_refusal, loose_not_refused}
-use Rattle.machine.proofs.Repeated.{KeyedText, text_keys_lem, heard_one}
+use Rattle.machine.proofs.Repeated.{text_keys_lem, heard_one}
 
 -- no text has two meanings
 pub unambiguous : {t : List ℕ} {m n : Meaning} → Text t m → Text t n → m ≡ n

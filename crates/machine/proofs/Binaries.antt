@@ -15,7 +15,6 @@ use Rattle.machine.specs.Binaries.{St, start, dollar, text, esc, hex, hex_low, l
 use Rattle.machine.proofs.Runs.{PartEnds, adv, Goes, took, halts, Steps, eats, steps_join, steps_go, OutIs}
 use Rattle.machine.proofs.Strings.Tests.{by_eqb, by_ltb, by_leb, hex_of_lem, hex_small, hex_ascii, hex_is, over_is, short_of_lem, short_is, ends_all}
 use Rattle.machine.proofs.Strings.Quotes.{Between, between, between_other, plain_char}
-use Rattle.machine.proofs.Strings.Ascii.{Ascii}
 
 abbrev Run : ℕ → St → List ℕ → St → Type 0
 Run = Steps scan
@@ -61,7 +60,8 @@ escape_steps (BEscape.short {b = b} {c = c} x) p q acc =
     let u = short_of_lem x in
     eats scan Steps.stay (rw (ne_eqb b 0x78 u.1.no_x, u.0, lt-ltb c 256 (omega arith)))
 escape_steps (BEscape.byte (Digits.next {x = x} h (Digits.next {x = y} g z))) p q acc =
-    let e = over_is z in rw (e.0, e.1) (eats scan (eats scan (eats scan Steps.stay (digit_step g (λ y. text q (acc ++ ((16 * x + y) ∷ []))) _ ∙ rw (pair_value x y)))
+    let e = over_is z in rw (e.0, e.1) (eats scan (eats scan (eats scan Steps.stay
+    (digit_step g (λ y. text q (acc ++ ((16 * x + y) ∷ []))) _ ∙ rw (pair_value x y)))
     (digit_step h (hex_low q acc) _)) refl)
 
 back_step : (p q : ℕ) (acc : List ℕ) → scan p (text q acc) (ch "\\") ≡ takes (esc q acc)

@@ -1,10 +1,11 @@
 -- What a byte's class says of it. Assumes nothing.
 use Prim.Native.Nat.{ℕ, ◌≤◌, ◌<◌}
-use mathlib.Core.Path.{◌≡◌, refl}
+use mathlib.Core.Path.{◌≡◌}
 use native.Mathlib.Omega.{arith}
 use Rattle.meaning.specs.Letters.{ch}
 use Rattle.machine.specs.Machine
-use Rattle.machine.specs.Machine.{Bracket, square, curly, Class, blank_c, hash_c, slash_c, comma_c, colon_c, plus_c, quote_c, dollar_c, letter_n, letter_t, letter_f}
+use Rattle.machine.specs.Machine.{Bracket, square, curly, Class, blank_c, hash_c, slash_c, comma_c, colon_c, plus_c, quote_c, dollar_c, letter_n, letter_t}
+use Rattle.machine.specs.Machine.{letter_f}
 use Rattle.machine.specs.Machine.{letter_c, other_c, open_c, close_c, class_of}
 use Rattle.machine.proofs.Tables.{◌&◌, cut_is}
 

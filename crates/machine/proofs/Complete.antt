@@ -1,9 +1,9 @@
 -- What the grammar derives, the machine reads, with that meaning; and what is heard meanwhile are its objects and keys. Assumes nothing.
-use Prim.Native.Nat.{ℕ, zero, suc, ◌+◌, ◌≤◌, ◌<◌}
+use Prim.Native.Nat.{ℕ, suc, ◌≤◌, ◌<◌}
 use mathlib.Core.Path.{◌≡◌, refl, sym, ap, ◌∙◌, subst}
 use mathlib.Core.Bool.{Bool, true, false}
-use mathlib.Core.Logic.{◌⊎◌, inl, inr}
-use mathlib.Core.Option.{Option, none, some}
+use mathlib.Core.Logic.{inl, inr}
+use mathlib.Core.Option.{some}
 use mathlib.Core.List.{List, [], ◌∷◌, ◌++◌, append_assoc, append-nil}
 use native.Mathlib.Omega.{arith}
 use Rattle.rules.specs.Rfc3629.{In}
@@ -12,14 +12,14 @@ use Rattle.meaning.specs.Limits.{depth_limit}
 use Rattle.meaning.specs.Meaning.{Meaning, Meanings, Members}
 use Rattle.meaning.specs.Between.Events.{Event, named}
 use Rattle.grammar.specs.Checks.{Room}
-use Rattle.grammar.specs.Comments.{Blank, LineEnd, CBeginLine, CLine, CBlock, Ws, Last}
+use Rattle.grammar.specs.Comments.{Blank, CBeginLine, CLine, CBlock, Ws, Last}
 use Rattle.grammar.specs.Characters.{Of}
 use Rattle.grammar.specs.Strings.{Quote, double, single, mark, StringPart, Concat, String}
 use Rattle.grammar.specs.Strings.{Quoted as Quoted-text}
 use Rattle.grammar.specs.Binary.{BValue, Binary}
 use Rattle.grammar.specs.Keys.{i_begin, Identifier, Key}
 use Rattle.grammar.specs.Values.{Inside, elements, members, Closes, Value, Rest, After, Item, Loose}
-use Rattle.machine.specs.Scan.{Out, takes, stops, breaks, over}
+use Rattle.machine.specs.Scan.{Out, takes, stops, over}
 use Rattle.machine.specs.Machine
 use Rattle.machine.specs.Machine.{Use, as_value, as_key, Got, Base, want, want_key, want_string, want_binary, got, Mode, base, line, item, Frame, inside}
 use Rattle.machine.specs.Machine.{pair, Conf, at, fail, step, read, reading, Verdict, Ok, No, class_of, Class, lift, scan, as_value_of, as_key_of, wanted}
@@ -355,7 +355,8 @@ numeric_told {a} {m} x p d k r h = go a (numeric_begins x) (numeric_goes x p)
     go c (N.Begins.begins {b = b} {a = t} y) w =
         begun_told Numeric.scan Machine.numeric Got.value (λ p s b. refl) w b t refl want [] d k r (lead_starts y p d k) (lead_quiet y) h
 
-pub word_told : (b : ℕ) (t : List ℕ) (m : Meaning) → ((p d : ℕ) (k : List Frame) → Machine.on_base p d k b want ≡ Machine.start p d k b (Machine.word (b ∷ t) m))
+pub word_told : (b : ℕ) (t : List ℕ) (m : Meaning) → ((p d : ℕ) (k : List Frame) → Machine.on_base p d k b want
+    ≡ Machine.start p d k b (Machine.word (b ∷ t) m))
     → (p d : ℕ) (k : List Frame) (r : List ℕ) → Follows EndsItem r → tell p (at (base want) d k) ((b ∷ t) ++ r)
     ≡ after (at_want (class_of b)) (tell (adv p (b ∷ t)) (at (base (got (Got.value m))) d k) r)
 word_told b t m e p d k r h =
@@ -536,7 +537,8 @@ opened_told c b f Room.falls a y K t p k r = told_saying _ _ _ _ _ (at_open c) _
 pub value_told : {d : ℕ} {a : List ℕ} {m : Meaning} (x : Value true d a m) (p : ℕ) (k : List Frame) (r : List ℕ) → Follows EndsItem r
     → tell p (at (base want) d k) (a ++ r) ≡ after (heard_of (value_keys x p)) (tell (adv p a) (at (base (got (got_of m))) d k) r)
 unfolding value_keys rest_keys after_keys item_keys
-value_told x = elim x as (λ d a m h. ValueTold d a m (value_keys h)) (λ d x a y h. RestTold d x a y (rest_keys h)) (λ d x a y h. AfterTold d x a y (after_keys h))
+value_told x = elim x as (λ d a m h. ValueTold d a m (value_keys h)) (λ d x a y h. RestTold d x a y (rest_keys h))
+    (λ d x a y h. AfterTold d x a y (after_keys h))
     (λ d x a y h. ItemTold d x a y (item_keys h)) [
       | Value.null_word {d = d} ↦ λ p k r h. word_told (ch "n") (letters "ull") Meaning.null (λ p d k. refl) p d k r h
       | Value.true_word {d = d} ↦ λ p k r h. word_told (ch "t") (letters "rue") (Meaning.bool true) (λ p d k. refl) p d k r h
@@ -548,7 +550,8 @@ value_told x = elim x as (λ d a m h. ValueTold d a m (value_keys h)) (λ d x a 
       | Value.array {a = a} {x = x} y (z → ih) ↦ λ p k r h. opened_told Machine.square (ch "[") refl y a (elements x) (rest_keys z) ih p k r
       | Value.object {a = a} {x = x} y (z → ih) ↦ λ p k r h. opened_told Machine.curly (ch "{") refl y a (members x) (rest_keys z) ih p k r
       | Rest.close {d = d} {b = b} {x = x} {w = w} y c ↦ close_told d b x w y c
-      | Rest.item {d = d} {x = x} {y = y} {z = z} {w = w} {a = a} {b = b} l (i → ih) (t → jh) ↦ rest_item_told d x y z w a b (item_keys i) (after_keys t) l ih jh
+      | Rest.item {d = d} {x = x} {y = y} {z = z} {w = w} {a = a} {b = b} l (i → ih) (t → jh) ↦ rest_item_told d x y z w a b (item_keys i) (after_keys t) l ih
+          jh
       | After.end {d = d} {b = b} {x = x} {w = w} y c ↦ end_told d b x w y c
       | After.comma {d = d} {x = x} {y = y} {w = w} {a = a} l (t → ih) ↦ comma_told d x y w a (rest_keys t) l ih
       | Item.element {d = d} {x = x} {a = a} {m = m} (v → ih) ↦ element_told d x a m (value_keys v) ih

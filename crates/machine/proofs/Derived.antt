@@ -2,8 +2,8 @@
 use Prim.Native.Nat.{ℕ, suc}
 use mathlib.Core.Bool.{true}
 use mathlib.Core.List.{List, [], ◌∷◌, ◌++◌}
-use Rattle.meaning.specs.Meaning.{Meaning, Meanings, Members}
-use Rattle.grammar.specs.Values.{Inside, elements, members, Closes, Value, Rest, After, Item, Loose}
+use Rattle.meaning.specs.Meaning.{Meaning}
+use Rattle.grammar.specs.Values.{Inside, elements, members, Value, Rest, After, Item, Loose}
 use Rattle.meaning.specs.Between.Events.{Event, begins, ends, named}
 use Rattle.machine.proofs.Runs.{adv}
 

@@ -1,20 +1,18 @@
 -- Layout, forwards: what the machine does over blanks and comments. Assumes nothing.
-use Prim.Native.Nat.{ℕ, zero, suc, ◌+◌, ◌≤◌, ◌<◌}
-use mathlib.Core.Path.{◌≡◌, refl, sym, ap, ◌∙◌, subst}
-use mathlib.Core.Bool.{Bool, true, false}
-use mathlib.Core.Logic.{◌⊎◌, inl, inr, ⊎_elim}
-use mathlib.Core.List.{List, [], ◌∷◌, ◌++◌, append_assoc, append-nil}
+use Prim.Native.Nat.{ℕ, suc, ◌≤◌, ◌<◌}
+use mathlib.Core.Path.{◌≡◌, refl, ap, ◌∙◌}
+use mathlib.Core.Logic.{inl, inr}
+use mathlib.Core.List.{List, [], ◌∷◌, ◌++◌, append_assoc}
 use native.Mathlib.Decide.{dec_lt}
 use native.Mathlib.Omega.{arith}
 use lib.ListN.{length}
-use Rattle.rules.specs.Rfc3629.{In, Char, Scalar, encode}
-use Rattle.rules.proofs.Characters.{Each, all_none, all_more, High, long, short, sized}
+use Rattle.rules.specs.Rfc3629.{encode}
+use Rattle.rules.proofs.Characters.{Each, all_none, all_more, High, long}
 use Rattle.rules.proofs.Numbers.{encoded, row_1}
 use Rattle.grammar.proofs.Bytewise.{longer}
-use Rattle.meaning.specs.Letters.{letters, ch}
-use Rattle.grammar.specs.Characters.{Range, ◌to◌, Of, Among, Many}
-use Rattle.grammar.specs.Characters as Characters
-use Rattle.grammar.specs.Comments.{CBeginLine, c_char, CLine, c_no_star, c_no_star_or_slash, Stars, CInner, CBlock, Blank, LineEnd, Ws, Last}
+use Rattle.meaning.specs.Letters.{ch}
+use Rattle.grammar.specs.Characters.{Range, Of, Among, Many}
+use Rattle.grammar.specs.Comments.{CBeginLine, c_char, CLine, c_no_star, c_no_star_or_slash, Stars, CInner, CBlock, Blank, LineEnd, Ws}
 use Rattle.machine.specs.Machine
 use Rattle.machine.specs.Machine.{Base, want, want_key, want_string, want_binary, got, Mode, base, slash, line, block, star, Frame, Conf, at, fail, step}
 use Rattle.machine.specs.Machine.{read, finish, Verdict, class_of, blank_c, note_of, Note, line_end, star_n, slash_n, plain_n, control_n}

@@ -14,7 +14,6 @@ use Rattle.machine.specs.Names.{Class, letter, figure, neither, rows, class_of, 
 use Rattle.machine.proofs.Tables.{◌&◌, cut_is, cut_found}
 use Rattle.machine.proofs.Runs.{PartEnds, Goes, took, halts, OutIs}
 use Rattle.machine.proofs.Strings.Tests.{by_eqb, ends_all}
-use Rattle.machine.proofs.Strings.Ascii.{Ascii}
 
 -- ---- classes
 

@@ -1,6 +1,6 @@
 -- Every refusal's place is at most the text's length. Assumes nothing.
-use Prim.Native.Nat.{ℕ, zero, suc, ◌+◌, ◌*◌, ◌≤◌, ◌<◌}
-use mathlib.Core.Path.{◌≡◌, refl, sym, ap, ◌∙◌, subst}
+use Prim.Native.Nat.{ℕ, zero, suc, ◌+◌, ◌*◌, ◌≤◌}
+use mathlib.Core.Path.{◌≡◌, refl, ap}
 use mathlib.Core.Bool.{Bool, true, false, cond}
 use mathlib.Core.Option.{Option, none, some}
 use mathlib.Core.List.{List, [], ◌∷◌, ◌++◌}
@@ -32,7 +32,6 @@ use Rattle.machine.specs.Machine
 use Rattle.machine.specs.Machine.{Got, Base, want, want_key, want_string, want_binary, got, base, line, item, Frame, inside, pair, Conf, at, fail, step}
 use Rattle.machine.specs.Machine.{read, finish, reading, Verdict, Ok, No, class_of, Class, lift, scan}
 use Rattle.machine.specs.Verdict.{decoded, verdict}
-use Rattle.machine.proofs.Runs.{adv}
 use Rattle.machine.proofs.Layouts.{Lay, plain_l, slash_l, line_l, block_l, star_l, mode_of, layout_keeps}
 use Rattle.machine.proofs.Numeric.{Blame, first_of, first_begin, numeric_first, numeric_place}
 
@@ -281,7 +280,8 @@ numeric_near p s b h = go (D.scan p s b) refl
     go (breaks r) e = numeric_place p s b r h e
 
 item_near : (p : ℕ) (i : Machine.Item) (b : ℕ) → ItemKept p i → Near ItemKept p (scan p i b)
-item_near p (Machine.word w m) b h = lift_near (λ q s. Unit {0}) (λ x. Machine.word x m) (λ x. Got.value m) (λ p s h. tt) p (N.word_scan p w b) (word_near p w b)
+item_near p (Machine.word w m) b h = lift_near (λ q s. Unit {0}) (λ x. Machine.word x m) (λ x. Got.value m) (λ p s h. tt) p (N.word_scan p w b)
+    (word_near p w b)
 item_near p (Machine.numeric s) b h = lift_near (λ q x. first_of x ≤ q) Machine.numeric Got.value (λ p s h. h) p (D.scan p s b) (numeric_near p s b h)
 item_near p (Machine.string_part z u s) b h = lift_near PartKept (Machine.string_part z u) (λ x. Got.string z (u ++ x)) (λ p s h. h) p (S.scan p s b)
     (part_near p s b h)
@@ -421,7 +421,8 @@ base_kept p d k b want = want_kept p d k b (class_of b)
 base_kept p d k b want_key = key_wanted_kept p d k b (class_of b)
 base_kept p d k b (want_string z u) = part_wanted_kept p d k b (want_string z u) _ _ (start_kept p d k b (Machine.string_part z u S.begin) tt) (odd_kept p)
     (class_of b)
-base_kept p d k b (want_binary u) = part_wanted_kept p d k b (want_binary u) _ _ (odd_kept p) (start_kept p d k b (Machine.binary_part u B.begin) tt) (class_of b)
+base_kept p d k b (want_binary u) = part_wanted_kept p d k b (want_binary u) _ _ (odd_kept p) (start_kept p d k b (Machine.binary_part u B.begin) tt)
+    (class_of b)
 base_kept p d k b (got g) = got_kept p d k g (class_of b)
 
 -- in layout as out of it

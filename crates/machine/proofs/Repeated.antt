@@ -355,7 +355,8 @@ array_leads {w} x d k p r = told_step p (at (base want) (suc d) k) (ch "[") (w +
 
 object_leads : {w : List ℕ} → Ws w → (d : ℕ) (k : List Frame)
     → Leads (at (base want) (suc d) k) (ch "{" ∷ w) (λ p. begins ∷ []) (at (base want_key) d (inside (members Members.bare) ∷ k))
-object_leads {w} x d k p r = told_saying p (at (base want) (suc d) k) (ch "{") (w ++ r) (at (base want_key) d (inside (members Members.bare) ∷ k)) (opens ∷ []) _
+object_leads {w} x d k p r = told_saying p (at (base want) (suc d) k) (ch "{") (w ++ r) (at (base want_key) d (inside (members Members.bare) ∷ k)) (opens ∷ [])
+    _
     refl refl (layout_told x want_key (suc p) d (inside (members Members.bare) ∷ k) r)
 
 colon_leads : {c u v w : List ℕ} → Key true c u → Ws v → Ws w → (x : Members) (d : ℕ) (k : List Frame)
@@ -368,7 +369,8 @@ comma_leads : {f : Frame} {m : Meaning} {y : Inside} → Adds f m y → {v w : L
     → Leads (at (base (got (got_of m))) d (f ∷ k)) (v ++ (ch "," ∷ w)) (λ p. []) (at (base (wanted y)) d (inside y ∷ k))
 comma_leads {f} {m} {y} g {v} {w} i j d k p r = simp (append_assoc, adv_join)
     (layout_told i (got (got_of m)) p d (f ∷ k) (ch "," ∷ (w ++ r))
-    ∙ told_step (adv p v) (at (base (got (got_of m))) d (f ∷ k)) (ch ",") (w ++ r) (at (base (wanted y)) d (inside y ∷ k)) _ (comma_after_lem g (adv p v) d k) refl
+    ∙ told_step (adv p v) (at (base (got (got_of m))) d (f ∷ k)) (ch ",") (w ++ r) (at (base (wanted y)) d (inside y ∷ k)) _ (comma_after_lem g (adv p v) d k)
+    refl
     (layout_told j (wanted y) (suc (adv p v)) d (inside y ∷ k) r))
 
 -- a value, and what follows up to where the next item may begin

@@ -1,35 +1,36 @@
 -- What the machine accepts, the grammar derives: backwards, `Comes c x t` says that t may still come at c for the text to mean x.
 -- Assumes nothing.
-use Prim.Native.Nat.{ℕ, zero, suc, ◌+◌, ◌≤◌, ◌<◌}
-use mathlib.Core.Path.{◌≡◌, refl, sym, ap, ap₂, ◌∙◌, subst, subst₂}
+use Prim.Native.Nat.{ℕ, zero, suc, ◌≤◌, ◌<◌}
+use mathlib.Core.Path.{◌≡◌, refl, sym, ap, ◌∙◌, subst}
 use mathlib.Core.Bool.{Bool, true, false}
-use mathlib.Core.Logic.{◌⊎◌, inl, inr, ⊎_elim}
+use mathlib.Core.Logic.{◌⊎◌, inl, inr}
 use mathlib.Core.Option.{Option, none, some}
 use mathlib.Core.List.{List, [], ◌∷◌, ◌++◌, append_assoc, append-nil}
 use native.Mathlib.Decide.{dec_lt, ℕ_discrete}
 use native.Mathlib.Omega.{arith}
 use lib.ListN.{length}
-use Rattle.rules.specs.Rfc3629.{In, Octets}
-use Rattle.rules.proofs.Characters.{after, split_ascii, join, same_head, same_tail}
+use Rattle.rules.specs.Rfc3629.{Octets}
+use Rattle.rules.proofs.Characters.{after, split_ascii, same_head}
 use Rattle.meaning.specs.Letters.{letters, ch}
 use Rattle.meaning.specs.Limits.{depth_limit, text_limit}
 use Rattle.meaning.specs.Meaning.{Meaning, Meanings, Members}
 use Rattle.meaning.specs.declared.Refusal.{Refusal}
 use Rattle.grammar.specs.Checks.{Room}
 use Rattle.grammar.specs.Characters.{Many}
-use Rattle.grammar.specs.Comments.{c_char, c_no_star, c_no_star_or_slash, Stars, CInner, Blank, LineEnd, CBeginLine, CLine, CBlock, Ws, Last}
+use Rattle.grammar.specs.Comments.{c_char, c_no_star, c_no_star_or_slash, Stars, Blank, LineEnd, CBeginLine, CLine, CBlock, Ws, Last}
 use Rattle.meaning.specs.declared.Time.TheVariants.{LocalDate}
 use Rattle.grammar.specs.Times.{TimeValue}
-use Rattle.grammar.specs.Strings.{StringPart, Concat, String}
-use Rattle.grammar.specs.Binary.{BValue, Binary}
-use Rattle.grammar.specs.Keys.{Identifier, Key}
+use Rattle.grammar.specs.Strings.{StringPart, Concat}
+use Rattle.grammar.specs.Binary.{BValue}
+use Rattle.grammar.specs.Keys.{Key}
 use Rattle.grammar.specs.Values.{Inside, elements, members, Closes, Value, Rest, After, Item, Loose}
 use Rattle.grammar.proofs.Utf8 as Utf8
 use Rattle.grammar.proofs.Bytewise
 use Rattle.machine.specs.Scan.{Out, takes, stops, breaks, over}
 use Rattle.machine.specs.Machine
 use Rattle.machine.specs.Machine.{Use, as_value, as_key, Got, Base, want, want_key, want_string, want_binary, got, Mode, base, line, item, Frame, inside}
-use Rattle.machine.specs.Machine.{pair, Conf, at, fail, step, read, finish, reading, Verdict, Ok, No, class_of, Class, lift, scan, as_value_of, as_key_of, wanted}
+use Rattle.machine.specs.Machine.{pair, Conf, at, fail, step, read, finish, reading, Verdict, Ok, No, class_of, Class, lift, scan, as_value_of, as_key_of}
+use Rattle.machine.specs.Machine.{wanted}
 use Rattle.machine.specs.Machine.{shut, bare_of, on_out}
 use Rattle.machine.specs.Numeric
 use Rattle.machine.specs.Strings
@@ -323,7 +324,8 @@ blank_of b y = go (ℕ_discrete b (ch "\t")) (ℕ_discrete b (ch "\n")) (ℕ_dis
     go (no f) (no g) (yes e) = rw e Blank.carriage_return
     go (no f) (no g) (no h) = rw (y.1 f g h) Blank.space
 
-blank_laid : (b : ℕ) → ClassIs b Machine.blank_c → (k : List Frame) (d : ℕ) (s : Base) (x : Meaning) (t : List ℕ) → BaseCome k d s x t → BaseCome k d s x (b ∷ t)
+blank_laid : (b : ℕ) → ClassIs b Machine.blank_c → (k : List Frame) (d : ℕ) (s : Base) (x : Meaning) (t : List ℕ) → BaseCome k d s x t
+    → BaseCome k d s x (b ∷ t)
 blank_laid b y k d s x t h = laid (Ws.blank (blank_of b y) Ws.none) k d s x t h
 
 pub end_low : {b : ℕ} → LineEnd b → b < 0x80
@@ -587,7 +589,8 @@ module _ {S M : Type 0} (Sub : S → List ℕ → M → Type 0) (f : S → Machi
   lifted s b (breaks r) h = tt
 
 item_is : (p : ℕ) (i : Machine.Item) (b : ℕ) → OutIs ItemRest i b (scan p i b)
-item_is p (Machine.word w m) b = lifted WordRest (λ a. Machine.word a m) (λ v. Got.value m) (λ s a y v r e. (v, r, e)) (λ s a y r. r) w b (Names.word_scan p w b)
+item_is p (Machine.word w m) b = lifted WordRest (λ a. Machine.word a m) (λ v. Got.value m) (λ s a y v r e. (v, r, e)) (λ s a y r. r) w b
+    (Names.word_scan p w b)
     (word_is p w b)
 item_is p (Machine.numeric s) b = lifted (NumericRest true) Machine.numeric Got.value (λ s a y v r e. (v, r, e)) (λ s a y r. r) s b (Numeric.scan p s b)
     (numeric_is true p s b)
@@ -721,7 +724,8 @@ back_got p d k g b x t Machine.blank_c y h = blank_laid b y k d (got g) x t h
 back_got p d k g b x t Machine.hash_c y h = back_hash p d k (got g) b x t y h
 back_got p d k g b x t Machine.slash_c y h = back_slash p d k (got g) b x t y h
 back_got p d k g b x t Machine.comma_c y h = λ o. need_value_lem p d k g b x t _ (λ m. comma_back p d k b m x t y (Bytewise.behind b t (omega arith) o)) h
-back_got p d k g b x t (Machine.close_c c) y h = λ o. need_value_lem p d k g b x t _ (λ m. close_back p d k b c m x t y (Bytewise.behind b t (closing_low b c y) o))
+back_got p d k g b x t (Machine.close_c c) y h = λ o. need_value_lem p d k g b x t _
+    (λ m. close_back p d k b c m x t y (Bytewise.behind b t (closing_low b c y) o))
     h
   where
     closing_low : (b : ℕ) (c : Machine.Bracket) → b ≡ closing c → b < 0x80
@@ -1010,7 +1014,8 @@ back_base p d k b x t (want_string z u) h =
     back_part p d k b x t (want_string z u) _ _ (λ q. string_more z u k d x (b ∷ t) (back_item p d k (Machine.string_part z u Strings.begin) b x t q))
     (λ q. absurd q) (class_of b) (class_is_lem b) h
 back_base p d k b x t (want_binary u) h =
-    back_part p d k b x t (want_binary u) _ _ (λ q. absurd q) (λ q. binary_more u k d x (b ∷ t) (back_item p d k (Machine.binary_part u Binaries.begin) b x t q))
+    back_part p d k b x t (want_binary u) _ _ (λ q. absurd q) (λ q. binary_more u k d x (b ∷ t)
+    (back_item p d k (Machine.binary_part u Binaries.begin) b x t q))
     (class_of b) (class_is_lem b) h
 back_base p d k b x t (got g) h = back_got p d k g b x t (class_of b) (class_is_lem b) h
 
@@ -1049,7 +1054,14 @@ ended k d s x e o = ended_come k d s x [] e (Last.ended Ws.none)
 end_out_lem : (p d : ℕ) (k : List Frame) (i : Machine.Item) (x : Meaning) (o : Out Machine.Item Got) → OutIs ItemRest i over o → Machine.end_out p k o ≡ Ok x
     → ItemCome k d i x []
 end_out_lem p d k i x (takes j) y e = absurd (refused e)
-end_out_lem p d k i x (stops g) y e = record { first = []; rest = []; gives = g; split = refl; does = y; goes = ended k d (got g) x (end_base_lem p k (got g) x e) }
+end_out_lem p d k i x (stops g) y e = record {
+  first = [];
+  rest = [];
+  gives = g;
+  split = refl;
+  does = y;
+  goes = ended k d (got g) x (end_base_lem p k (got g) x e);
+}
 end_out_lem p d k i x (breaks r) y e = absurd (refused e)
 
 finished : (p : ℕ) (c : Conf) (x : Meaning) → finish p c ≡ Ok x → Comes c x []

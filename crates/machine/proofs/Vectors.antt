@@ -278,8 +278,10 @@ vectors =
     ∷ []
 
 pub vectors_hold : gots vectors ≡ wants vectors
-unfolding text vectors gots wants verdict decoded judged fault_from length_at is_wide low_of high_of count_leading_zeros encode is_leap is_date depth_limit decimal_in decimal
+unfolding text vectors gots wants verdict decoded judged fault_from length_at is_wide low_of high_of count_leading_zeros encode is_leap is_date depth_limit
+    decimal_in decimal
     fixed trimmed escaped escapes quoted hex_pairs binary_text power_text zeros pointed finite_text number_text date_text fraction_text clock_text offset_text
-    time_text text_with strip settle read reading S.hex_of S.short_of S.alone S.unit S.in_braces S.hexed S.on_hex S.on_brace S.on_short S.plain_byte S.on_body S.line_byte
+    time_text text_with strip settle read reading S.hex_of S.short_of S.alone S.unit S.in_braces S.hexed S.on_hex S.on_brace S.on_short S.plain_byte S.on_body
+    S.line_byte
     S.on_lines S.scan B.on_digit B.on_short B.on_text B.scan N.class_of N.on_start N.on_name N.scan N.word_scan
 vectors_hold = refl

@@ -6,7 +6,7 @@ use Rattle.meaning.specs.Limits.{depth_limit}
 use Rattle.meaning.specs.Between.Events.{Event, begins, ends, named}
 use Rattle.machine.specs.Scan.{Out, takes, stops, breaks}
 use Rattle.machine.specs.Machine.{Item, Got, as_key_of, scan, Base, want, want_key, want_string, want_binary, got}
-use Rattle.machine.specs.Machine.{Mode, base, slash, line, block, star, item, Conf, at, fail, step, finish}
+use Rattle.machine.specs.Machine.{base, slash, line, block, star, item, Conf, at, fail, step, finish}
 use Rattle.machine.specs.Machine.{Verdict, Bracket, square, curly, Class, class_of, open_c, close_c}
 use Rattle.machine.specs.Machine.{blank_c, hash_c, slash_c, comma_c, colon_c, plus_c, quote_c, dollar_c}
 use Rattle.machine.specs.Machine.{letter_n, letter_t, letter_f, letter_c, other_c}

@@ -1,6 +1,6 @@
 -- The pushdown over the items (docs/FORMAT.md, 1.2 and 7): what is expected, the open arrays and objects with what they
 -- hold so far, the room left. Assumes nothing.
-use Rattle.std.specs.Prelude.{Bool, true, false, cond, List, [], ◌∷◌, ◌++◌, ℕ, zero, suc}
+use Rattle.std.specs.Prelude.{true, false, List, [], ◌∷◌, ◌++◌, ℕ, zero, suc}
 use Rattle.std.proofs.Math.Option.{Option, none, some}
 use Rattle.meaning.specs.Letters.{letters, ch}
 use Rattle.meaning.specs.Limits.{depth_limit}
@@ -110,8 +110,10 @@ abbrev pub classes : List (ℕ × Class)
 classes =
     (0x08, other_c) ∷ (ch "\n", blank_c) ∷ (0x0C, other_c) ∷ (ch "\r", blank_c) ∷ (0x1F, other_c) ∷ (ch " ", blank_c) ∷
     (ch "!", other_c)
-    ∷ (ch "\"", quote_c) ∷ (ch "#", hash_c) ∷ (ch "$", dollar_c) ∷ (ch "&", other_c) ∷ (ch "'", quote_c) ∷ (ch "*", other_c)
-    ∷ (ch "+", plus_c) ∷ (ch ",", comma_c) ∷ (ch ".", other_c) ∷ (ch "/", slash_c) ∷ (ch "9", other_c) ∷ (ch ":", colon_c)
+    ∷ (ch "\"", quote_c) ∷ (ch "#", hash_c) ∷ (ch "$", dollar_c) ∷ (ch "&", other_c) ∷ (ch "'", quote_c) ∷
+    (ch "*", other_c)
+    ∷ (ch "+", plus_c) ∷ (ch ",", comma_c) ∷ (ch ".", other_c) ∷ (ch "/", slash_c) ∷ (ch "9", other_c) ∷
+    (ch ":", colon_c)
     ∷ (ch "@", other_c) ∷ (ch "Z", letter_c) ∷ (ch "[", open_c square) ∷
     (ch "\\", other_c) ∷ (ch "]", close_c square) ∷ (ch "^", other_c)
     ∷ (ch "_", letter_c) ∷ (ch "`", other_c) ∷ (ch "e", letter_c) ∷ (ch "f", letter_f) ∷ (ch "m", letter_c) ∷
@@ -128,7 +130,8 @@ pub data Note : Type 0 where
 
 abbrev pub notes : List (ℕ × Note)
 notes =
-    (0x08, control_n) ∷ (ch "\t", plain_n) ∷ (ch "\n", line_end) ∷ (0x0C, control_n) ∷ (ch "\r", line_end) ∷ (0x1F, control_n)
+    (0x08, control_n) ∷ (ch "\t", plain_n) ∷ (ch "\n", line_end) ∷ (0x0C, control_n) ∷ (ch "\r", line_end) ∷
+    (0x1F, control_n)
     ∷ (ch ")", plain_n) ∷ (ch "*", star_n) ∷ (ch ".", plain_n) ∷ (ch "/", slash_n) ∷ []
 
 abbrev pub note_of : ℕ → Note

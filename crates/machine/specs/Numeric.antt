@@ -1,7 +1,8 @@
 -- The scanner of a number or a time value (docs/FORMAT.md, 5 and 6). Digits with no sign stay open as number and as
 -- time while both are possible; a date goes on with a time after T, or after one space followed by a digit. Assumes
 -- nothing.
-use Rattle.std.specs.Prelude.{ℕ, zero, suc, ◌+◌, ◌*◌, ◌-◌, ◌/◌, ◌%◌, ◌^◌, Bool, true, false, cond, ◌&&◌, List, [], ◌∷◌, ltb, leb, eqb, ℤ, pos, negsuc}
+use Rattle.std.specs.Prelude.{ℕ, zero, suc, ◌+◌, ◌*◌, ◌-◌, ◌/◌, ◌%◌, ◌^◌, Bool, true, false, cond, ◌&&◌, List, [], ◌∷◌}
+use Rattle.std.specs.Prelude.{ltb, leb, eqb, ℤ, pos, negsuc}
 use Rattle.rules.specs.Between.Decided.{is_date}
 use Rattle.meaning.specs.declared.Number.{Number}
 use Rattle.meaning.specs.declared.Number.TheVariants.{Finite, NotANumber, Infinite}
@@ -120,7 +121,8 @@ pub data Num : Type 0 where
   digit_n point_n e_n x_n colon_n minus_n other_n : Num
 
 abbrev pub num_table : List (Row Num)
-num_table = row (ch "0") (ch "9") digit_n ∷ one (ch ".") point_n ∷ one (ch "e") e_n ∷ one (ch "E") e_n ∷ one (ch "x") x_n ∷
+num_table = row (ch "0") (ch "9") digit_n ∷ one (ch ".") point_n ∷ one (ch "e") e_n ∷ one (ch "E") e_n ∷
+    one (ch "x") x_n ∷
     one (ch "X") x_n ∷ one (ch ":") colon_n ∷ one (ch "-") minus_n ∷ []
 
 abbrev pub num_of : ℕ → Num

@@ -2,7 +2,8 @@
 -- bytes meant. A byte that no rule allows is NotGrammar at its place; a part that has closed with a bad escape in it is
 -- BadEscape at the backslash of its first. The bytes of a character above U+007F are taken one by one: the text has
 -- been found to be UTF-8 before. Assumes nothing.
-use Rattle.std.specs.Prelude.{ℕ, zero, suc, ◌+◌, ◌*◌, ◌-◌, Bool, true, false, cond, List, [], ◌∷◌, ◌++◌, eqb, ltb, leb, replicate}
+use Rattle.std.specs.Prelude.{ℕ, zero, suc, ◌+◌, ◌*◌, ◌-◌, Bool, true, false, cond, List, [], ◌∷◌, ◌++◌, eqb, ltb, leb}
+use Rattle.std.specs.Prelude.{replicate}
 use Rattle.rules.specs.Rfc3629.{encode}
 use Rattle.meaning.specs.declared.Refusal.TheVariants.{NotGrammar, BadEscape}
 use Rattle.meaning.specs.Letters.{letters, ch}

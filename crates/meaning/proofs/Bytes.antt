@@ -69,7 +69,8 @@ unfolding get le
 get_le zero v s h = omega arith
 get_le (suc w) v s h =
     ap (λ (x : ℕ). x * 256 + v % 256)
-    (get_past w (v % 256 ∷ []) (le w (v / 256) ++ s) 0 ∙ get_le w (v / 256) s ((div-lt_iff_lt-mul (omega arith)).1 (subst (λ (x : ℕ). v < x) (pow-suc 256 w) h)))
+    (get_past w (v % 256 ∷ []) (le w (v / 256) ++ s) 0 ∙ get_le w (v / 256) s ((div-lt_iff_lt-mul (omega arith)).1
+    (subst (λ (x : ℕ). v < x) (pow-suc 256 w) h)))
     ∙ div-add-mod' v 256
 
 -- the bytes of the number that was got are the bytes that lie there

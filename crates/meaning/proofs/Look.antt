@@ -56,7 +56,8 @@ module _ (store : List ℕ) (whole : ℕ) where
     value (array ms) i at pre post p h e a = ((omega arith, omega arith), values ms (i + 1) at pre post p (omega arith) e a)
     value (object ms) i at pre post p h e a = ((omega arith, omega arith), pairs ms (i + 1) at pre post p (omega arith) e a)
 
-    values : (ms : Meanings) (i at : ℕ) (pre post : List ℕ) → GoodElements ms → i + elements_records ms ≤ whole → store ≡ pre ++ (elements_store ms ++ post) → at
+    values : (ms : Meanings) (i at : ℕ) (pre post : List ℕ) → GoodElements ms → i + elements_records ms ≤ whole → store ≡ pre ++ (elements_store ms ++ post)
+        → at
         ≡ length pre
         → AllOwn (elements_of ms i at) i whole store
     values none i at pre post p h e a = tt

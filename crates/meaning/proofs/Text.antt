@@ -254,7 +254,8 @@ mutual
       octets_append (letters "]") (octets_append (elements_text ms) (plain (letters "[") (omega arith)) (elements_octets ms p))
       (plain (letters "]") (omega arith))
   canonical_octets (object ms) p =
-      octets_append (letters "}") (octets_append (members_text ms) (plain (letters "{") (omega arith)) (members_octets ms p)) (plain (letters "}") (omega arith))
+      octets_append (letters "}") (octets_append (members_text ms) (plain (letters "{") (omega arith)) (members_octets ms p))
+      (plain (letters "}") (omega arith))
 
   pub elements_octets : (ms : Meanings) → GoodElements ms → Octets (elements_text ms)
   elements_octets none p = plain [] tt

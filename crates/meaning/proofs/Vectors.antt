@@ -105,7 +105,8 @@ meanings =
     ∷ []
 
 pub meanings_hold : gots meanings ≡ wants meanings
-unfolding gots wants meanings shows records store_of records_of decimal_in decimal fixed trimmed escaped escapes quoted hex_pairs binary_text power_text zeros pointed
+unfolding gots wants meanings shows records store_of records_of decimal_in decimal fixed trimmed escaped escapes quoted hex_pairs binary_text power_text zeros
+    pointed
     finite_text number_text date_text fraction_text clock_text offset_text time_text text_with first_without no_json
 meanings_hold = refl
 

@@ -131,7 +131,8 @@ record_bytes (Record.Time (LocalTime t)) = letters "lt" ++ unnamed 6 ++ le 8 t
 -- as `ld`, and 8-15 time of day
 record_bytes (Record.Time (LocalDateTime d t)) = letters "dt" ++ date_fields d ++ unnamed 2 ++ le 8 t
 -- as `dt`, and 6-7 offset
-record_bytes (Record.Time (OffsetDateTime d t offset)) = letters "od" ++ date_fields d ++ le 2 (of_z w16 offset) ++ le 8 t
+record_bytes (Record.Time (OffsetDateTime d t offset)) = letters "od" ++ date_fields d ++ le 2 (of_z w16 offset)
+    ++ le 8 t
 record_bytes (Record.Array count end) = letters "ar" ++ container_fields count end
 record_bytes (Record.Object count end) = letters "ob" ++ container_fields count end
 

@@ -1,4 +1,5 @@
 // The types and the limits that the tape, the reader and the writers share. No function stands here.
+#![tactic(auto)]
 
 // The limits of specs/Limits.antt, each named once. The bytes of a text, read or written.
 pub const TEXT_LIMIT: usize = 16777216;

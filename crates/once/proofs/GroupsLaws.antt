@@ -132,7 +132,8 @@ held seen l (inr h) = h
 pub table_fits : {n : ℕ} {seen : List ℕ} {k : List Slot} → Table n seen k → (8 + 4 * n ≤ length seen) × (length seen < 2 ^ 32)
 table_fits t = (omega (arith, t.size, t.some), t.short)
 
-pub base_fits : (seen : List ℕ) → 12 ≤ length seen → Sane seen → (get_or seen 1 0 ≡ 0 → ⊥) → (12 + 4 * (get_or seen 1 0 - 1) ≤ length seen) × (length seen < 2 ^ 32)
+pub base_fits : (seen : List ℕ) → 12 ≤ length seen → Sane seen → (get_or seen 1 0 ≡ 0 → ⊥) → (12 + 4 * (get_or seen 1 0 - 1) ≤ length seen)
+    × (length seen < 2 ^ 32)
 unfolding base_of
 base_fits seen l w z = go (held seen l w).0.groups refl
   where

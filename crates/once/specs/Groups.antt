@@ -1,6 +1,7 @@
 -- The keys of the open objects in a table (docs/FORMAT.md, 7.2): each object that has a key in it is a group, begun by
 -- a mark. Assumes nothing.
-use Rattle.std.specs.Prelude.{◌≡◌, Bool, true, false, cond, ◌⊎◌, List, [], ◌∷◌, ◌++◌, ℕ, suc, ◌+◌, ◌-◌, ◌%◌, ◌<◌, ◌≤◌, eqb, leb, length, get_or}
+use Rattle.std.specs.Prelude.{◌≡◌, Bool, true, false, cond, ◌⊎◌, List, [], ◌∷◌, ◌++◌, ℕ, suc, ◌+◌, ◌-◌, ◌%◌, ◌<◌, ◌≤◌}
+use Rattle.std.specs.Prelude.{eqb, leb, length, get_or}
 use Rattle.once.specs.Table.{Slot, room, Table}
 
 -- an object's depth, and its keys that are taken in, the newest first

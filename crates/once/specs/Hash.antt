@@ -1,6 +1,6 @@
 -- The tag of a key (docs/FORMAT.md, 7.2): a number below 2^32 that its bytes and a salt determine. Nothing else is
 -- asked of it, and how well it tells keys apart decides no answer. Assumes nothing.
-use Rattle.std.specs.Prelude.{List, [], ◌∷◌, ℕ, ◌+◌, ◌*◌, ◌/◌, ◌%◌, ◌^◌}
+use Rattle.std.specs.Prelude.{List, [], ◌∷◌, ℕ, ◌+◌, ◌*◌, ◌/◌, ◌%◌}
 use Rattle.std.specs.Int.Bits.{bit_xor}
 
 -- the low half of a number, with its high bits in its low ones

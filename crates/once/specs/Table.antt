@@ -1,6 +1,7 @@
 -- A stack of slots kept in lent numbers, for keys (docs/FORMAT.md, 7.2): a slot is a place and a tag; the slots whose
 -- tags are alike modulo how many slots there are stand in one chain, the newest first. Assumes nothing.
-use Rattle.std.specs.Prelude.{◌≡◌, cond, List, [], ◌∷◌, ◌++◌, ℕ, suc, ◌+◌, ◌*◌, ◌-◌, ◌/◌, ◌%◌, ◌<◌, ◌≤◌, ◌^◌, eqb, length, get_or}
+use Rattle.std.specs.Prelude.{◌≡◌, cond, List, [], ◌∷◌, ◌++◌, ℕ, suc, ◌+◌, ◌*◌, ◌-◌, ◌/◌, ◌%◌, ◌<◌, ◌≤◌, ◌^◌, eqb}
+use Rattle.std.specs.Prelude.{length, get_or}
 
 -- a place and a tag
 abbrev pub Slot : Type 0
@@ -35,7 +36,8 @@ pub record Table (n : ℕ) (seen : List ℕ) (k : List Slot) : Type 0 where
 
 -- the rest of the header
 abbrev pub HeaderStays : List ℕ → List ℕ → Type 0
-HeaderStays before after = (length after ≡ length before) × ((j : ℕ) → 0 < j → j < 8 → get_or after j 0 ≡ get_or before j 0)
+HeaderStays before after = (length after ≡ length before) × ((j : ℕ) → 0 < j → j < 8 → get_or after j 0
+    ≡ get_or before j 0)
 
 -- ---- one slot more, one less
 

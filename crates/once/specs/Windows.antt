@@ -1,7 +1,8 @@
 -- Keys (docs/FORMAT.md, 7.2) taken in from a place on, while there is room, are a window: a pass over the events finds
 -- the first key that repeats one of them. Windows one after the other find the first repeated key of all. Assumes
 -- nothing.
-use Rattle.std.specs.Prelude.{◌≡◌, Bool, true, false, cond, ◌&&◌, ◌||◌, List, [], ◌∷◌, ℕ, zero, suc, ◌≤◌, ◌<◌, eqb, leb, ltb}
+use Rattle.std.specs.Prelude.{◌≡◌, Bool, true, false, cond, ◌&&◌, ◌||◌, List, [], ◌∷◌, ℕ, zero, suc, ◌≤◌, ◌<◌, eqb, leb}
+use Rattle.std.specs.Prelude.{ltb}
 use Rattle.std.proofs.Math.Option.{Option, none, some}
 use Rattle.meaning.specs.Once.{same}
 use Rattle.meaning.specs.Between.Events.{Event, begins, ends, named, Spans}

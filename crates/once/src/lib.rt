@@ -5,6 +5,8 @@
 // for no mark), 2 how many objects are open, 3 from which place keys are taken in, 4 the first key that repeats one and 5 the
 // first that was not taken in (0 for none). Four numbers follow for each slot: its place, its tag, the next slot of its
 // chain, and the first slot of the chain whose number is the slot's.
+#![tactic(auto)]
+
 ghost use Rattle.std.specs.Prelude.{◌≡◌, ◌+◌, ◌*◌, ◌-◌, ◌/◌, ◌%◌, ◌^◌, ◌<◌, ◌≤◌, length, get_or};
 ghost use Rattle.once.specs.Table.{room, Roomy, Pushes, Filled, Pops, Above, Drops};
 ghost use Rattle.once.specs.Groups.{Sane, Set, Does, without, Begun, Opens, deeper, shallower, taken, noticed, Owns};

@@ -1,9 +1,8 @@
 -- What the promises of `measure` and `read` come to. Each holds of any outcome that a promise allows. Assumes nothing.
 use mathlib.Core.Path.{◌≡◌, refl, sym, ap, ap₂, ◌∙◌, subst}
-use mathlib.Core.Bool.{true}
 use mathlib.Core.Logic.{◌⊎◌, inl, inr}
 use mathlib.Core.List.{List, ◌++◌}
-use Prim.Native.Nat.{ℕ, ◌*◌, ◌≤◌, ◌<◌}
+use Prim.Native.Nat.{ℕ, ◌≤◌}
 use native.Mathlib.Omega.{arith}
 use lib.ListN.{length, drop}
 use Rattle.rules.specs.Paper.{Said, done, refused}
@@ -17,7 +16,7 @@ use Rattle.meaning.specs.Tape.{records, bytes, tape_of, store_of}
 use Rattle.meaning.proofs.Paper.{same_refusal}
 use Rattle.grammar.specs.Values.{Text}
 use Rattle.grammar.specs.Refused.{TextRefused, loose, repeated}
-use Rattle.grammar.proofs.Sizes.{Fits, text_fits}
+use Rattle.grammar.proofs.Sizes.{text_fits}
 use Rattle.machine.proofs.Whole.{loosely_unambiguous}
 use Rattle.machine.proofs.Refusals.Whole.{one_loose_refusal, loose_not_refused}
 use Rattle.machine.proofs.Accepted.{unambiguous, one_text_refusal, not_refused}

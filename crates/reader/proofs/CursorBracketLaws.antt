@@ -12,26 +12,24 @@ use Rattle.meaning.specs.declared.Refusal.TheVariants.{NotGrammar, TooDeep}
 use Rattle.meaning.specs.Letters.{ch}
 use Rattle.meaning.specs.Meaning.{Meaning, Meanings, Members}
 use Rattle.grammar.specs.Values.{Inside, elements, members}
-use Rattle.machine.specs.Machine.{Base, want, want_key, got, value, key, base, Frame, inside, pair, Conf, at, fail, step, on_got}
-use Rattle.machine.specs.Machine.{on_want, close_wanted, odd, wanted, shut, Bracket, square, curly, bare_of, Class, class_of, blank_c}
+use Rattle.machine.specs.Machine.{want, want_key, got, value, key, base, Frame, inside, pair, at, on_got}
+use Rattle.machine.specs.Machine.{odd, wanted, shut, square, curly, bare_of, Class, class_of, blank_c}
 use Rattle.machine.specs.Machine.{hash_c, slash_c, comma_c, colon_c, plus_c, quote_c, dollar_c, letter_n, letter_t, letter_f, letter_c}
 use Rattle.machine.specs.Machine.{other_c, open_c, close_c}
-use Rattle.machine.specs.Machine as Machine
 use Rattle.machine.specs.Heard as Heard
 use Rattle.machine.specs.Heard.{starts, names, Told, after, tell, key_heard, key_at}
 use Rattle.tape.specs.Between.Putting.{put_record}
-use Rattle.reader.specs.Between.Scanning.{Goes, Hears, Tells, Refuses, Bare, Shut}
+use Rattle.reader.specs.Between.Scanning.{Goes, Hears, Tells, Refuses, Shut}
 use Rattle.reader.specs.Between.Layout.{LayoutEnds, Breaks}
-use Rattle.reader.specs.Between.Joined.{Keyed, KeySays}
+use Rattle.reader.specs.Between.Joined.{Keyed}
 use Rattle.reader.specs.Between.Repeat.{AtKey, Tabled, NoteSays}
-use Rattle.reader.specs.Between.Cursor.{Scalar, Unwanted, ScalarSays, item_bytes, Ready, AtValue, AtMember, Moved, Opened}
-use Rattle.reader.specs.Between.Cursor.{OneItem, closer, closing_of, within, Begins, AheadSays, Adds, AfterSays, Coloned, ColonSays}
-use Rattle.reader.specs.Between.Cursor.{Named, MemberSays, MemberBegins, Seen}
+use Rattle.reader.specs.Between.Cursor.{Unwanted, Ready, AtMember, Moved, Opened}
+use Rattle.reader.specs.Between.Cursor.{closer, closing_of, within, Begins, AheadSays, Adds, AfterSays, ColonSays}
+use Rattle.reader.specs.Between.Cursor.{MemberSays, MemberBegins, Seen}
 use Rattle.reader.specs.declared.cursor.Cursor.{Cursor}
 use Rattle.reader.specs.declared.cursor.Ahead.{Ahead}
 use Rattle.reader.specs.declared.cursor.After.{After}
 use Rattle.reader.specs.declared.cursor.Member.{Member}
-use Rattle.reader.specs.declared.joined.Bytes.{Bytes}
 use Rattle.reader.proofs.ScanningLaws.{onto, go, go_hearing, stop, halt, then_refused, faulted}
 use Rattle.machine.proofs.Classes.{ClassIs, class_is_lem}
 use Rattle.once.proofs.KeepingLaws.{keeps_further, goes_further}

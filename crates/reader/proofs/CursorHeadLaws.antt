@@ -1,19 +1,17 @@
 -- Where a value is wanted: words, strings, binary, numbers and times. Assumes nothing.
 use mathlib.Core.Path.{◌≡◌, refl, sym, ap, ◌∙◌}
 use mathlib.Core.Bool.{Bool, true, false, cond}
-use mathlib.Core.List.{List, [], ◌∷◌, ◌++◌}
-use Prim.Native.Nat.{ℕ, suc, ◌+◌, ◌≤◌, ◌<◌}
+use mathlib.Core.List.{List, [], ◌∷◌}
+use Prim.Native.Nat.{ℕ, suc, ◌≤◌, ◌<◌}
 use native.Mathlib.Omega.{arith}
 use lib.Dec.{eqb}
 use lib.ListN.{length, drop, get_or}
-use lib.Seq.{sets}
 use Rattle.meaning.specs.declared.Refusal.{Refusal}
 use Rattle.meaning.specs.declared.Refusal.TheVariants.{NotGrammar}
-use Rattle.meaning.specs.declared.Record.{Record}
 use Rattle.meaning.specs.Letters.{ch}
 use Rattle.meaning.specs.Meaning.{Meaning}
 use Rattle.meaning.specs.Tape.{store_of, records_of, bytes}
-use Rattle.machine.specs.Scan.{Out, takes, stops, breaks, over, Ran, ended, broke, unended, goes_on, ran}
+use Rattle.machine.specs.Scan.{Out, takes, breaks, over, ended, unended, goes_on, ran}
 use Rattle.machine.specs.Machine.{Use, as_value, as_key, Item, word, numeric, Got, value, string, binary, Base, want, got, base}
 use Rattle.machine.specs.Machine.{item, Frame, Conf, at, step, finish, on_want, on_out, odd, close_wanted, read, Bracket}
 use Rattle.machine.specs.Machine.{square, curly, Class, class_of, blank_c, hash_c, slash_c, comma_c, colon_c, plus_c, quote_c, dollar_c}
@@ -23,11 +21,9 @@ use Rattle.machine.specs.Heard.{Heard, hears, at_want}
 use Rattle.machine.specs.Names.{word_scan}
 use Rattle.machine.specs.Numeric
 use Rattle.reader.specs.Between.Scanning.{Goes, Refuses, Shut}
-use Rattle.reader.specs.Between.Joined.{Joined, BytesSays, string_part_of, binary_part_of, whole_binary}
+use Rattle.reader.specs.Between.Joined.{Joined, string_part_of, binary_part_of, whole_binary}
 use Rattle.items.specs.Between.NumberOrTime.{Means, NumericSays}
-use Rattle.items.specs.Between.NumberOrTime as NumberOrTime
 use Rattle.reader.specs.Between.Cursor.{record_item, item_bytes, Scalar, Unwanted, ScalarSays, SpeltSays, Quoted, AtScalar}
-use Rattle.reader.specs.declared.joined.Bytes.{Bytes as Joint}
 use Rattle.items.specs.declared.Item.{Item as Taken}
 use Rattle.items.specs.declared.Scanned.{Scanned}
 use Rattle.reader.proofs.ScanningLaws.{move, both, alike_hearing, alike_comes, then_refused}

@@ -16,14 +16,14 @@ use Rattle.meaning.specs.Look.{whole_records}
 use Rattle.meaning.proofs.Records.{record_length, records_append, records_bytes_length}
 use Rattle.meaning.proofs.Sizes.{records_length, elements_length, members_length, elements_few, members_few}
 use Rattle.grammar.specs.Values.{Inside, elements, members}
-use Rattle.machine.specs.Machine.{close_c, close_wanted, odd, want, Frame, inside, pair, at, Bracket, square, curly, bare_of, shut, No}
+use Rattle.machine.specs.Machine.{close_c, close_wanted, odd, want, Frame, inside, pair, Bracket, square, curly, bare_of, shut, No}
 use Rattle.machine.proofs.Classes.{closing, ClassIs, class_is_lem}
 use Rattle.meaning.specs.declared.Refusal.{Refusal}
 use Rattle.tape.specs.Between.Putting.{put_record}
 use Rattle.tape.proofs.PuttingLaws.{record_room, sets_append, put_record_length}
 use Rattle.reader.specs.declared.cursor.Cursor.{Cursor}
 use Rattle.reader.specs.Between.Scanning.{Tells, Shut}
-use Rattle.reader.specs.Between.Cursor.{Ready, AtValue, Inner, Moved, Begins, Took, Named, Adds, element, member, closer, closed}
+use Rattle.reader.specs.Between.Cursor.{Ready, AtValue, Inner, Moved, Begins, Took, Named, Adds, closer, closed}
 use Rattle.reader.specs.Between.Cursor.{within, bare_in, wants, always, Left, AheadSays, MemberAheadSays, OneItem, Opened}
 use Rattle.reader.specs.Between.Cursor.{record_item, StepReady, FollowedSays, opening_of, closing_of, Stood, keeping, keeping_before, Seen, MemberBegins}
 use Rattle.reader.specs.Between.Cursor.{ValueSays, InsideSays}

@@ -154,7 +154,8 @@ module _ {text seen₀ seen : List ℕ} {from at : ℕ} {keys : List Event} wher
   closing_level curly t (members x) o i = level_join (suc i) keys (ends ∷ []) ∙ ap (λ (j : ℕ). level j (ends ∷ [])) (t.leveled i)
 
   pub closing_leads : (b : Bracket) → Noted text seen₀ seen b from at keys → (y : Inside) → Of b y → (seen' : List ℕ) (at' : ℕ) → Closing b seen seen'
-      → at ≤ at' → at' < 4294967295 → (f : ℕ) (s : Kept) → Led text seen₀ from f s (opening_of b) → Led text seen' at' f s (opening_of b ++ (keys ++ closing_of y))
+      → at ≤ at' → at' < 4294967295 → (f : ℕ) (s : Kept) → Led text seen₀ from f s (opening_of b)
+      → Led text seen' at' f s (opening_of b ++ (keys ++ closing_of y))
   closing_leads square t (elements x) o seen' at' e l m f s h =
       subst (λ (z : List ℕ). Led text z at' f s (keys ++ [])) (sym e)
       (subst (Led text seen at' f s) (sym (append-nil keys)) (goes_further (t.leads f s h) at' l m))

@@ -1,17 +1,15 @@
 -- Parts joined by a plus. Assumes nothing.
 use mathlib.Core.Path.{◌≡◌, refl, sym, ap, ◌∙◌}
-use mathlib.Core.Bool.{Bool, true, false, cond}
-use mathlib.Core.List.{List, [], ◌∷◌, ◌++◌, append_assoc, append-nil}
-use Prim.Native.Nat.{ℕ, suc, ◌+◌, ◌-◌, ◌≤◌, ◌<◌}
+use mathlib.Core.List.{List, [], ◌++◌}
+use Prim.Native.Nat.{ℕ, ◌+◌, ◌-◌, ◌≤◌, ◌<◌}
 use native.Mathlib.Omega.{arith}
-use lib.Dec.{eqb}
 use lib.ListN.{length, drop, get_or, take, length-append, length-drop}
 use lib.Seq.{sets, take_all}
-use borrow.Author.Tests.{ne_eqb, eq-eqb}
+use borrow.Author.Tests.{ne_eqb}
 use Rattle.meaning.specs.declared.Refusal.{Refusal}
 use Rattle.meaning.specs.declared.Refusal.TheVariants.{NotGrammar}
 use Rattle.meaning.specs.Letters.{ch}
-use Rattle.machine.specs.Scan.{Out, takes, stops, breaks, over, Ran, ended, broke, ran}
+use Rattle.machine.specs.Scan.{Out, breaks, ended, broke, ran}
 use Rattle.machine.specs.Machine.{Use, Item, string_part, binary_part, Got, string, binary, Base, want_string, want_binary, got}
 use Rattle.machine.specs.Machine.{Mode, base, item, Frame, Conf, at, step, finish, on_part, on_out, odd, Bracket, square, curly}
 use Rattle.machine.specs.Machine.{Class, class_of, blank_c, hash_c, slash_c, comma_c, colon_c, plus_c, quote_c, dollar_c}
@@ -23,15 +21,15 @@ use Rattle.machine.specs.Binaries
 use Rattle.reader.specs.Between.Scanning.{Goes, Refuses, Bare}
 use Rattle.reader.specs.Between.Layout.{LayoutEnds, Breaks}
 use Rattle.items.specs.Between.PlacedPart.{Ended}
-use Rattle.reader.specs.Between.Joined.{Plusless, Plus, Alone, Joining, JoinSays, link_of, Linked, Unlinked, in_part, after_part, LinkSays}
-use Rattle.reader.specs.Between.Joined.{Joined, BytesSays, string_part_of, binary_part_of, whole_binary}
+use Rattle.reader.specs.Between.Joined.{Plusless, Plus, JoinSays, link_of, Linked, Unlinked, in_part, after_part, LinkSays}
+use Rattle.reader.specs.Between.Joined.{BytesSays, string_part_of, binary_part_of, whole_binary}
 use Rattle.items.specs.Between.StringPart.{PartSays}
 use Rattle.reader.specs.declared.joined.Bytes.{Bytes}
 use Rattle.reader.specs.declared.joined.Join.{Join}
 use Rattle.reader.specs.declared.joined.Link.{Link}
 use Rattle.items.specs.declared.string_part.Part.{Part}
 use Rattle.reader.proofs.ScanningLaws.{both, go, alike, then_refused, faulted}
-use Rattle.machine.proofs.Classes.{ClassIs, class_is_lem, closing, opening}
+use Rattle.machine.proofs.Classes.{ClassIs, class_is_lem}
 use Rattle.machine.proofs.Lift.{string_quiet, binary_quiet}
 use Rattle.reader.proofs.ScanningItemLaws.{lift_done, lift_refused}
 use Rattle.items.proofs.StoreLaws.{sets_app}
@@ -149,7 +147,8 @@ binary_none p b i = rw (ne_eqb _ _ i)
 
 module _ (p d : ℕ) (k : List Frame) (z : Use) (u : List ℕ) where
   string_odd : (b : ℕ) → (b ≡ ch "\"" → ⊥) → (b ≡ ch "'" → ⊥) → odd p ≡ step p (at (item (string_part_of z u)) d k) b
-  string_odd b i j = sym (ap (λ (o : Out Strings.St (List ℕ)). on_out p d k b (Machine.lift (string_part z u) (λ x. string z (u ++ x)) o)) (string_none p b i j))
+  string_odd b i j = sym (ap (λ (o : Out Strings.St (List ℕ)). on_out p d k b (Machine.lift (string_part z u) (λ x. string z (u ++ x)) o))
+      (string_none p b i j))
 
   string_class : (b : ℕ) (c : Class) → ClassIs b c → (c ≡ blank_c → ⊥) → (c ≡ hash_c → ⊥) → (c ≡ slash_c → ⊥)
       → on_part p d k b (want_string z u) (step p (at (item (string_part_of z u)) d k) b) (odd p) c ≡ step p (at (item (string_part_of z u)) d k) b

@@ -6,10 +6,9 @@ use native.Mathlib.Omega.{arith}
 use native.Mathlib.Decide.{dec_lt}
 use lib.ListN.{length, take, drop, get_or, length-take, length-drop}
 use lib.Seq.{drop-cons, sets}
-use Rattle.meaning.specs.declared.Refusal.{Refusal}
 use Rattle.meaning.specs.declared.Refusal.TheVariants.{NotGrammar}
 use Rattle.meaning.specs.Letters.{ch}
-use Rattle.machine.specs.Scan.{Out, takes, stops, breaks, over, Ran, ended, broke, ran}
+use Rattle.machine.specs.Scan.{takes, ended, ran}
 use Rattle.machine.specs.Machine.{Use, as_value, as_key, Item, identifier, Got, key, string, Base, want_key, base, item, Frame}
 use Rattle.machine.specs.Machine.{Conf, at, step, finish, on_key, on_out, odd, close_wanted, Bracket, square, curly, Class}
 use Rattle.machine.specs.Machine.{class_of, blank_c, hash_c, slash_c, comma_c, colon_c, plus_c, quote_c, dollar_c, letter_n, letter_t}
@@ -20,7 +19,7 @@ use Rattle.machine.specs.Names
 use Rattle.machine.specs.Names.{letter, figure, neither}
 use Rattle.items.specs.Between.Identifier.{NameEnds}
 use Rattle.reader.specs.Between.Scanning.{Hears, Refuses, Bare, Shut}
-use Rattle.reader.specs.Between.Joined.{Joined, BytesSays, string_part_of, Keyed, KeySays}
+use Rattle.reader.specs.Between.Joined.{BytesSays, string_part_of, KeySays}
 use Rattle.reader.specs.declared.joined.Bytes.{Bytes}
 use Rattle.reader.proofs.ScanningLaws.{alike_hearing, stop, halt, then_refused}
 use Rattle.reader.proofs.JoinedLaws.{whole_is}

@@ -1,8 +1,8 @@
 -- Layout: blanks and comments, a byte at a time. Assumes nothing.
-use mathlib.Core.Path.{◌≡◌, refl, sym, ap, ◌∙◌}
-use mathlib.Core.Bool.{Bool, true, false, cond}
-use mathlib.Core.List.{List, [], ◌∷◌}
-use Prim.Native.Nat.{ℕ, suc, ◌+◌, ◌≤◌, ◌<◌}
+use mathlib.Core.Path.{◌≡◌, refl, ◌∙◌}
+use mathlib.Core.Bool.{Bool, true, false}
+use mathlib.Core.List.{List, []}
+use Prim.Native.Nat.{ℕ, ◌+◌, ◌≤◌, ◌<◌}
 use native.Mathlib.Omega.{arith}
 use lib.Dec.{eqb}
 use lib.ListN.{length, get_or}
@@ -13,11 +13,11 @@ use Rattle.machine.specs.Machine
 use Rattle.machine.specs.Machine.{Base, want, want_key, want_string, want_binary, got, Mode, base, slash, line, block, star, Frame, Conf, at, step, finish}
 use Rattle.machine.specs.Machine.{Class, class_of, blank_c, hash_c, slash_c, Note, note_of, line_end, star_n, slash_n, plain_n, control_n}
 use Rattle.items.specs.Between.Places.{Onward}
-use Rattle.reader.specs.Between.Scanning.{Goes, Bare}
+use Rattle.reader.specs.Between.Scanning.{Goes}
 use Rattle.reader.specs.Between.Layout.{Passes, Commented, Breaks, Blanks, LayoutEnds, CommentSays, MaybeSays}
 use Rattle.reader.specs.declared.layout.Comment.{Comment}
 use Rattle.machine.proofs.Layouts.{NoteIs, note_is_lem}
-use Rattle.reader.proofs.ScanningLaws.{move, both, go, stop_quietly, halt_quietly, alike, alike_end}
+use Rattle.reader.proofs.ScanningLaws.{move, both, go, stop_quietly, halt_quietly, alike_end}
 use Rattle.items.proofs.PlacesLaws.{here, further, then}
 
 -- ---- what a byte of each class does, whatever is expected

@@ -1,10 +1,10 @@
 -- What a byte's class says of it. Assumes nothing.
 use mathlib.Core.Path.{◌≡◌, refl, subst}
-use Prim.Native.Nat.{ℕ, ◌≤◌, ◌<◌}
+use Prim.Native.Nat.{ℕ, ◌<◌}
 use native.Mathlib.Omega.{arith}
 use Rattle.meaning.specs.Letters.{ch}
-use Rattle.machine.specs.Machine.{Class, blank_c, hash_c, slash_c, comma_c, colon_c, plus_c, quote_c, dollar_c, letter_n, letter_t, letter_f}
-use Rattle.machine.specs.Machine.{letter_c, other_c, open_c, close_c, class_of}
+use Rattle.machine.specs.Machine.{Class, blank_c, hash_c, slash_c}
+use Rattle.machine.specs.Machine.{class_of}
 use Rattle.machine.specs.Machine.{Note, line_end, star_n, slash_n, plain_n, control_n, note_of}
 use Rattle.machine.proofs.Classes.{ClassIs, class_is_lem}
 use Rattle.machine.proofs.Layouts.{NoteIs, note_is_lem}

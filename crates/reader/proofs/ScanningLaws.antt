@@ -75,7 +75,8 @@ module _ (c d : Conf) (text : List ℕ) (p : ℕ) where
       ∙ ap (after hs) (sym (onto d text p h))
 
   -- whatever is heard, they come to the same
-  pub alike_comes : p < length text → step p c (get_or text p 0) ≡ step p d (get_or text p 0) → (tell p c (drop p text)).verdict ≡ (tell p d (drop p text)).verdict
+  pub alike_comes : p < length text → step p c (get_or text p 0) ≡ step p d (get_or text p 0) → (tell p c (drop p text)).verdict
+      ≡ (tell p d (drop p text)).verdict
   alike_comes h e =
       then_refused (onto c text p h)
       (ap (λ (x : Conf). (tell (suc p) x (drop (suc p) text)).verdict) e ∙ sym (ap (λ (x : Told). x.verdict) (onto d text p h)))

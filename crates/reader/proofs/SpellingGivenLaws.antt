@@ -19,7 +19,8 @@ use Rattle.machine.specs.Names as Names
 use Rattle.machine.specs.Machine as Machine
 use Rattle.machine.specs.Machine.{string, as_key, string_part, Base, want_string, got, base, item, Conf, at, fail, on_got, on_out}
 use Rattle.machine.specs.Machine.{on_part, lift, square, curly}
-use Rattle.machine.specs.Machine.{Class, class_of, blank_c, hash_c, slash_c, comma_c, colon_c, plus_c, quote_c, dollar_c, letter_n, letter_t, letter_f, letter_c, other_c}
+use Rattle.machine.specs.Machine.{Class, class_of, blank_c, hash_c, slash_c, comma_c, colon_c, plus_c, quote_c, dollar_c, letter_n, letter_t, letter_f}
+use Rattle.machine.specs.Machine.{letter_c, other_c}
 use Rattle.machine.specs.Machine.{open_c, close_c}
 use Rattle.machine.specs.Heard.{Heard, shuts, names, tell, key_heard, hears, at_got, at_out}
 use Rattle.machine.proofs.Layouts.{Lay, plain_l, slash_l, line_l, mode_of, layout_keeps}

@@ -11,10 +11,11 @@ use Rattle.machine.specs.Scan.{Out, takes, stops, breaks, Ran, ended, broke, une
 use Rattle.machine.specs.Machine.{Item, Got, key, string, as_key, string_part, identifier, want_key, got, base}
 use Rattle.machine.specs.Machine.{item}
 use Rattle.machine.specs.Machine.{Frame, Conf, at, fail, lift, on_got, on_out, square, curly}
-use Rattle.machine.specs.Machine.{Class, class_of, blank_c, hash_c, slash_c, comma_c, colon_c, plus_c, quote_c, dollar_c, letter_n, letter_t, letter_f, letter_c, other_c}
+use Rattle.machine.specs.Machine.{Class, class_of, blank_c, hash_c, slash_c, comma_c, colon_c, plus_c, quote_c, dollar_c, letter_n, letter_t, letter_f}
+use Rattle.machine.specs.Machine.{letter_c, other_c}
 use Rattle.machine.specs.Machine.{open_c, close_c}
 use Rattle.machine.specs.Machine as Machine
-use Rattle.machine.specs.Heard.{Heard, names, Told, tell, key_heard, key_at, at_got, at_key, at_out}
+use Rattle.machine.specs.Heard.{Heard, Told, tell, key_heard, key_at, at_got, at_key, at_out}
 use Rattle.machine.specs.Strings
 use Rattle.machine.specs.Names
 use Rattle.machine.proofs.Heard.{fail_told}
@@ -205,7 +206,8 @@ module _ (text : List ℕ) (p : ℕ) (u : List ℕ) (l : p < length text) where
   at_byte c h = rw (drop-cons text p 0) h
 
   key_heard_lem : key_at text p ≡ some u
-      → key_heard (at_key p (class_of (get_or text p 0)) ++ (tell (suc p) (Machine.on_key p 0 [] (get_or text p 0) (class_of (get_or text p 0))) (drop (suc p) text)).heard)
+      → key_heard (at_key p (class_of (get_or text p 0)) ++ (tell (suc p) (Machine.on_key p 0 [] (get_or text p 0) (class_of (get_or text p 0)))
+      (drop (suc p) text)).heard)
       ≡ some u
   unfolding key_at
   key_heard_lem e = ap (λ (x : Told). key_heard x.heard) (sym (onto (at (base want_key) 0 []) text p l)) ∙ e

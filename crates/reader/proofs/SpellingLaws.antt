@@ -3,7 +3,7 @@ use mathlib.Core.Path.{◌≡◌, refl, sym, ap, ◌∙◌, subst}
 use mathlib.Core.Bool.{Bool, true, false, cond}
 use mathlib.Core.Logic.{◌⊎◌, inl, inr}
 use mathlib.Core.List.{List, [], ◌∷◌, ◌++◌, append_assoc, append-nil}
-use Prim.Native.Nat.{ℕ, zero, suc, ◌+◌, ◌*◌, ◌-◌, ◌/◌, ◌%◌, ◌≤◌, ◌<◌}
+use Prim.Native.Nat.{ℕ, suc, ◌+◌, ◌*◌, ◌-◌, ◌/◌, ◌%◌, ◌≤◌, ◌<◌}
 use native.Mathlib.Omega.{arith}
 use native.Mathlib.Nat.{zero-add}
 use native.Mathlib.Decide.{dec_lt, ℕ_discrete}
@@ -16,7 +16,7 @@ use Rattle.rules.proofs.Numbers.{row_1, row_2, row_3, row_4}
 use Rattle.meaning.specs.declared.Refusal.{Refusal}
 use Rattle.meaning.specs.declared.Refusal.TheVariants.{NotGrammar, BadEscape}
 use Rattle.meaning.specs.Letters.{ch}
-use Rattle.machine.specs.Scan.{Out, takes, stops, breaks, over, Ran, ended, broke, ran}
+use Rattle.machine.specs.Scan.{Out, takes, breaks, over, ended, broke, ran}
 use Rattle.machine.specs.Strings
 use Rattle.machine.specs.Strings.{Bad, fine, spoilt, whole, mk, St, one, two, lines0, lines, body, done, begin, plain_byte, line_byte, on_body, on_lines, first}
 use Rattle.machine.specs.Names
@@ -251,7 +251,8 @@ module _ (text : List ℕ) (p : ℕ) (e u : List ℕ) (w : Part text begin p e u
         by (Dec.no j) = absurd (part_whole (NotGrammar p) (run_break Strings.scan text p begin (NotGrammar p) l (start_other p (get_or text p 0) i j)) w)
 
     opens_one : Part text (one (get_or text p 0)) (p + 1) e u
-    opens_one = part_on (one (get_or text p 0)) (p + 1) (run_take Strings.scan text p begin (one (get_or text p 0)) l (start_quote p (get_or text p 0) opens_quote)) w
+    opens_one = part_on (one (get_or text p 0)) (p + 1) (run_take Strings.scan text p begin
+        (one (get_or text p 0)) l (start_quote p (get_or text p 0) opens_quote)) w
 
     -- one quote
     module _ (n : p + 1 < length text) where
@@ -303,7 +304,8 @@ module _ (text : List ℕ) (p : ℕ) where
     opening_cut n e u w = absurd (opens_more text p e u w l n)
 
     module _ (n : p + 1 < length text) where
-      pub opening_plain : (get_or text (p + 1) 0 ≡ get_or text p 0 → ⊥) → StepSays text (Spelling.Opening p) (Spelt.On (Spelling.Quoted (p + 1) (get_or text p 0)))
+      pub opening_plain : (get_or text (p + 1) 0 ≡ get_or text p 0 → ⊥) → StepSays text (Spelling.Opening p)
+          (Spelt.On (Spelling.Quoted (p + 1) (get_or text p 0)))
       opening_plain d = (
         record { within = omega arith; falls = omega arith },
         λ e u w. (fine, record { before = e; so_far = []; part = opens_plain text p e u w l n d; given = sym (append-nil e) }),
@@ -336,7 +338,8 @@ module _ (text : List ℕ) (p : ℕ) where
                 λ e u w. record {
                   before = e;
                   so_far = [];
-                  part = part_on (lines (get_or text p 0) 0 []) (p + r) (shifted (get_or text p 0) (quote_high (get_or text p 0) (opens_quote text p e u w l)).0)
+                  part = part_on (lines (get_or text p 0) 0 []) (p + r) (shifted (get_or text p 0)
+                      (quote_high (get_or text p 0) (opens_quote text p e u w l)).0)
                       (opens_lines text p e u w l n d m d2);
                   given = sym (append-nil e);
                 },
@@ -399,7 +402,8 @@ module _ (text : List ℕ) (p quote : ℕ) (small : quote < 256) where
           (λ e u v. closed_fine d v.0 e u v.1) w
 
       byte_on : (get_or text p 0 ≡ quote → ⊥) → (bad : Bad) (acc : List ℕ) (x : Bool) → plain_byte (get_or text p 0) ≡ x
-          → Strings.scan p (between quote bad acc) (get_or text p 0) ≡ cond x (takes (between quote bad (acc ++ (get_or text p 0 ∷ [])))) (breaks (NotGrammar p))
+          → Strings.scan p (between quote bad acc) (get_or text p 0) ≡ cond x (takes (between quote bad (acc ++ (get_or text p 0 ∷ []))))
+          (breaks (NotGrammar p))
       unfolding Strings.scan on_body
       byte_on d bad acc x e = rw (ne_eqb _ _ i, ne_eqb _ _ d, e)
 
@@ -546,7 +550,11 @@ module _ (text : List ℕ) (p quote : ℕ) (small : quote < 256) where
     plain_on d acc x e = rw (ne_eqb _ _ d, e)
 
     pub lines_byte : StepSays text (Spelling.Lines p quote) (Spelt.Byte (get_or text p 0) (Spelling.Lines (p + 1) quote))
-    lines_byte = (record { within = omega arith; falls = omega arith }, λ e u w. by e u w (ℕ_discrete (get_or text p 0) quote) (line_byte (get_or text p 0)) refl)
+    lines_byte = (
+      record { within = omega arith; falls = omega arith },
+      λ e u w.
+          by e u w (ℕ_discrete (get_or text p 0) quote) (line_byte (get_or text p 0)) refl,
+    )
       where
         by : (e u : List ℕ) → Inside text (lines quote 0) p e u → Dec (get_or text p 0 ≡ quote) → (x : Bool) → line_byte (get_or text p 0) ≡ x
             → Inside text (lines quote 0) (p + 1) (e ++ (get_or text p 0 ∷ [])) u

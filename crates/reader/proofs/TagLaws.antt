@@ -108,8 +108,10 @@ module _ (text : List ℕ) (q salt : ℕ) where
       pub name_tag_done : Names.class_of (get_or text i 0) ≡ Names.neither → (r : ℕ) → r ≡ finish h → TagSays text q salt r
       name_tag_done c r x = tag_done text q salt (Spelling.Name i) h v r (name_stops text i l c) x
 
-      pub name_tag_letter : Names.class_of (get_or text i 0) ≡ Names.letter → (g : ℕ) → g ≡ mix h (get_or text i 0) → Tagging text q salt (Spelling.Name (i + 1)) g
+      pub name_tag_letter : Names.class_of (get_or text i 0) ≡ Names.letter → (g : ℕ) → g ≡ mix h (get_or text i 0)
+          → Tagging text q salt (Spelling.Name (i + 1)) g
       name_tag_letter c g x = tag_more text q salt (Spelling.Name i) h v (get_or text i 0) (Spelling.Name (i + 1)) g (name_letter text i l c).1 x
 
-      pub name_tag_figure : Names.class_of (get_or text i 0) ≡ Names.figure → (g : ℕ) → g ≡ mix h (get_or text i 0) → Tagging text q salt (Spelling.Name (i + 1)) g
+      pub name_tag_figure : Names.class_of (get_or text i 0) ≡ Names.figure → (g : ℕ) → g ≡ mix h (get_or text i 0)
+          → Tagging text q salt (Spelling.Name (i + 1)) g
       name_tag_figure c g x = tag_more text q salt (Spelling.Name i) h v (get_or text i 0) (Spelling.Name (i + 1)) g (name_figure text i l c).1 x

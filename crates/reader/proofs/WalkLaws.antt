@@ -3,19 +3,20 @@ use mathlib.Core.Path.{◌≡◌, refl, sym, ap, ◌∙◌}
 use mathlib.Core.List.{List, [], append-nil}
 use Prim.Native.Nat.{ℕ, ◌≤◌, ◌<◌}
 use native.Mathlib.Omega.{arith}
-use lib.ListN.{length, get_or, drop}
+use lib.ListN.{length, get_or}
 use Rattle.meaning.specs.declared.Refusal.{Refusal}
 use Rattle.meaning.specs.declared.Refusal.TheVariants.{NotGrammar}
 use Rattle.meaning.specs.Limits.{text_limit, depth_limit}
 use Rattle.meaning.specs.Meaning.{Meaning}
-use Rattle.meaning.specs.Tape.{records, bytes, tape_of, store_of}
-use Rattle.machine.specs.Machine.{want, got, value, base, Conf, at, fail, Class, class_of, on_got, Ok, No, reading}
-use Rattle.machine.specs.Machine.{blank_c, hash_c, slash_c, comma_c, colon_c, plus_c, quote_c, dollar_c, letter_n, letter_t, letter_f, letter_c, other_c, open_c, close_c}
+use Rattle.meaning.specs.Tape.{tape_of}
+use Rattle.machine.specs.Machine.{want, got, value, base, at, fail, Class, class_of, on_got, Ok, No, reading}
+use Rattle.machine.specs.Machine.{blank_c, hash_c, slash_c, comma_c, colon_c, plus_c, quote_c, dollar_c, letter_n, letter_t, letter_f, letter_c, other_c}
+use Rattle.machine.specs.Machine.{open_c, close_c}
 use Rattle.machine.specs.Heard.{Heard, Told, tell, telling, heard_of}
 use Rattle.reader.specs.Between.Scanning.{Tells, Bare, Shut}
 use Rattle.reader.specs.Between.Layout.{Breaks, LayoutEnds}
-use Rattle.reader.specs.Between.Cursor.{Ready, AtValue, Seen, Took, Left, wants, keeping}
-use Rattle.reader.specs.Between.Walk.{Finishes, EndedSays, WalkSays, Walked}
+use Rattle.reader.specs.Between.Cursor.{AtValue, Seen, Took, Left, wants, keeping}
+use Rattle.reader.specs.Between.Walk.{Finishes, EndedSays, WalkSays}
 use Rattle.reader.specs.declared.cursor.Cursor.{Cursor}
 use Rattle.reader.specs.declared.Answer.{Answer}
 use Rattle.reader.specs.declared.Answer.TheVariants.{Counts, Refused}

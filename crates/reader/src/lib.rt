@@ -1,4 +1,6 @@
 // Reads a text into a tape and a store: `measure` says what it needs, `read` fills.
+#![tactic(auto)]
+
 mod cursor;
 mod joined;
 mod key;

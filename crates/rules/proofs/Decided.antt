@@ -8,11 +8,10 @@ use native.Mathlib.Omega.{arith}
 use lib.Count.{count_leading_zeros}
 use lib.Dec.{eqb, leb, ltb}
 use lib.ListN.{length, get_or}
-use borrow.Author.Tests.{eqb-true, eqb-false, leb-true, leb-false, ltb-true, ltb-false, le-leb, lt-ltb, le-ltb}
+use borrow.Author.Tests.{eqb-true, eqb-false, leb-true, leb-false, le-leb, lt-ltb, le-ltb}
 use Rattle.rules.specs.Rfc3629.{Octets, Judged, done}
-use Rattle.rules.specs.Between.Posts.{Passed, CharAt, Tails, Tailed, tailed, broken, low_of, high_of}
+use Rattle.rules.specs.Between.Posts.{Passed, CharAt, Tails, Tailed, tailed, broken}
 use Rattle.rules.specs.Between.Decided.{ones, conj, bounds, is_wide, length_at, fault_from, judged}
-use Rattle.rules.specs.declared.Utf8Answer.{Utf8Answer}
 use Rattle.rules.specs.declared.Utf8Answer.TheVariants.{Done, IllFormed}
 use Rattle.rules.proofs.Places.{step1, down⁻, Wide, no_char, ascii_char, back2, back3, back4}
 use Rattle.rules.proofs.Outcomes.{one_outcome_utf8, utf8_done}
@@ -122,7 +121,8 @@ pub length_is : (s : List ℕ) (i : ℕ) → i < length s → CharAt s i (length
 unfolding length_at
 length_is s i h = go (eqb (ones (get_or s i 0)) 0) refl (is_wide s i (ones (get_or s i 0))) refl
   where
-    go : (x : Bool) → eqb (ones (get_or s i 0)) 0 ≡ x → (y : Bool) → is_wide s i (ones (get_or s i 0)) ≡ y → CharAt s i (cond x 1 (cond y (ones (get_or s i 0)) 0))
+    go : (x : Bool) → eqb (ones (get_or s i 0)) 0 ≡ x → (y : Bool) → is_wide s i (ones (get_or s i 0)) ≡ y
+        → CharAt s i (cond x 1 (cond y (ones (get_or s i 0)) 0))
     go true e y f = ascii_char s i h (ascii (get_or s i 0) (eqb-true _ _ e))
     go false e true f = by_count s i (ones (get_or s i 0)) (is_wide_lem s i _ refl f)
     go false e false f = no_char s i (eqb-false _ _ e) (λ n w. differ (sym f ∙ ap (is_wide s i) (sym w.count) ∙ wide_is s i n w))

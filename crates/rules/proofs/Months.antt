@@ -1,8 +1,7 @@
 -- Leap years, the days of a month, and that the test of a date that computes is right. Assumes nothing.
-use mathlib.Core.Path.{◌≡◌, refl, sym, ap, ◌∙◌, subst}
+use mathlib.Core.Path.{◌≡◌, refl, sym, ◌∙◌, subst}
 use mathlib.Core.Bool.{Bool, true, false, cond, not}
-use mathlib.Core.List.{List, [], ◌∷◌}
-use Prim.Native.Nat.{ℕ, zero, suc, ◌+◌, ◌%◌, ◌≤◌, ◌<◌}
+use Prim.Native.Nat.{ℕ, zero, suc, ◌%◌, ◌≤◌, ◌<◌}
 use native.Mathlib.Decide.{ℕ_discrete, dec_le}
 use native.Mathlib.Omega.{arith}
 use lib.Dec.{eqb, leb}
@@ -13,7 +12,6 @@ use Rattle.rules.specs.Rfc3339
 use Rattle.rules.specs.Between.Decided.{is_leap, long_or_short, days_of, is_date}
 use Rattle.rules.specs.Between.Posts.{Lasts, month, no_month}
 use Rattle.rules.specs.Between.Tests.{Decides, holds, fails}
-use Rattle.rules.specs.declared.DateAnswer.{DateAnswer}
 use Rattle.rules.specs.declared.DateAnswer.TheVariants.{Done, NoDate}
 
 -- ---- leap years, as the code tests them

@@ -11,7 +11,7 @@ use Rattle.rules.specs.Between.Posts.{AtMost, Ascii, Passed, CharAt, char, gap, 
 use Rattle.rules.specs.Between.Beside.{Greater, IsTail, Wanted, Barred, Beside, Clean, Topped, BlockIs, plain, wide, faulty, Open, whole, one, two, three}
 use Rattle.rules.specs.Between.Beside.{Begun}
 use Rattle.rules.specs.declared.blocks.Block.{Block}
-use Rattle.rules.specs.declared.blocks.Block.TheVariants.{Plain, Wide, Faulty}
+use Rattle.rules.specs.declared.blocks.Block.TheVariants.{Plain, Wide}
 use Rattle.rules.proofs.Characters.{short}
 use Rattle.rules.proofs.Places
 use Rattle.rules.proofs.Places.{up, down, down⁻, step2, step3, step4, step5}
@@ -138,20 +138,23 @@ module _ (s : List ℕ) (h i j k : ℕ) (ei : i ≡ h + 1) (ej : j ≡ h + 2) (e
       → low_of (get_or s i 0) ≤ get_or s j 0 → get_or s j 0 ≤ high_of (get_or s i 0) → Open s h
   two_at p f a b c d = two (rw ei at p) (rw ek at f) (rw ei at a) (rw ei at b) (rw (← ei, ← ej) c) (rw (← ei, ← ej) d)
 
-  three_at : Passed s h → k ≤ length s → 0xF0 ≤ get_or s h 0 → get_or s h 0 ≤ 0xF4 → low_of (get_or s h 0) ≤ get_or s i 0 → get_or s i 0 ≤ high_of (get_or s h 0)
+  three_at : Passed s h → k ≤ length s → 0xF0 ≤ get_or s h 0 → get_or s h 0 ≤ 0xF4 → low_of (get_or s h 0) ≤ get_or s i 0
+      → get_or s i 0 ≤ high_of (get_or s h 0)
       → 0x80 ≤ get_or s j 0 → get_or s j 0 ≤ 0xBF → Open s h
   three_at p f a b c d x y = three p (rw ek at f) a b (rw ei at c) (rw ei at d) (rw ej at x) (rw ej at y)
 
 module _ (s : List ℕ) (h : ℕ) (x : Beside (get_or s h 0) (get_or s (h + 1) 0) (get_or s (h + 2) 0) (get_or s (h + 3) 0)) (t : get_or s (h + 3) 0 ≤ 0xF4)
     (f : h + 4 ≤ length s) where
-  after_whole : Passed s (h + 3) → get_or s h 0 < 0xF0 → get_or s (h + 1) 0 < 0xE0 → get_or s (h + 2) 0 < 0xC0 → Dec (get_or s (h + 3) 0 < 0x80) → Open s (h + 1)
+  after_whole : Passed s (h + 3) → get_or s h 0 < 0xF0 → get_or s (h + 1) 0 < 0xE0 → get_or s (h + 2) 0 < 0xC0 → Dec (get_or s (h + 3) 0 < 0x80)
+      → Open s (h + 1)
   after_whole p a b c (yes l) =
       whole_at s (h + 1) (h + 2) (h + 3) (h + 4) (omega arith) (omega arith) (omega arith)
       (next1 s (h + 3) (h + 4) (omega arith) p f l) (omega arith) (omega arith) (omega arith)
   after_whole p a b c (no l) =
       one_at s (h + 1) (h + 2) (h + 3) (h + 4) (omega arith) (omega arith) (omega arith) p f (omega arith) (x.first c b a (omega arith)) t
 
-  after_one : Passed s (h + 2) → get_or s (h + 1) 0 < 0xF0 → 0xC2 ≤ get_or s (h + 2) 0 → get_or s (h + 2) 0 ≤ 0xF4 → Dec (get_or s (h + 2) 0 < 0xE0) → Open s (h + 1)
+  after_one : Passed s (h + 2) → get_or s (h + 1) 0 < 0xF0 → 0xC2 ≤ get_or s (h + 2) 0 → get_or s (h + 2) 0 ≤ 0xF4 → Dec (get_or s (h + 2) 0 < 0xE0)
+      → Open s (h + 1)
   after_one p a l u (yes g) =
       let y = x.second (omega arith) in
       let lo = low_least (get_or s (h + 2) 0) in let hi = high_most (get_or s (h + 2) 0) in

@@ -1,11 +1,11 @@
 -- Two outcomes that a promise allows for one input are equal. Assumes nothing.
 use mathlib.Core.Path.{◌≡◌, refl, sym, ap, ◌∙◌, subst}
 use mathlib.Core.Logic.{⊎_elim}
-use mathlib.Core.List.{List, [], ◌∷◌, ◌++◌, append-nil, append_assoc}
-use Prim.Native.Nat.{ℕ, ◌+◌, ◌≤◌, ◌<◌}
+use mathlib.Core.List.{List, ◌++◌, append_assoc}
+use Prim.Native.Nat.{ℕ}
 use native.Mathlib.Omega.{arith}
 use lib.ListN.{length, length-append}
-use Rattle.rules.specs.Rfc3629.{Char, Octets, none, more, NoChar, Fault, Judged, done, ill}
+use Rattle.rules.specs.Rfc3629.{Octets, none, more, NoChar, Fault, Judged, done, ill}
 use Rattle.rules.specs.Rfc3339
 use Rattle.rules.specs.Rfc3339.{Date, Dated}
 use Rattle.rules.specs.Paper as paper

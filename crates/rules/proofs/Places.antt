@@ -1,17 +1,17 @@
 -- A character as bounds on the bytes at a place: what `char_at` tests. Assumes nothing.
-use mathlib.Core.Path.{◌≡◌, refl, sym, ap, ◌∙◌, subst}
-use mathlib.Core.Bool.{Bool, true, false}
+use mathlib.Core.Path.{◌≡◌, refl, sym, ap, ◌∙◌}
+use mathlib.Core.Bool.{Bool}
 use mathlib.Core.List.{List, [], ◌∷◌, ◌++◌}
-use Prim.Native.Nat.{ℕ, zero, suc, ◌+◌, ◌-◌, ◌≤◌, ◌<◌}
+use Prim.Native.Nat.{ℕ, suc, ◌+◌, ◌≤◌, ◌<◌}
 use native.Mathlib.Decide.{dec_lt, ℕ_discrete}
 use native.Mathlib.Numerals.{add-one, add-two, add-three}
 use native.Mathlib.Omega.{arith}
 use lib.Count.{count_leading_zeros}
 use lib.Dec.{T, leb}
-use lib.ListN.{length, get_or, take, drop, length-append, length-drop}
+use lib.ListN.{length, get_or, take, drop, length-drop}
 use lib.Seq.{get_or-drop, drop-cons}
 use borrow.Author.Tests.{ne_eqb, le-leb, lt-leb, leb-true, leb-false}
-use Rattle.rules.specs.Rfc3629.{In, Tail, Char, utf8_1, utf8_2, utf8_3a, utf8_3b, utf8_3c, utf8_3d, utf8_4a, utf8_4b, utf8_4c, NoChar}
+use Rattle.rules.specs.Rfc3629.{Char, utf8_1, utf8_2, utf8_3a, utf8_3b, utf8_3c, utf8_3d, utf8_4a, utf8_4b, utf8_4c, NoChar}
 use Rattle.rules.specs.Between.Decided.{ones}
 use Rattle.rules.specs.Between.Posts.{CharAt, char, gap, low_of, high_of}
 use Rattle.rules.proofs.Computed.{every, below, agree, agreed}
@@ -252,7 +252,8 @@ module _ (s : List ℕ) (i : ℕ) where
           utf8_3d {a = a} {b = b} {c = c} (omega (arith, u, v, t)) (omega (arith, u, v, t)) (omega (arith, u, v, t))
 
   pub back4 : Wide s i 4 → CharAt s i 4
-  back4 w = char {n = 4} (omega arith) w.fits (rw (take_4 w.fits) (go (get_or s i 0) (get_or s (i + 1) 0) (get_or s (i + 2) 0) (get_or s (i + 3) 0) refl refl refl
+  back4 w = char {n = 4} (omega arith) w.fits (rw (take_4 w.fits) (go (get_or s i 0) (get_or s (i + 1) 0) (get_or s (i + 2) 0) (get_or s (i + 3) 0) refl refl
+      refl
       refl (ℕ_discrete (get_or s i 0) 0xF0) (ℕ_discrete (get_or s i 0) 0xF4)))
     where
       u : 240 ≤ get_or s i 0

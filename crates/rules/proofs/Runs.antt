@@ -1,15 +1,13 @@
 -- What the loops over ASCII have passed. Assumes nothing.
 use mathlib.Core.Path.{◌≡◌, refl, sym, ap, ◌∙◌, subst}
-use mathlib.Core.Logic.{⊎_elim}
-use mathlib.Core.List.{List, [], ◌∷◌, ◌++◌}
+use mathlib.Core.List.{List}
 use Prim.Native.Nat.{ℕ, zero, suc, ◌+◌, ◌-◌, ◌≤◌, ◌<◌}
 use native.Mathlib.Decide.{dec_lt, ℕ_discrete}
 use native.Mathlib.Nat.{le_antisymm}
-use native.Mathlib.Numerals.{add-one}
 use native.Mathlib.Omega.{arith}
 use lib.ListN.{length, get_or, take, drop, take-append-drop, length-drop}
 use lib.Seq.{take-suc, take-add, take-length, length-take-le}
-use Rattle.rules.specs.Rfc3629.{In, Char, utf8_1, NoChar, Octets, none, more, Fault, Judged, done, ill}
+use Rattle.rules.specs.Rfc3629.{utf8_1, NoChar, Octets, none, Fault, Judged, done, ill}
 use Rattle.rules.specs.declared.Utf8Answer.TheVariants.{Done, IllFormed}
 use Rattle.rules.specs.Between.Posts.{AtMost, Ascii, Passed, CharAt, char, gap}
 use Rattle.rules.proofs.Characters.{join, one}

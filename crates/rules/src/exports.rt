@@ -1,4 +1,4 @@
-// The two calls for C and Rust (include/lanternrung_rules.h).
+// The two calls for C and Rust (include/lanternrung_rules.h), which crate `rules_c` exports under these names.
 ghost use Rattle.rules.specs.Told.{Utf8Told, DateTold};
 
 use crate::{DateAnswer, Utf8Answer};
@@ -12,8 +12,7 @@ pub struct Status {
 }
 
 // `crate::utf8`; the place is that of the first fault.
-#[unsafe(no_mangle)]
-pub extern "C" fn lr_rules_utf8(s: &[u8]) -> Status
+pub fn lr_rules_utf8(s: &[u8]) -> Status
     ensures { Utf8Told s.now result.refused result.place }
 {
     match crate::utf8(s) {
@@ -29,8 +28,7 @@ pub extern "C" fn lr_rules_utf8(s: &[u8]) -> Status
 }
 
 // `crate::date`; a refusal has the place 0.
-#[unsafe(no_mangle)]
-pub extern "C" fn lr_rules_date(year: u64, month: u64, day: u64) -> Status
+pub fn lr_rules_date(year: u64, month: u64, day: u64) -> Status
     ensures { DateTold year month day result.refused result.place }
 {
     match crate::date(year, month, day) {

@@ -1,4 +1,6 @@
-// UTF-8 and the calendar, by themselves: the metrology group links this crate alone.
+// UTF-8 and the calendar, by themselves: the metrology group links these alone, as the archive of crate `rules_c`.
+#![tactic(auto)]
+
 mod blocks;
 mod calendar;
 pub mod exports;

@@ -1,6 +1,7 @@
 // Generated records: pieces of every kind, chosen by the bits of a number.
 use crate::{calls, showing, spelling};
 use items::store;
+use std::io;
 
 // The bytes from a place on, and the place after them.
 fn put(out: &mut [u8; 4096], at: usize, s: &[u8]) -> usize {
@@ -58,7 +59,7 @@ fn goes_round(out: &[u8; 4096], end: usize) -> bool {
 
 // An array of eight values comes back.
 fn generated(seed: u64) -> bool {
-    let mut out = io::buffer();
+    let mut out = [0u8; 4096];
     put(&mut out, 0, b"[");
     let at = values(&mut out, seed);
     let end = put(&mut out, at, b"]");
@@ -87,7 +88,7 @@ fn come_back(count: u64) -> u64 {
 }
 
 // Prints how many of so many generated records come back.
-pub(crate) fn sweep(rest: &[u8]) -> bool {
-    showing::count(come_back(spelling::number(rest)), b" read again");
-    true
+pub(crate) fn sweep(rt: &impl Print, rest: &[u8]) -> io::Result<bool> {
+    showing::count(rt, come_back(spelling::number(rest)), b" read again")?;
+    Ok(true)
 }

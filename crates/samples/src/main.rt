@@ -19,93 +19,95 @@ mod generated;
 mod showing;
 mod spelling;
 
-use libc::{STDIN_FILENO, STDOUT_FILENO};
+ghost use Rattle.std.specs.Prelude.{IfOk};
+ghost use Rattle.std.specs.Counts.{IsPrefixLen};
+
+use std::io;
+use std::io::Read;
 
 // The call of this name on its arguments, by what it is given; false where there is none.
-fn on_rules(name: &[u8], rest: &[u8]) -> bool {
-    if check::same(name, b"utf8") {
-        return calls::utf8(rest);
+fn on_rules(rt: &impl Print, name: &[u8], rest: &[u8]) -> io::Result<bool> {
+    match name {
+        b"utf8" => calls::utf8(rt, rest),
+        b"date" => calls::date(rt, rest),
+        _ => Ok(false),
     }
-    if check::same(name, b"date") {
-        return calls::date(rest);
-    }
-    false
 }
 
 // The same for the calls that are given a text.
-fn on_text(name: &[u8], rest: &[u8]) -> bool {
-    if check::same(name, b"measure") {
-        return calls::measure(rest);
+fn on_text(rt: &impl Print, name: &[u8], rest: &[u8]) -> io::Result<bool> {
+    match name {
+        b"measure" => calls::measure(rt, rest),
+        b"check" => calls::checked(rt, rest),
+        b"read" => calls::read(rt, rest),
+        b"tape" => calls::tape(rt, rest),
+        b"jaxn" => calls::jaxn(rt, rest),
+        b"json" => calls::json(rt, rest),
+        _ => Ok(false),
     }
-    if check::same(name, b"check") {
-        return calls::checked(rest);
-    }
-    if check::same(name, b"read") {
-        return calls::read(rest);
-    }
-    if check::same(name, b"tape") {
-        return calls::tape(rest);
-    }
-    if check::same(name, b"jaxn") {
-        return calls::jaxn(rest);
-    }
-    if check::same(name, b"json") {
-        return calls::json(rest);
-    }
-    false
 }
 
 // The same for the calls that are given a tape, and for the generated records.
-fn on_tape(name: &[u8], rest: &[u8]) -> bool {
-    if check::same(name, b"look") {
-        return calls::look(rest);
+fn on_tape(rt: &impl Print, name: &[u8], rest: &[u8]) -> io::Result<bool> {
+    match name {
+        b"look" => calls::look(rt, rest),
+        b"write_jaxn" => calls::write_jaxn(rt, rest),
+        b"write_json" => calls::write_json(rt, rest),
+        b"generated" => generated::sweep(rt, rest),
+        _ => Ok(false),
     }
-    if check::same(name, b"write_jaxn") {
-        return calls::write_jaxn(rest);
-    }
-    if check::same(name, b"write_json") {
-        return calls::write_json(rest);
-    }
-    if check::same(name, b"generated") {
-        return generated::sweep(rest);
-    }
-    false
 }
 
 // The call of this name, if any; an empty line and a heading call nothing, and are no fault.
-fn call(name: &[u8], rest: &[u8]) -> bool {
-    if name.len() == 0 || check::same(name, b"#") {
-        return true;
+fn call(rt: &impl Print, name: &[u8], rest: &[u8]) -> io::Result<bool> {
+    if name.len() == 0 || name == b"#".as_slice() {
+        return Ok(true);
     }
-    on_rules(name, rest) || on_text(name, rest) || on_tape(name, rest)
+    Ok(on_rules(rt, name, rest)? || on_text(rt, name, rest)? || on_tape(rt, name, rest)?)
 }
 
 // Prints a case with its outcome, and a fault where there is no such call.
-fn line(s: &[u8]) {
-    io::write_all(STDOUT_FILENO, s);
+fn line(rt: &impl Print, s: &[u8]) -> io::Result<()> {
+    rt.write_all(s)?;
     let end = spelling::find(s, 0, b' ');
-    if !call(&s[..end], spelling::after(s, end)) {
-        showing::fault(b"a call");
+    if !call(rt, &s[..end], spelling::after(s, end))? {
+        showing::fault(rt, b"a call")?;
     }
-    io::write_all(STDOUT_FILENO, b"\n");
+    rt.write_all(b"\n")
 }
 
 // Each line of the cases.
-fn each(cases: &[u8]) {
+fn each(rt: &impl Print, cases: &[u8]) -> io::Result<()> {
     let mut at: usize = 0;
     while at < cases.len() {
         let end = spelling::find(cases, at, b'\n');
-        line(&cases[at..end]);
+        line(rt, &cases[at..end])?;
         if end == cases.len() {
-            return;
+            return Ok(());
         }
         at = end + 1;
     }
+    Ok(())
+}
+
+// Reads until the room is full or the input ends, and says how many bytes it read.
+fn read_full<R: Read>(from: &mut R, room: &mut [u8]) -> io::Result<usize>
+    ensures { IfOk result (λ n. IsPrefixLen n room.new) }
+{
+    let mut at: usize = 0;
+    while at < room.len() {
+        let more = from.read(&mut room[at..])?;
+        if more == 0 {
+            break;
+        }
+        at += more;
+    }
+    Ok(at)
 }
 
 // All the cases are read before the first is tried.
-fn main() {
-    let mut cases = io::large_buffer();
-    let n = io::read_full(STDIN_FILENO, &mut cases);
-    each(&cases[..n]);
+fn main(rt: HostRuntime) -> io::Result<()> {
+    let mut cases = [0u8; 65536];
+    let n = read_full(&mut rt.stdin(), &mut cases)?;
+    each(&rt, &cases[..n])
 }

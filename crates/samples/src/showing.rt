@@ -1,69 +1,69 @@
 // Outcomes, as they are printed.
 use lanternrung::exports::{Fields, Sizes, Status};
-use libc::STDOUT_FILENO;
+use std::io;
 
 // Prints the bytes as they are.
-fn word(s: &[u8]) {
-    io::write_all(STDOUT_FILENO, s);
+fn word(rt: &impl Print, s: &[u8]) -> io::Result<()> {
+    rt.write_all(s)
 }
 
 // Prints a number in decimal digits.
-fn decimal(n: u64) {
-    io::print_decimal(STDOUT_FILENO, n);
+fn decimal(rt: &impl Print, n: u64) -> io::Result<()> {
+    rt.print(n)
 }
 
 // An answer follows.
-fn arrow() {
-    word(b" -> ");
+fn arrow(rt: &impl Print) -> io::Result<()> {
+    word(rt, b" -> ")
 }
 
 // An answer in words, after its arrow.
-pub(crate) fn say(s: &[u8]) {
-    arrow();
-    word(s);
+pub(crate) fn say(rt: &impl Print, s: &[u8]) -> io::Result<()> {
+    arrow(rt)?;
+    word(rt, s)
 }
 
 // Something is not as promised.
-pub(crate) fn fault(s: &[u8]) {
-    word(b" NOT ");
-    word(s);
+pub(crate) fn fault(rt: &impl Print, s: &[u8]) -> io::Result<()> {
+    word(rt, b" NOT ")?;
+    word(rt, s)
 }
 
 // A refusal, by its number and its place.
-pub(crate) fn refused(number: u32, place: u64) {
-    say(b"refused ");
-    decimal(number as u64);
-    word(b" at ");
-    decimal(place);
+pub(crate) fn refused(rt: &impl Print, number: u32, place: u64) -> io::Result<()> {
+    say(rt, b"refused ")?;
+    decimal(rt, number as u64)?;
+    word(rt, b" at ")?;
+    decimal(rt, place)
 }
 
 // The refusal, or `done`.
-pub(crate) fn status(s: Status) {
+pub(crate) fn status(rt: &impl Print, s: Status) -> io::Result<()> {
     if s.refused > 0 {
-        refused(s.refused, s.place);
+        refused(rt, s.refused, s.place)
     } else {
-        say(b"done");
+        say(rt, b"done")
     }
 }
 
 // The refusal, or how many records and bytes.
-pub(crate) fn sizes(s: Sizes) {
+pub(crate) fn sizes(rt: &impl Print, s: Sizes) -> io::Result<()> {
     if s.refused > 0 {
-        refused(s.refused, s.place);
+        refused(rt, s.refused, s.place)
     } else {
-        arrow();
-        decimal(s.records);
-        word(b" records, ");
-        decimal(s.bytes);
-        word(b" bytes");
+        arrow(rt)?;
+        decimal(rt, s.records)?;
+        word(rt, b" records, ")?;
+        decimal(rt, s.bytes)?;
+        word(rt, b" bytes")
     }
 }
 
 // A number and what it counts, after an arrow.
-pub(crate) fn count(n: u64, of: &[u8]) {
-    arrow();
-    decimal(n);
-    word(of);
+pub(crate) fn count(rt: &impl Print, n: u64, of: &[u8]) -> io::Result<()> {
+    arrow(rt)?;
+    decimal(rt, n)?;
+    word(rt, of)
 }
 
 // The number without its sign, never by negating: the least one has no opposite in 32 bits.
@@ -75,86 +75,89 @@ fn magnitude(x: i32) -> u64 {
 }
 
 // A number with its sign.
-fn signed(x: i32) {
+fn signed(rt: &impl Print, x: i32) -> io::Result<()> {
     if x < 0 {
-        word(b"-");
+        word(rt, b"-")?;
     }
-    decimal(magnitude(x));
+    decimal(rt, magnitude(x))
 }
 
 // A field that is not 0.
-fn field(name: &[u8], n: u64) {
+fn field(rt: &impl Print, name: &[u8], n: u64) -> io::Result<()> {
     if n > 0 {
-        word(name);
-        decimal(n);
+        word(rt, name)?;
+        decimal(rt, n)?;
     }
+    Ok(())
 }
 
 // The same with its sign.
-fn signed_field(name: &[u8], x: i32) {
+fn signed_field(rt: &impl Print, name: &[u8], x: i32) -> io::Result<()> {
     if x != 0 {
-        word(name);
-        signed(x);
+        word(rt, name)?;
+        signed(rt, x)?;
     }
+    Ok(())
 }
 
 // The fields of numbers, and of strings, keys and binary.
-fn number_fields(f: Fields) {
-    signed_field(b" power ", f.power);
-    field(b" coefficient ", f.coefficient);
-    field(b" length ", f.length);
-    field(b" start ", f.start);
+fn number_fields(rt: &impl Print, f: Fields) -> io::Result<()> {
+    signed_field(rt, b" power ", f.power)?;
+    field(rt, b" coefficient ", f.coefficient)?;
+    field(rt, b" length ", f.length)?;
+    field(rt, b" start ", f.start)
 }
 
 // The fields of the time types.
-fn time_fields(f: Fields) {
-    field(b" year ", f.year as u64);
-    field(b" month ", f.month as u64);
-    field(b" day ", f.day as u64);
-    signed_field(b" offset ", f.offset);
-    field(b" time ", f.time);
+fn time_fields(rt: &impl Print, f: Fields) -> io::Result<()> {
+    field(rt, b" year ", f.year as u64)?;
+    field(rt, b" month ", f.month as u64)?;
+    field(rt, b" day ", f.day as u64)?;
+    signed_field(rt, b" offset ", f.offset)?;
+    field(rt, b" time ", f.time)
 }
 
 // The refusal, or the record's kind and those of its fields that are not 0.
-pub(crate) fn fields(f: Fields) {
+pub(crate) fn fields(rt: &impl Print, f: Fields) -> io::Result<()> {
     if f.refused > 0 {
-        refused(f.refused, f.place);
+        refused(rt, f.refused, f.place)
     } else {
-        say(b"kind");
-        field(b" ", f.kind as u64);
-        field(b" flag ", f.flag as u64);
-        number_fields(f);
-        time_fields(f);
-        field(b" count ", f.count);
-        field(b" end ", f.end);
+        say(rt, b"kind")?;
+        field(rt, b" ", f.kind as u64)?;
+        field(rt, b" flag ", f.flag as u64)?;
+        number_fields(rt, f)?;
+        time_fields(rt, f)?;
+        field(rt, b" count ", f.count)?;
+        field(rt, b" end ", f.end)
     }
 }
 
 // A byte as a case spells it, in a tape with dots.
-fn spell(b: u8, dots: bool) {
+fn spell(rt: &impl Print, b: u8, dots: bool) -> io::Result<()> {
     if dots && b == 0 {
-        word(b".");
+        word(rt, b".")
     } else if b > 32 && b < 127 && b != b'%' && b != b'|' && (b != b'.' || !dots) {
-        word(&[b]);
+        word(rt, &[b])
     } else {
-        word(b"%");
-        io::print_hex(STDOUT_FILENO, b as u64, 2);
+        word(rt, b"%")?;
+        print!(rt; "{b:02x}")
     }
 }
 
 // All the bytes, as a case spells them.
-fn spelled(s: &[u8], dots: bool) {
+fn spelled(rt: &impl Print, s: &[u8], dots: bool) -> io::Result<()> {
     let mut i: usize = 0;
     while i < s.len() {
-        spell(s[i], dots);
+        spell(rt, s[i], dots)?;
         i += 1;
     }
+    Ok(())
 }
 
 // A tape and a store, as a case spells them.
-pub(crate) fn both(tape: &[u8], store: &[u8]) {
-    arrow();
-    spelled(tape, true);
-    word(b"|");
-    spelled(store, false);
+pub(crate) fn both(rt: &impl Print, tape: &[u8], store: &[u8]) -> io::Result<()> {
+    arrow(rt)?;
+    spelled(rt, tape, true)?;
+    word(rt, b"|")?;
+    spelled(rt, store, false)
 }

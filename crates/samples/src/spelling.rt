@@ -1,6 +1,6 @@
 // How a case is spelled.
 ghost use Rattle.std.specs.Prelude.{◌≤◌, ◌<◌, ◌≡◌, length};
-ghost use Rattle.io.specs.Counts.{IsPrefixLen};
+ghost use Rattle.std.specs.Counts.{IsPrefixLen};
 
 // A byte, and where what follows it begins.
 #[derive(Clone, Copy)]

@@ -10,7 +10,8 @@ use Rattle.meaning.specs.declared.Record.{Record}
 use Rattle.meaning.specs.Limits.{depth_limit}
 use Rattle.meaning.specs.Meaning.{Meaning, Meanings, Members, null, bool, number, string, binary, time, array, object, none, more, bare, member}
 use Rattle.meaning.specs.Good.{depth, elements_depth, members_depth}
-use Rattle.meaning.specs.Tape.{records, elements_records, members_records, elements_count, members_count, store_of, elements_store, members_store, end_of, records_of}
+use Rattle.meaning.specs.Tape.{records, elements_records, members_records, elements_count, members_count, store_of, elements_store, members_store, end_of}
+use Rattle.meaning.specs.Tape.{records_of}
 use Rattle.meaning.specs.Tape.{elements_of, members_of}
 use Rattle.meaning.proofs.Bytes.{part_is}
 use Rattle.meaning.proofs.Sizes.{most_left, most_right, some_record}

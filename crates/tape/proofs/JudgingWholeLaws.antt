@@ -10,7 +10,8 @@ use Rattle.meaning.specs.declared.Record.{Record}
 use Rattle.meaning.specs.Limits.{record_limit, store_limit}
 use Rattle.meaning.specs.Meaning.{Meaning, Meanings, Members, null, bool, number, string, binary, time, array, object, none, more, bare, member}
 use Rattle.meaning.specs.Good.{Bytes, GoodParts, GoodElements, GoodMembers}
-use Rattle.meaning.specs.Tape.{records, elements_records, members_records, store_of, elements_store, members_store, records_of, elements_of, members_of, records_bytes}
+use Rattle.meaning.specs.Tape.{records, elements_records, members_records, store_of, elements_store, members_store, records_of, elements_of, members_of}
+use Rattle.meaning.specs.Tape.{records_bytes}
 use Rattle.meaning.specs.Tape.{tape_of}
 use Rattle.meaning.specs.Between.Words.{Fit}
 use Rattle.meaning.specs.Look.{OwnFields, whole_records, RecordAt}
@@ -109,7 +110,8 @@ module _ (store : List ℕ) (count : ℕ) where
       value_good (array ms) i at pre post e a f = values_good ms (i + 1) at pre post e a f.1
       value_good (object ms) i at pre post e a f = pairs_good ms (i + 1) at pre post e a f.1
 
-      values_good : (ms : Meanings) (i at : ℕ) (pre post : List ℕ) → store ≡ pre ++ (elements_store ms ++ post) → at ≡ length pre → AllOwn (elements_of ms i at) i
+      values_good : (ms : Meanings) (i at : ℕ) (pre post : List ℕ) → store ≡ pre ++ (elements_store ms ++ post) → at ≡ length pre
+          → AllOwn (elements_of ms i at) i
           → GoodElements ms
       values_good none i at pre post e a f = tt
       values_good (more ms m) i at pre post e a f =

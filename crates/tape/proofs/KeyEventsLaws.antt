@@ -218,7 +218,8 @@ module _ (store : List ℕ) where
     value (object ms) i at os pre post rest h d e a =
         let end = i + 1 + members_records ms in
         upto (omega arith) refl
-        (around (Record.Object (members_count ms) end) (object_to end) (members_of ms (i + 1) at) rest i end os (begins ∷ []) (member_events ms) h refl refl refl
+        (around (Record.Object (members_count ms) end) (object_to end) (members_of ms (i + 1) at) rest i end os (begins ∷ []) (member_events ms) h refl refl
+        refl
         refl
         (omega arith) (omega arith)
         (pairs ms (i + 1) at end os pre post rest (omega arith) (omega arith) e a))

@@ -12,5 +12,6 @@ pub data Looks (tape store : List ℕ) (index : ℕ) (a : Looked) : Type 0 where
   -- 14: index not below the number of whole records
   past_end : whole_records tape ≤ index → look_said a ≡ refused 14 index → Looks tape store index a
   -- 10: no record stands there
-  not_one : index < whole_records tape → ((r : Record) → RecordAt tape store index r → ⊥) → look_said a ≡ refused 10 index
+  not_one : index < whole_records tape → ((r : Record) → RecordAt tape store index r → ⊥) → look_said a
+      ≡ refused 10 index
       → Looks tape store index a

@@ -1,4 +1,6 @@
 // Records as bytes: put one, look at one, judge a whole tape.
+#![tactic(auto)]
+
 mod fields;
 mod four_words;
 mod judging;

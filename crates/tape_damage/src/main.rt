@@ -4,6 +4,7 @@
 ghost use Rattle.std.specs.Prelude.{◌≤◌, ◌<◌, ◌^◌};
 
 use meaning::{Date, Number, Record, Time};
+use std::io;
 use tape::{Judged, Looked};
 
 // ---- the decoder
@@ -345,7 +346,7 @@ fn put_again(t: &[u8], index: usize, r: Record) -> Outcome {
     let e = p + 16;
     let mut again: [u8; 16] = [0; 16];
     tape::put_record(&mut again, 0, r);
-    if e <= t.len() && check::same(&again, &t[p..e]) {
+    if e <= t.len() && again[..] == t[p..e] {
         return Outcome::Same;
     }
     Outcome::Other
@@ -435,18 +436,18 @@ fn sweep(t: &mut [u8], s: &[u8], k: usize) -> Tally
 }
 
 // A number in five digits, and a space or a line feed.
-fn say(n: u64, after: u8) {
+fn say(rt: &impl Print, n: u64, after: u8) -> io::Result<()> {
     let mut text: [u8; 6] = [after; 6];
     text[0] = 48 + (n / 10000 % 10) as u8;
     text[1] = 48 + (n / 1000 % 10) as u8;
     text[2] = 48 + (n / 100 % 10) as u8;
     text[3] = 48 + (n / 10 % 10) as u8;
     text[4] = 48 + (n % 10) as u8;
-    io::write_all(1, &text);
+    rt.write_all(&text)
 }
 
 // Sweeps each byte of the sample, and prints the four sums.
-fn main() {
+fn main(rt: HostRuntime) -> io::Result<()> {
     let mut t: [u8; 176] = [0; 176];
     let s: [u8; 9] = [b'r', b'u', b'n', b'e', b't', b'a', b'a', b't', b't'];
     fill_first(&mut t);
@@ -463,8 +464,8 @@ fn main() {
         good += x.good;
         k += 1;
     }
-    say(faults, b' ');
-    say(well, b' ');
-    say(good, b' ');
-    say(176 * 256, b'\n');
+    say(&rt, faults, b' ')?;
+    say(&rt, well, b' ')?;
+    say(&rt, good, b' ')?;
+    say(&rt, 176 * 256, b'\n')
 }

@@ -12,7 +12,7 @@ use mir.Syntax.{w32}
 use mir.Val.{SFits, of_z, to_z}
 use mir.ValLaws.{to_z-of_z}
 use borrow.Author.Tests.{le-leb, lt-leb}
-use Rattle.meaning.specs.Letters.{letters, ch}
+use Rattle.meaning.specs.Letters.{letters}
 use Rattle.meaning.specs.Limits.{plain_digits}
 use Rattle.meaning.specs.Canonical.{digit, decimal, fixed, power_text, zeros, pointed, finite_text}
 use Rattle.meaning.proofs.Digits.{decimal_small, cut_count, cut_none, fixed_length}

@@ -1,4 +1,6 @@
 // Write JAXN and write JSON: the canonical text of a tape and its store into a lent output.
+#![tactic(auto)]
+
 ghost use Rattle.meaning.specs.Tape.{WellFormed};
 ghost use Rattle.writer.specs.Between.Walk.{WritesText};
 ghost use Rattle.writer.specs.Written.{WritesJaxn, WritesJson};

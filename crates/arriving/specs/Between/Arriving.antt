@@ -1,6 +1,7 @@
 -- The check while a text arrives (docs/FORMAT.md, 13.2): its state, what a part does to it, what it comes to. Assumes
 -- nothing.
-use Rattle.std.specs.Prelude.{ℕ, suc, ◌+◌, ◌*◌, ◌-◌, Bool, true, false, cond, ◌&&◌, List, [], ◌∷◌, ◌++◌, eqb, leb, length, replicate}
+use Rattle.std.specs.Prelude.{ℕ, suc, ◌+◌, ◌*◌, ◌-◌, Bool, true, cond, ◌&&◌, List, [], ◌∷◌, ◌++◌, eqb, leb, length}
+use Rattle.std.specs.Prelude.{replicate}
 use Rattle.meaning.specs.Limits.{text_limit, depth_limit}
 use Rattle.meaning.specs.declared.Refusal.TheVariants.{TextTooLong, NotUtf8, NotGrammar}
 use Rattle.reader.specs.declared.Answer.{Answer}
@@ -8,7 +9,6 @@ use Rattle.reader.specs.declared.Answer.TheVariants.{Counts, Refused}
 use Rattle.arriving.specs.declared.Core.{Core}
 use Rattle.arriving.specs.declared.Check.{Check}
 use Rattle.arriving.specs.declared.octets.Utf.{Utf}
-use Rattle.arriving.specs.declared.states.Due as DueOf
 use Rattle.arriving.specs.declared.states.Due.TheVariants as Due
 use Rattle.arriving.specs.declared.states.Mode as ModeOf
 use Rattle.arriving.specs.declared.states.Mode.TheVariants as Mode

@@ -1,6 +1,6 @@
 -- A number (docs/FORMAT.md, 5), a byte at a time, as the check in parts keeps it: its value as a coefficient and zeros.
 -- It goes by the machine's classes of bytes, clause by clause. Assumes nothing.
-use Rattle.std.specs.Prelude.{ℕ, ◌+◌, ◌*◌, ◌-◌, ◌%◌, ◌≤◌, Bool, true, false, cond, ◌&&◌, ◌≡◌, eqb, ltb, leb}
+use Rattle.std.specs.Prelude.{ℕ, ◌+◌, ◌*◌, ◌-◌, ◌%◌, ◌≤◌, Bool, true, false, cond, ◌&&◌, eqb, ltb, leb}
 use Rattle.meaning.specs.Letters.{ch}
 use Rattle.meaning.specs.Limits.{text_limit, power_limit}
 use Rattle.meaning.specs.declared.Refusal.TheVariants.{NotGrammar, BadNumber}
@@ -12,7 +12,6 @@ use Rattle.items.specs.declared.number.Acc.{Acc}
 use Rattle.items.specs.Between.NumberOrTime.{acc_of, pushed, raised_by}
 use Rattle.arriving.specs.declared.states.Decimal.{Decimal}
 use Rattle.arriving.specs.declared.states.Figure.{Figure}
-use Rattle.arriving.specs.declared.states.Figure.TheVariants as Figure
 use Rattle.arriving.specs.declared.states.Stamp.{Stamp}
 use Rattle.arriving.specs.declared.states.Slot.TheVariants.{Month, Minute}
 use Rattle.arriving.specs.declared.states.Moment.TheVariants.{Field}

@@ -1,6 +1,6 @@
 -- Runs of bytes and whole items at once, for the check in parts (docs/FORMAT.md, 13.2): byte by byte comes to the same.
 -- Assumes nothing.
-use Rattle.std.specs.Prelude.{ℕ, ◌+◌, ◌*◌, ◌≤◌, ◌<◌, ◌≡◌, Bool, true, false, cond, List, [], ◌∷◌, eqb, leb, length, drop, get_or}
+use Rattle.std.specs.Prelude.{ℕ, ◌+◌, ◌*◌, ◌≤◌, ◌<◌, ◌≡◌, Bool, true, false, cond, List, eqb, leb, length, drop, get_or}
 use Rattle.meaning.specs.Letters.{ch}
 use Rattle.meaning.specs.Limits.{text_limit, depth_limit}
 use Rattle.machine.specs.Scan.{ended, ran}

@@ -1,12 +1,12 @@
 -- A check as bytes that a caller keeps (docs/FORMAT.md, 13.2): which bytes it is, and which check any bytes are.
 -- Assumes nothing.
-use Rattle.std.specs.Prelude.{ℕ, ◌+◌, ◌*◌, ◌-◌, ◌%◌, ◌<◌, ◌^◌, ◌≡◌, Bool, false, List, [], ◌∷◌, ◌++◌, eqb, get_or, take, drop, replicate}
+use Rattle.std.specs.Prelude.{ℕ, ◌+◌, ◌*◌, ◌-◌, ◌%◌, ◌<◌, ◌^◌, ◌≡◌, Bool, false, List, [], ◌∷◌, ◌++◌, eqb, get_or, take}
+use Rattle.std.specs.Prelude.{drop, replicate}
 use Rattle.std.proofs.lemmas.List.Edits.{sets}
 use Rattle.meaning.specs.Bytes.{le, flag}
 use Rattle.meaning.specs.Between.Words.{get}
 use Rattle.meaning.specs.Limits.{depth_limit}
 use Rattle.meaning.specs.declared.Refusal.{Refusal}
-use Rattle.meaning.specs.declared.Refusal.TheVariants as Refusal
 use Rattle.items.specs.declared.number.Acc.{Acc}
 use Rattle.arriving.specs.declared.Core.{Core}
 use Rattle.arriving.specs.declared.Check.{Check}
@@ -352,11 +352,18 @@ large s i = get 8 s (16 + 8 * i)
 
 unfoldable pub flat_at : List ℕ → Flat
 flat_at s =
-    flat (get_or s 5 0) (get_or s 6 0) (get_or s 7 0) (get_or s 8 0) (large s 5) (large s 6) (large s 7) (large s 8) (large s 9)
+    flat (get_or s 5 0) (get_or s 6 0) (get_or s 7 0) (get_or s 8 0) (large s 5) (large s 6) (large s 7) (large s 8)
+    (large s 9)
 
 unfoldable pub utf_at : List ℕ → Utf
 utf_at s =
-    record { left = get_or s 0 0; low = get_or s 1 0; high = get_or s 2 0; first = large s 1; broken = eqb (get_or s 3 0) 1 }
+    record {
+      left = get_or s 0 0;
+      low = get_or s 1 0;
+      high = get_or s 2 0;
+      first = large s 1;
+      broken = eqb (get_or s 3 0) 1;
+    }
 
 unfoldable pub here_at : List ℕ → Here
 here_at s =

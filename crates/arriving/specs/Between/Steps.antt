@@ -6,8 +6,10 @@ use Rattle.meaning.specs.Limits.{depth_limit}
 use Rattle.meaning.specs.declared.Refusal.{Refusal}
 use Rattle.meaning.specs.declared.Refusal.TheVariants.{NotGrammar, TooDeep}
 use Rattle.machine.specs.Machine.{Bracket, square, curly, Class, class_of, Note, note_of}
-use Rattle.machine.specs.Machine.{blank_c, hash_c, slash_c, comma_c, colon_c, plus_c, quote_c, dollar_c, letter_n, letter_t}
-use Rattle.machine.specs.Machine.{letter_f, letter_c, other_c, open_c, close_c, line_end, star_n, slash_n, plain_n, control_n}
+use Rattle.machine.specs.Machine.{blank_c, hash_c, slash_c, comma_c, colon_c, plus_c, quote_c, dollar_c, letter_n}
+use Rattle.machine.specs.Machine.{letter_t}
+use Rattle.machine.specs.Machine.{letter_f, letter_c, other_c, open_c, close_c, line_end, star_n, slash_n, plain_n}
+use Rattle.machine.specs.Machine.{control_n}
 use Rattle.arriving.specs.declared.states.Due as DueOf
 use Rattle.arriving.specs.declared.states.Due.TheVariants as Due
 use Rattle.arriving.specs.declared.states.Octets.TheVariants as Octets

@@ -9,7 +9,6 @@ use Rattle.machine.specs.Numeric as Numeric
 use Rattle.machine.specs.Numeric.{Sec, digit_s, point_s, zulu_s, plus_s, minus_s, other_s, sec_of}
 use Rattle.arriving.specs.declared.states.Stamp.{Stamp}
 use Rattle.arriving.specs.declared.states.Slot.{Slot}
-use Rattle.arriving.specs.declared.states.Slot.TheVariants as Slot
 use Rattle.arriving.specs.declared.states.Moment.{Moment}
 use Rattle.arriving.specs.declared.states.Moment.TheVariants.{Field, Spaced, Point, Fraction, Zulu}
 use Rattle.arriving.specs.declared.states.Mode.TheVariants.{Timing}

@@ -1,23 +1,23 @@
 -- The text of a good number, canonical or as it was filed before, is derived. Assumes nothing.
-use Prim.Native.Nat.{ℕ, zero, suc, ◌+◌, ◌*◌, ◌/◌, ◌%◌, ◌≤◌, ◌<◌, ◌^◌}
+use Prim.Native.Nat.{ℕ, zero, suc, ◌+◌, ◌*◌, ◌/◌, ◌%◌, ◌<◌, ◌^◌}
 use mathlib.Core.Path.{◌≡◌, refl, sym, ap, ◌∙◌, subst}
 use mathlib.Core.Bool.{Bool, true, false, cond}
 use mathlib.Core.List.{List, [], ◌∷◌, ◌++◌, append_assoc, append-nil}
 use native.Mathlib.Nat.{mul-one, zero-add, add-zero, suc-add, mul_assoc, mul_comm, pow-suc}
 use native.Mathlib.Omega.{arith}
 use lib.Dec.{leb}
-use lib.IntN.{ℤ, pos, negsuc, nat_abs}
+use lib.IntN.{ℤ, pos, negsuc}
 use lib.ListN.{length}
 use Rattle.meaning.specs.Letters.{letters, ch}
 use Rattle.meaning.specs.declared.Number.{Number as NumberMeant}
 use Rattle.meaning.specs.declared.Number.TheVariants.{NotANumber, Infinite, Finite as FiniteNumber}
-use Rattle.meaning.specs.Limits.{coefficient_limit, power_limit, plain_digits}
+use Rattle.meaning.specs.Limits.{plain_digits}
 use Rattle.meaning.specs.Good.{GoodFinite, GoodNumber}
 use Rattle.meaning.specs.Canonical.{digit, decimal_in, decimal, fixed, minus_text, power_text, zeros, pointed, finite_text, number_text}
 use Rattle.meaning.specs.Filed.{filed_number}
 use Rattle.grammar.specs.Characters.{Digits, Decimal}
 use Rattle.grammar.specs.Numbers.{Finite, Sign, Int, Frac0, E, Exp, Dec, Unsigned, Number}
-use Rattle.grammar.proofs.Canonical.Digits.{Some, decimal_some, decimal_int, digit_is, Lead, decimal_lead, fixed_behind}
+use Rattle.grammar.proofs.Canonical.Digits.{decimal_some, decimal_int, digit_is, Lead, decimal_lead, fixed_behind}
 
 sign : (g : Bool) → Sign (minus_text g) g
 sign true = Sign.minus

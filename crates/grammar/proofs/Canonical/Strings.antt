@@ -1,22 +1,22 @@
 -- The canonical texts of strings, keys and binary are derived. Assumes nothing.
-use Prim.Native.Nat.{ℕ, zero, suc, ◌+◌, ◌*◌, ◌/◌, ◌%◌, ◌≤◌, ◌<◌}
-use mathlib.Core.Path.{◌≡◌, refl, sym, ap, ap₂, ◌∙◌, subst}
+use Prim.Native.Nat.{ℕ, ◌/◌, ◌%◌, ◌≤◌, ◌<◌}
+use mathlib.Core.Path.{◌≡◌, refl, sym, subst}
 use mathlib.Core.Bool.{Bool, true, false, cond}
-use mathlib.Core.Logic.{◌⊎◌, inl, inr}
+use mathlib.Core.Logic.{inl, inr}
 use mathlib.Core.List.{List, [], ◌∷◌, ◌++◌, append_assoc, append-nil}
 use native.Mathlib.Decide.{dec_lt, ℕ_discrete}
 use native.Mathlib.Omega.{arith}
-use lib.Dec.{ltb, eqb, lit≤}
+use lib.Dec.{ltb, eqb}
 use lib.ListN.{length}
 use borrow.Author.Tests.{ltb-true, ltb-false, eqb-true, eqb-false, ne_eqb, le-ltb}
-use Rattle.rules.specs.Rfc3629.{In, Char, Octets, Scalar, encode}
+use Rattle.rules.specs.Rfc3629.{Char, Octets, Scalar, encode}
 use Rattle.rules.proofs.Characters.{Each, all_none, all_more, High, long, short}
-use Rattle.rules.proofs.Numbers.{row_1, Numbered, numbered}
+use Rattle.rules.proofs.Numbers.{row_1, numbered}
 use Rattle.meaning.specs.Letters.{letters, ch}
 use Rattle.meaning.specs.Good.{Bytes}
-use Rattle.meaning.specs.Canonical.{hex_digit, hex_pair, escaped, escapes, quoted, hex_pairs, binary_text}
-use Rattle.grammar.specs.Characters.{Of, Among, Hexdig, Digits, Hexadecimal}
-use Rattle.grammar.specs.Strings.{Quote, double, Chars, Quoted, Short, Escape, unescaped, StringPart, Concat, String}
+use Rattle.meaning.specs.Canonical.{hex_pair, escaped, escapes, quoted, hex_pairs, binary_text}
+use Rattle.grammar.specs.Characters.{Of, Among, Digits, Hexadecimal}
+use Rattle.grammar.specs.Strings.{double, Chars, Quoted, Short, Escape, unescaped, StringPart, Concat, String}
 use Rattle.grammar.specs.Binary.{BPart, BDirect, BValue, Binary}
 use Rattle.grammar.proofs.Bytewise.{above}
 use Rattle.grammar.proofs.Canonical.Digits.{hex_digit_is, hex_pair_is}

@@ -3,9 +3,9 @@ use Prim.Native.Nat.{ℕ, zero, suc, ◌+◌, ◌*◌, ◌/◌, ◌%◌, ◌≤�
 use mathlib.Core.Path.{◌≡◌, refl, sym, ap, ◌∙◌, subst}
 use mathlib.Core.Bool.{Bool, true, false, cond}
 use mathlib.Core.List.{List, [], ◌∷◌, ◌++◌, append_assoc}
-use native.Mathlib.Nat.{div-div-eq-div-mul, zero-add, suc-add, add-suc, mul_assoc, mul-one, pow-suc, pow-succ'}
+use native.Mathlib.Nat.{div-div-eq-div-mul, zero-add, suc-add, mul_assoc, mul-one, pow-suc, pow-succ'}
 use native.Mathlib.Omega.{arith}
-use lib.Dec.{eqb, lit≤, lit<}
+use lib.Dec.{eqb, lit≤}
 use lib.IntN.{ℤ, pos, negsuc, nat_abs}
 use borrow.Author.Tests.{eqb-true, eqb-false}
 use Rattle.rules.specs.Rfc3339 as Calendar
@@ -17,7 +17,7 @@ use Rattle.meaning.specs.Limits.{fraction_digits, second, day, offset_limit}
 use Rattle.meaning.specs.Clock.{time_of_day}
 use Rattle.meaning.specs.Good.{GoodDate, GoodTime}
 use Rattle.meaning.specs.Canonical.{fixed, trimmed, date_text, fraction_text, clock_text, minutes_text, offset_text, time_text}
-use Rattle.grammar.specs.Characters.{Digit, Digits, Decimal}
+use Rattle.grammar.specs.Characters.{Digits, Decimal}
 use Rattle.grammar.specs.Times.{Fraction, TimeSecfrac, TimeHour, TimeMinute, LocalTimeText, LocalDateText, Separator, Zulu, signed, PlusMinus, TimeOffset}
 use Rattle.grammar.specs.Times.{TimeValue}
 use Rattle.grammar.proofs.Canonical.Digits.{fixed_is}

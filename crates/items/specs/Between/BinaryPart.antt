@@ -2,7 +2,7 @@
 -- nothing.
 use Rattle.std.specs.Prelude.{◌≡◌, List, [], ◌∷◌, ◌++◌, ℕ, ◌+◌, ◌≤◌, ◌<◌, length, get_or, drop}
 use Rattle.meaning.specs.declared.Refusal.TheVariants.{NotGrammar}
-use Rattle.machine.specs.Scan.{Ran, ended, broke, ran}
+use Rattle.machine.specs.Scan.{ended, broke, ran}
 use Rattle.machine.specs.Strings.{no_digit}
 use Rattle.machine.specs.Binaries.{St, low, pairs, text, esc, begin, scan}
 use Rattle.items.specs.Between.Places.{digit_at, Runs}

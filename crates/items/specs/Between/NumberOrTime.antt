@@ -1,6 +1,7 @@
 -- What the readers of a number or a time value (docs/FORMAT.md, 5 and 6) promise: how the machine's scanner goes on
 -- from the place and the state that each stands for. Assumes nothing.
-use Rattle.std.specs.Prelude.{ℕ, zero, suc, ◌+◌, ◌*◌, ◌-◌, ◌≤◌, ◌<◌, ◌%◌, ◌^◌, ◌≡◌, Bool, true, false, cond, ◌⊎◌, List, eqb, ltb, length, get_or, drop}
+use Rattle.std.specs.Prelude.{ℕ, zero, suc, ◌+◌, ◌*◌, ◌-◌, ◌≤◌, ◌<◌, ◌%◌, ◌^◌, ◌≡◌, Bool, true, false, cond, ◌⊎◌, List}
+use Rattle.std.specs.Prelude.{eqb, ltb, length, get_or, drop}
 use Rattle.rules.specs.Rfc3629.{In}
 use Rattle.meaning.specs.declared.Number.{Number}
 use Rattle.meaning.specs.declared.Time.{Time}
@@ -117,7 +118,8 @@ pub data Shifted (v : ℕ) : Coef → Type 0 where
 -- the digits of s from i to j take the value m to w
 pub data Span (s : List ℕ) : ℕ → ℕ → ℕ → ℕ → Type 0 where
   here : {i m : ℕ} → Span s i m i m
-  next : {i m j w : ℕ} → Span s i m j w → j < length s → IsDigit (get_or s j 0) → Span s i m (suc j) (dig w (get_or s j 0))
+  next : {i m j w : ℕ} → Span s i m j w → j < length s → IsDigit (get_or s j 0)
+      → Span s i m (suc j) (dig w (get_or s j 0))
 
 -- the digits from a place on, whatever value the accumulator held before them
 pub record Digited (s : List ℕ) (from : ℕ) (a : Acc) (r : Run) : Type 0 where

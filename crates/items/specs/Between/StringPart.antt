@@ -1,6 +1,7 @@
 -- What the functions that read a string part (docs/FORMAT.md, 3) promise, against the machine's scanner. Places count
 -- from the opening quote; `base` is any place where the part may stand in a text. Assumes nothing.
-use Rattle.std.specs.Prelude.{◌≡◌, ℕ, zero, suc, ◌+◌, ◌*◌, ◌-◌, ◌≤◌, ◌<◌, Bool, true, false, cond, List, [], ◌++◌, length, drop, take, get_or, eqb, ltb}
+use Rattle.std.specs.Prelude.{◌≡◌, ℕ, zero, suc, ◌+◌, ◌*◌, ◌-◌, ◌≤◌, ◌<◌, Bool, true, false, cond, List, [], ◌++◌}
+use Rattle.std.specs.Prelude.{length, drop, take, get_or, eqb, ltb}
 use Rattle.std.proofs.lemmas.List.Edits.{sets}
 use Rattle.rules.specs.Rfc3629.{encode}
 use Rattle.meaning.specs.declared.Refusal.TheVariants.{NotGrammar, BadEscape}
@@ -117,7 +118,8 @@ pub record Blamed (s : List ℕ) (at next : ℕ) : Type 0 where
 
 -- the same: it breaks at p
 pub record Stopped (s : List ℕ) (at p : ℕ) : Type 0 where
-  pub ends : (base q : ℕ) → q < over → (bad : S.Bad) (acc : List ℕ) → ran_from scan base s (body (mk q bad whole acc)) at
+  pub ends : (base q : ℕ) → q < over → (bad : S.Bad) (acc : List ℕ)
+      → ran_from scan base s (body (mk q bad whole acc)) at
       ≡ broke (NotGrammar (base + p))
   pub within : p ≤ length s
 

@@ -1,11 +1,11 @@
 use Rattle.jaxn.specs.Between.Steps.{bytes, failed}
 use Rattle.jaxn.proofs.fill.Goals as goal
 
-pub returns-then-got-lt0 : goal.returns-then-got-lt0
-returns-then-got-lt0 c = failed
+pub returns-in-Err : goal.returns-in-Err
+returns-in-Err g c = failed
 
-pub returns-then-more-eq0 : goal.returns-then-more-eq0
-returns-then-more-eq0 c = bytes c.loop-at.invariant.1
+pub returns-in-Ok-eq0 : goal.returns-in-Ok-eq0
+returns-in-Ok-eq0 g c = bytes c.loop-at.invariant.1
 
 pub returns : goal.returns
-returns c = bytes c.loop-at.invariant.1
+returns g c = bytes c.loop-at.invariant.1

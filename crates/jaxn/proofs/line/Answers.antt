@@ -1,7 +1,7 @@
 -- `line`: a longer input; what is refused; the text, and a line feed in the byte after what was lent. Assumes nothing.
 use mathlib.Core.Path.{sym, ◌∙◌}
 use native.Mathlib.Omega.{arith}
-use Rattle.io.proofs.Counting.{length-take_of_le}
+use Rattle.std.proofs.lemmas.List.{length-take-le}
 use Rattle.jaxn.proofs.LineLaws.{text_within, tells_longer, tells_refusal, tells_text}
 use Rattle.jaxn.proofs.line.Goals as goal
 
@@ -9,10 +9,10 @@ pub returns-then-input-gt-ROOM : goal.returns-then-input-gt-ROOM
 returns-then-input-gt-ROOM c = tells_longer c.refused_line.ensures (omega arith)
 
 pub slice_bounds-rewrite-end-2 : goal.slice_bounds-rewrite-end-2
-slice_bounds-rewrite-end-2 c = length-take_of_le 65536 c.args.out.now (omega arith)
+slice_bounds-rewrite-end-2 c = sym (length-take-le 65536 c.args.out.now (omega arith))
 
 pub rewrite-requires : goal.rewrite-requires
-rewrite-requires c = (omega arith, sym (length-take_of_le 65536 c.args.out.now (omega arith)))
+rewrite-requires c = (omega arith, length-take-le 65536 c.args.out.now (omega arith))
 
 pub refused_line-requires-in-Refused : goal.refused_line-requires-in-Refused
 refused_line-requires-in-Refused c = omega (arith, c.out-2-1.given.1)

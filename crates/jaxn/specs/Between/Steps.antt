@@ -6,13 +6,14 @@ use Rattle.meaning.specs.Letters.{letters}
 use Rattle.meaning.specs.Paper.{number_of, place_of}
 use Rattle.writer.specs.declared.Written.{Written}
 use Rattle.writer.specs.declared.Written.TheVariants.{Wrote, Refused}
+use Rattle.std.specs.declared.io.Error.{Error}
 use Rattle.jaxn.specs.declared.Input.{Input}
 use Rattle.jaxn.specs.Line.{refused_line, Line}
 
 -- what was read lies within the room
 pub data Within : Input → ℕ → Type 0 where
   bytes : {n size : ℕ} → n ≤ size → Within (Input.Bytes n) size
-  failed : {size : ℕ} → Within Input.Failed size
+  failed : {why : Error} {size : ℕ} → Within (Input.Failed why) size
 
 -- the refusal that is printed, and the output is as it was; or the text that is printed stands at its start
 pub data Rewrites (text out : List ℕ) : Written → List ℕ → Type 0 where

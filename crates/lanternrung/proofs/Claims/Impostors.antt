@@ -26,10 +26,11 @@ use Rattle.meaning.specs.declared.Refusal.TheVariants.{RepeatedKey}
 use Rattle.meaning.specs.Letters.{letters}
 use Rattle.meaning.specs.Limits.{text_limit, depth_limit}
 use Rattle.meaning.specs.Meaning.{Meaning, Members, null, bool, number, string, array, object, none, more, bare, member}
-use Rattle.meaning.specs.Good.{Bytes, GoodParts, most, depth, Good}
+use Rattle.meaning.specs.Good.{GoodParts, most, depth, Good}
 use Rattle.meaning.specs.Once.{same, held, once, once_elements, once_members}
 use Rattle.meaning.specs.Bytes.{le, unnamed}
-use Rattle.meaning.specs.Tape.{records, members_records, elements_count, members_count, store_of, members_store, bytes, records_of, record_bytes, records_bytes, tape_of}
+use Rattle.meaning.specs.Tape.{records, members_records, elements_count, members_count, store_of, members_store, bytes, records_of, record_bytes, records_bytes}
+use Rattle.meaning.specs.Tape.{tape_of}
 use Rattle.meaning.specs.Tape.{WellFormed}
 use Rattle.meaning.specs.Canonical.{decimal_in, decimal, escaped, escapes, quoted, power_text, text_with, canonical}
 use Rattle.meaning.specs.Filed.{filed_number, filed}
@@ -47,7 +48,6 @@ use Rattle.grammar.proofs.Sizes.{Fits, text_fits}
 use Rattle.grammar.proofs.Canonical.{text_derived}
 use Rattle.arriving.specs.Between.Arriving.{joined}
 use Rattle.tape.specs.declared.Looked.{Looked}
-use Rattle.tape.specs.Looking.{Looks}
 use Rattle.meaning.specs.Between.Words.{get}
 use Rattle.tape.specs.Between.Shapes.{record_of, not_finite}
 use Rattle.tape.proofs.JudgingMachineLaws.{nay, slot, put, enter, give, settle, size_of, start_of, does, act_of, push, finish, run}
@@ -56,12 +56,10 @@ use Rattle.tape.proofs.JudgingWholeLaws.{verdict}
 use Rattle.tape.proofs.JudgingOnceLaws.{nay_ill}
 use Rattle.tape.proofs.Outcomes.{look_well_formed}
 use Rattle.reader.specs.declared.Answer.{Answer}
-use Rattle.reader.specs.Answers.{tape_bytes, Measures, Loosely, Reads}
+use Rattle.reader.specs.Answers.{tape_bytes, Loosely}
 use Rattle.reader.proofs.Claims.{one_outcome_loosely, measure_refuses, read_refuses}
-use Rattle.writer.specs.declared.Written.{Written}
-use Rattle.writer.specs.Written.{WritesJaxn, WritesJson}
 use Rattle.lanternrung.specs.Trials.Samples.{Outcome, Says, IsTaken, Case, All, ◌&◌}
-use Rattle.lanternrung.proofs.Claims.PList.{PList, slips_hold, keys_twice}
+use Rattle.lanternrung.proofs.Claims.PList.{p_list, slips_hold, keys_twice}
 use Rattle.lanternrung.specs.Claims.{Counted, Takes, Holds, RepeatsFirst, Room, Wrote, Prints}
 use Rattle.lanternrung.specs.Trials.Impostors.{Lent, Measurer, KeepsMeasure, Reader, KeepsRead, Writer, KeepsJaxn, KeepsJson}
 use Rattle.lanternrung.specs.Trials.Impostors.{Looker, KeepsLook, KeepsUtf8, Calendar, KeepsDate, WritesOnly, older_tape}
@@ -382,7 +380,7 @@ one_count f r s g k =
 
 counts_all : (f : Measurer) → ((text : List ℕ) → Counted (f text)) → KeepsMeasure f → ⊥
 counts_all f g k =
-    let x = first PList in
+    let x = first p_list in
     let d = g [] in
     subst (Says 3 0) d.2 (x.measured (f []) (k [] (record { each = tt; few = lit< tt })))
 

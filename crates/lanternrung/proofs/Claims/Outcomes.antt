@@ -7,7 +7,6 @@ use Rattle.rules.specs.declared.DateAnswer.{DateAnswer}
 use Rattle.rules.specs.Rfc3629.{Judged}
 use Rattle.rules.specs.Rfc3339.{Dated}
 use Rattle.rules.proofs.Outcomes as rules
-use Rattle.meaning.specs.declared.Refusal.{Refusal}
 use Rattle.tape.specs.declared.Looked.{Looked}
 use Rattle.tape.specs.Looking.{Looks}
 use Rattle.tape.proofs.Outcomes as tapes

@@ -1,12 +1,10 @@
--- P-list: the cases marked P hold; slips-hold: and so do the slips (docs/FORMAT.md, 14). Assumes nothing.
-use mathlib.Core.Path.{◌≡◌, refl, sym, ap, ◌∙◌, subst}
+-- `p_list`: the cases marked P hold; `slips_hold`: and so do the slips (docs/FORMAT.md, 14). Assumes nothing.
+use mathlib.Core.Path.{◌≡◌, refl, sym, subst}
 use mathlib.Core.Bool.{true}
 use mathlib.Core.List.{List, [], ◌∷◌}
 use mathlib.Core.Option.{some}
 use Prim.Native.Nat.{ℕ}
-use native.Mathlib.Omega.{arith}
 use lib.Count.{count_leading_zeros}
-use lib.ListN.{length}
 use Rattle.rules.specs.Between.Posts.{low_of, high_of}
 use Rattle.rules.specs.Rfc3629.{encode}
 use Rattle.rules.specs.Between.Decided.{is_wide, length_at, fault_from, judged}
@@ -27,7 +25,7 @@ use Rattle.machine.specs.Numeric.{strip, settle}
 use Rattle.machine.specs.Strings as S
 use Rattle.machine.specs.Binaries as B
 use Rattle.machine.specs.Names as N
-use Rattle.machine.specs.Machine.{Verdict, Ok, No, read, reading}
+use Rattle.machine.specs.Machine.{Ok, No, read, reading}
 use Rattle.machine.specs.Verdict.{decoded, verdict}
 use Rattle.machine.specs.Heard.{tell, telling, heard_of}
 use Rattle.machine.proofs.Whole.{sound}
@@ -73,7 +71,8 @@ repeats text m keys p e h f = first_refused (sound text m e) keys h p f
 -- ---- the verdicts are computed, and the keys
 
 pub keys_twice : TextRefused (letters "{\"a\":1,b:2,a:3,b:4}") (RepeatedKey 11) × TextRefused (letters "{a:{b:1,b:2},a:3}") (RepeatedKey 8)
-unfolding verdict decoded judged fault_from length_at is_wide low_of high_of count_leading_zeros depth_limit strip settle read reading S.plain_byte S.on_body S.scan
+unfolding verdict decoded judged fault_from length_at is_wide low_of high_of count_leading_zeros depth_limit strip settle read reading S.plain_byte S.on_body
+    S.scan
     N.class_of N.on_start N.on_name N.scan same among first_repeat tell telling
 keys_twice = (
   repeats _ _ (begins ∷ named 1 (letters "a") ∷ named 7 (letters "b") ∷ named 11 (letters "a") ∷ named 15 (letters "b") ∷ ends ∷ []) 11 refl refl refl,
@@ -82,10 +81,13 @@ keys_twice = (
 )
 
 both : All samples × All slips
-unfolding verdict decoded judged fault_from length_at is_wide low_of high_of count_leading_zeros encode is_leap is_date depth_limit decimal_in decimal fixed trimmed escaped
-    escapes quoted hex_pairs binary_text power_text zeros pointed finite_text number_text date_text fraction_text clock_text time_text text_with strip settle read reading
+unfolding verdict decoded judged fault_from length_at is_wide low_of high_of count_leading_zeros encode is_leap is_date depth_limit decimal_in
+    decimal fixed trimmed escaped
+    escapes quoted hex_pairs binary_text power_text zeros pointed finite_text number_text date_text fraction_text clock_text time_text text_with strip settle
+    read reading
     S.hex_of
-    S.short_of S.alone S.unit S.in_braces S.hexed S.on_hex S.on_brace S.on_short S.plain_byte S.on_body S.line_byte S.on_lines S.scan B.on_digit B.on_short B.on_text B.scan
+    S.short_of S.alone S.unit S.in_braces S.hexed S.on_hex S.on_brace S.on_short S.plain_byte S.on_body S.line_byte S.on_lines S.scan B.on_digit B.on_short
+    B.on_text B.scan
     N.class_of N.on_start N.on_name N.scan N.word_scan once once_elements
 both = (
   refuses _ (NotGrammar 0) refl
@@ -116,8 +118,8 @@ both = (
       & done,
 )
 
-pub PList : All samples
-PList = both.0
+pub p_list : All samples
+p_list = both.0
 
 pub slips_hold : All slips
 slips_hold = both.1

@@ -1,22 +1,20 @@
 -- accepted, measured, refusals, repeated-key, one-refusal, bounded, unambiguous: what `measure` and `read` answer, by the grammar. Assumes nothing.
-use mathlib.Core.Path.{◌≡◌, refl, sym, ap, ◌∙◌, subst}
+use mathlib.Core.Path.{◌≡◌, refl, sym, ap, subst}
 use mathlib.Core.Logic.{◌↔◌, ◌⊎◌, inl, inr}
 use mathlib.Core.Bool.{Bool, true, false}
-use mathlib.Core.List.{List, ◌++◌}
-use Prim.Native.Nat.{ℕ, ◌*◌, ◌≤◌, ◌<◌}
+use mathlib.Core.List.{List}
+use Prim.Native.Nat.{ℕ, ◌≤◌, ◌<◌}
 use native.Mathlib.Omega.{arith}
 use lib.Dec.{lit<}
-use lib.ListN.{length, drop}
 use Rattle.rules.specs.Paper.{number_said}
-use Rattle.rules.specs.Rfc3629.{Octets}
 use Rattle.rules.proofs.Outcomes.{done_apart}
 use Rattle.meaning.specs.declared.Refusal.{Refusal}
 use Rattle.meaning.specs.declared.Refusal.TheVariants.{RepeatedKey}
-use Rattle.meaning.specs.Paper.{number_of, place_of, refusal_said}
+use Rattle.meaning.specs.Paper.{number_of}
 use Rattle.meaning.proofs.Paper.{same_refusal}
 use Rattle.meaning.specs.Meaning.{Meaning}
 use Rattle.meaning.specs.Once.{once}
-use Rattle.meaning.specs.Tape.{records, bytes, tape_of, store_of}
+use Rattle.meaning.specs.Tape.{records, bytes}
 use Rattle.meaning.proofs.Events.{once_none, twice_some}
 use Rattle.meaning.proofs.Whole.{tape_length}
 use Rattle.grammar.specs.Values.{Loose, Text}
@@ -25,7 +23,7 @@ use Rattle.grammar.proofs.Sizes.{text_fits}
 use Rattle.machine.proofs.Accepted as machine
 use Rattle.machine.proofs.Repeated.{KeyedText, text_keys_lem}
 use Rattle.reader.specs.declared.Answer.{Answer}
-use Rattle.reader.specs.Answers.{tape_bytes, Measures, Reads}
+use Rattle.reader.specs.Answers.{Measures, Reads}
 use Rattle.reader.proofs.Claims as reader
 use Rattle.lanternrung.specs.Claims.{OneReading, Counted, Takes, Holds, Accepted, SizesOf, Measured, IsRead, OfText, Refusals, RepeatsFirst, RepeatedKeys}
 use Rattle.lanternrung.specs.Claims.{Within, Bounded}

@@ -4,7 +4,7 @@ use mathlib.Core.Logic.{◌↔◌}
 use mathlib.Core.Bool.{true}
 use mathlib.Core.List.{List, ◌++◌, append-nil}
 use mathlib.Core.Option.{none}
-use Prim.Native.Nat.{ℕ, ◌*◌, ◌/◌, ◌≤◌}
+use Prim.Native.Nat.{ℕ, ◌*◌, ◌≤◌}
 use native.Mathlib.Omega.{arith}
 use lib.ListN.{length, take, drop, drop_of_length-le}
 use lib.Seq.{take_at}
@@ -13,8 +13,7 @@ use Rattle.meaning.specs.Meaning.{Meaning}
 use Rattle.meaning.specs.Good.{Good}
 use Rattle.meaning.specs.Tape.{bytes, tape_of, store_of, WellFormed}
 use Rattle.meaning.specs.Canonical.{canonical}
-use Rattle.meaning.specs.Filed.{filed}
-use Rattle.meaning.specs.Json.{no_json, json}
+use Rattle.meaning.specs.Json.{no_json}
 use Rattle.meaning.proofs.Whole.{one_meaning, tape_length, well_formed_length}
 use Rattle.grammar.specs.Values.{Loose, Text}
 use Rattle.grammar.proofs.Good.{text_good}
@@ -108,7 +107,8 @@ same_text = record { texts = λ x y. same (text_good x) (text_good y); meanings 
 
 -- ---- read-back: the canonical text of a meaning within the limits is accepted, and gives the same tape and store
 
-back_meaning : {m : Meaning} {tape store : List ℕ} {a : Answer} {tape' store' : List ℕ} → Good m → length (canonical m) ≤ text_limit → tape_bytes m ≤ length tape
+back_meaning : {m : Meaning} {tape store : List ℕ} {a : Answer} {tape' store' : List ℕ} → Good m → length (canonical m) ≤ text_limit
+    → tape_bytes m ≤ length tape
     → bytes m ≤ length store
     → Reads (canonical m) tape store a tape' store' → Holds m tape store a tape' store'
 back_meaning {m} g l h k p = (accepted p).then m (record { means = text_derived m g l; tape_room = h; store_room = k })

@@ -1,5 +1,5 @@
 -- What the rules for time values derive, the scanner takes. Assumes nothing.
-use Prim.Native.Nat.{ℕ, zero, suc, ◌+◌, ◌*◌, ◌-◌, ◌≤◌, ◌^◌}
+use Prim.Native.Nat.{ℕ, zero, suc, ◌+◌, ◌*◌, ◌≤◌, ◌^◌}
 use mathlib.Core.Path.{◌≡◌, refl}
 use mathlib.Core.Bool.{Bool, true, false, ◌&&◌}
 use mathlib.Core.List.{List, [], ◌∷◌, ◌++◌, append_assoc, append-nil}
@@ -10,7 +10,7 @@ use borrow.Author.Tests.{le-leb, eqb-true, eqb-false}
 use Rattle.rules.proofs.Months.{date_is}
 use Rattle.meaning.specs.declared.Date as D
 use Rattle.meaning.specs.declared.Time as M
-use Rattle.meaning.specs.declared.Time.TheVariants.{LocalDate, LocalTime, LocalDateTime, OffsetDateTime}
+use Rattle.meaning.specs.declared.Time.TheVariants.{LocalTime, LocalDateTime, OffsetDateTime}
 use Rattle.meaning.specs.Letters.{ch}
 use Rattle.meaning.specs.Clock.{time_of_day}
 use Rattle.meaning.specs.Meaning.{Meaning}

@@ -107,7 +107,8 @@ module _ (m up d w : ℕ) (e : m * 10 ^ up ≡ d * 10 ^ w) (n : d % 10 ≡ 0 →
   pub only_one : ((strip m m 0).0 ≡ d) × ((strip m m 0).1 + up ≡ w)
   only_one = once (strip m m 0).0 d ((strip m m 0).1 + up) w (sym (stripped m up positive) ∙ e) (strip_is m m 0 positive (omega arith)).1 n
 
-settle_by : (q : ℕ) (g : Bool) (m up dn d w : ℕ) (x : Res) → 0 < m → (strip m m 0).0 ≡ d → (strip m m 0).1 + up ≡ w → checked q g d w dn ≡ x → settle q g m up dn
+settle_by : (q : ℕ) (g : Bool) (m up dn d w : ℕ) (x : Res) → 0 < m → (strip m m 0).0 ≡ d → (strip m m 0).1 + up ≡ w → checked q g d w dn ≡ x
+    → settle q g m up dn
     ≡ x
 unfolding settle
 settle_by q g m up dn d w x l e f h = rw (ne_eqb m 0 (λ z. omega arith), e, f) h

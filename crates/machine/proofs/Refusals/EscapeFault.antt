@@ -16,7 +16,7 @@ use Rattle.grammar.specs.Characters.{Among, Hexdig, Digits, Hexadecimal}
 use Rattle.grammar.specs.Comments.{Ws}
 use Rattle.grammar.specs.Strings.{Quote, mark, other, Chars, Quoted, Escape, StringPart, Concat}
 use Rattle.grammar.specs.Refused.{Spot, part, Left, ItemFault}
-use Rattle.machine.specs.Scan.{breaks, over}
+use Rattle.machine.specs.Scan.{breaks}
 use Rattle.machine.specs.Machine
 use Rattle.machine.specs.Machine.{Use, Frame}
 use Rattle.machine.specs.Strings as S

@@ -28,7 +28,8 @@ use Rattle.machine.proofs.Refusals.Bases.{val_left}
 use Rattle.machine.proofs.Refusals.Confs.{ItemAt, Next}
 
 -- a byte that some rule lets the item take is taken
-goes_on_lem : {Q : Res → Type 0} {F : ℕ → Type 0} {p : ℕ} {s s' : St} {a : List ℕ} (b : ℕ) (y : List ℕ) → Steps scan p s a s' → GoesTo scan Q F p s (a ++ (b ∷ y))
+goes_on_lem : {Q : Res → Type 0} {F : ℕ → Type 0} {p : ℕ} {s s' : St} {a : List ℕ} (b : ℕ) (y : List ℕ) → Steps scan p s a s'
+    → GoesTo scan Q F p s (a ++ (b ∷ y))
     → Takes (scan (adv p a) s' b)
 goes_on_lem b y Steps.stay (GoesTo.goes g f) = subst Takes (sym f) tt
 goes_on_lem {Q = Q} {F = F} b y (Steps.eat {p = p} {a = a} x e) (GoesTo.goes g f) =

@@ -279,7 +279,8 @@ module _ (t : List ℕ) where
   got_at p d k g b l Machine.comma_c y h =
       rw y (need_value_lem p d k l (l ++ letters ",") (Machine.comma_after p d k) (λ m. comma_at p d k m l) (as_value_of g) (Bases.as_value_at k d g l h))
   got_at p d k g b l (Machine.close_c c) y h =
-      rw y (need_value_lem p d k l (l ++ (closing c ∷ [])) (Machine.close_after p d c k) (λ m. close_at p d k c m l) (as_value_of g) (Bases.as_value_at k d g l h))
+      rw y (need_value_lem p d k l (l ++ (closing c ∷ [])) (Machine.close_after p d c k) (λ m. close_at p d k c m l) (as_value_of g)
+      (Bases.as_value_at k d g l h))
   got_at p d k g b l Machine.colon_c y h =
       rw y (need_key_lem p d k l (l ++ letters ":") (Machine.colon_after p d k) (λ u. colon_at p d k u l) (as_key_of g) (Bases.as_key_at k d g l h))
   got_at p d k g b l Machine.plus_c y h = rw y (plus_at p d k g l h)

@@ -10,7 +10,7 @@ use Rattle.meaning.specs.declared.Refusal.TheVariants.{NotGrammar}
 use Rattle.meaning.specs.Meaning.{Meaning}
 use Rattle.grammar.specs.Comments.{Ws}
 use Rattle.grammar.specs.Values.{Loose}
-use Rattle.machine.specs.Machine.{No, reading, Conf, at, fail, step}
+use Rattle.machine.specs.Machine.{No, reading, Conf, fail, step}
 use Rattle.grammar.specs.Refused.{Opens, Stuck}
 use Rattle.machine.proofs.Runs.{adv}
 use Rattle.machine.proofs.Refusals.Bare.{never_3}

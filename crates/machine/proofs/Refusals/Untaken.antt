@@ -16,7 +16,8 @@ use Rattle.machine.specs.Numeric
 use Rattle.machine.specs.Numeric.{St, Res, begin, sign, word, nought, int, point, frac, exp, exp_sign, exp_digits, hex_mark, hex, both, field, spaced}
 use Rattle.machine.specs.Numeric.{sec_point, nanos, zulu, Len, d1, d2, d3, d4, When, alone, on, Slot, month, day, hour, minute, second, offset_hour}
 use Rattle.machine.specs.Numeric.{offset_minute, scan, settle, scaled, dated, date_done, Dg, digit, other, Num, digit_n}
-use Rattle.machine.specs.Numeric.{point_n, e_n, x_n, colon_n, minus_n, other_n, Sec, digit_s, point_s, zulu_s, plus_s, minus_s, other_s, Fst, nought_f, digit_f, plus_f}
+use Rattle.machine.specs.Numeric.{point_n, e_n, x_n, colon_n, minus_n, other_n, Sec, digit_s, point_s, zulu_s, plus_s, minus_s, other_s, Fst, nought_f, digit_f}
+use Rattle.machine.specs.Numeric.{plus_f}
 use Rattle.machine.specs.Numeric.{minus_f, point_f, n_f, i_f, other_f}
 use Rattle.machine.proofs.Runs as Runs
 use Rattle.machine.proofs.Runs.{GoesTo, HaltTo, Steps, adv, taken_once, goes_end, end_out_lem}

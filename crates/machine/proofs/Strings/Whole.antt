@@ -7,7 +7,7 @@ use mathlib.Core.List.{List, [], ◌∷◌, ◌++◌, append_assoc}
 use native.Mathlib.Omega.{arith}
 use native.Mathlib.Decide.{dec_lt}
 use borrow.Author.Tests.{eqb-true}
-use Rattle.rules.specs.Rfc3629.{In, Octets, none, more}
+use Rattle.rules.specs.Rfc3629.{In, Octets}
 use Rattle.rules.proofs.Characters.{Each, all_none, all_more, each_join, High, same_head, same_tail, join, after, split_ascii}
 use Rattle.meaning.specs.Letters.{ch}
 use Rattle.grammar.specs.Characters.{Of, Among, Many}

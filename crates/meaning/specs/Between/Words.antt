@@ -1,10 +1,11 @@
 -- A record's sixteen bytes (docs/FORMAT.md, 11.1) as four numbers of 2, 2, 4 and 8 bytes, as code reads and writes
--- them; that they are the bytes of `Tape.record_bytes` is proved (`proofs/Records.antt`), not believed. Assumes nothing.
+-- them; that they are the bytes of `Tape.record_bytes` is proved (`proofs/Records.antt`), not believed. Assumes
+-- nothing.
 pub use Rattle.meaning.specs.Look.{FitDate, Fit}
-use Rattle.std.specs.Prelude.{true, false, List, ◌++◌, get_or, ℕ, zero, suc, ◌+◌, ◌*◌, ◌<◌, ◌^◌}
+use Rattle.std.specs.Prelude.{true, false, List, ◌++◌, get_or, ℕ, zero, suc, ◌+◌, ◌*◌}
 use Prim.Native.Char.{Char}
 use Rattle.std.specs.Int.{w16, w32}
-use Rattle.std.proofs.Common.{of_z, SFits}
+use Rattle.std.proofs.Common.{of_z}
 use Rattle.meaning.specs.declared.Number.TheVariants.{Finite, NotANumber, Infinite}
 use Rattle.meaning.specs.declared.Date.{Date}
 use Rattle.meaning.specs.declared.Time.TheVariants.{LocalDate, LocalTime, LocalDateTime, OffsetDateTime}

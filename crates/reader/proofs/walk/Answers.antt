@@ -1,9 +1,11 @@
-use Rattle.reader.specs.Between.Layout.{LayoutEnds}
 use Rattle.reader.proofs.WalkLaws.{walk_at, walk_seen, walk_breaks, walk_refused, walk_ended}
 use Rattle.reader.proofs.walk.Goals as goal
 
 pub value-requires : goal.value-requires
-value-requires c = (walk_at _ _ (rw c.in-Ended.is at c.pass.ensures) c.requires.0, walk_seen _ _ (rw c.in-Ended.is at c.pass.ensures) _ c.requires.0 c.requires.1)
+value-requires c = (
+  walk_at _ _ (rw c.in-Ended.is at c.pass.ensures) c.requires.0,
+  walk_seen _ _ (rw c.in-Ended.is at c.pass.ensures) _ c.requires.0 c.requires.1,
+)
 
 pub ended-requires : goal.ended-requires
 ended-requires c = let w = rw c.in-Value.is at c.value.ensures in

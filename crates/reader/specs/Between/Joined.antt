@@ -2,8 +2,8 @@
 use Rattle.std.specs.Prelude.{◌≡◌, List, [], ◌∷◌, ℕ, ◌≤◌, ◌<◌, length, get_or, drop}
 use Rattle.meaning.specs.declared.Refusal.{Refusal}
 use Rattle.meaning.specs.declared.Refusal.TheVariants.{NotGrammar}
-use Rattle.machine.specs.Machine.{Use, Item, string_part, binary_part, Got, string, binary, key, Base, want_key, got}
-use Rattle.machine.specs.Machine.{Mode, base, item, Frame, Conf, at, Class, class_of, plus_c, plus_after}
+use Rattle.machine.specs.Machine.{Use, Item, string_part, binary_part, Got, binary, key, Base, want_key, got}
+use Rattle.machine.specs.Machine.{base, item, Frame, at, class_of, plus_c, plus_after}
 use Rattle.machine.specs.Heard.{starts}
 use Rattle.machine.specs.Scan.{Out, broke, ran}
 use Rattle.machine.specs.Strings

@@ -1,5 +1,5 @@
 -- What the readers of layout (docs/FORMAT.md, 2) promise. Assumes nothing.
-use Rattle.std.specs.Prelude.{◌≡◌, List, ℕ, ◌≤◌, ◌<◌, length, get_or}
+use Rattle.std.specs.Prelude.{◌≡◌, List, ℕ, ◌<◌, length, get_or}
 use Rattle.meaning.specs.declared.Refusal.TheVariants.{NotGrammar}
 use Rattle.machine.specs.Machine.{Base, Mode, base, Frame, Conf, at}
 use Rattle.machine.specs.Machine as Machine
@@ -29,7 +29,8 @@ CommentSays text mode p (Comment.NotGrammar q) = Breaks text mode p q
 -- a comment that may begin at p
 abbrev pub MaybeSays : List ℕ → ℕ → Comment → Type 0
 MaybeSays text p Comment.Absent =
-    (Machine.class_of (get_or text p 0) ≡ Machine.hash_c → ⊥) × (Machine.class_of (get_or text p 0) ≡ Machine.slash_c → ⊥)
+    (Machine.class_of (get_or text p 0) ≡ Machine.hash_c → ⊥)
+    × (Machine.class_of (get_or text p 0) ≡ Machine.slash_c → ⊥)
 MaybeSays text p (Comment.Ended q) = Commented text base p q × (p < q)
 MaybeSays text p (Comment.NotGrammar q) = Breaks text base p q
 

@@ -35,4 +35,5 @@ pub record Bare (text : List ℕ) (p : ℕ) : Type 0 where
 
 -- a closing bracket at p, where a value or a key is wanted, closes nothing
 abbrev pub Shut : List ℕ → ℕ → ℕ → List Frame → Type 0
-Shut text p d k = p < length text → (c : Bracket) → class_of (get_or text p 0) ≡ close_c c → close_wanted p d c k ≡ odd p
+Shut text p d k = p < length text → (c : Bracket) → class_of (get_or text p 0) ≡ close_c c → close_wanted p d c k
+    ≡ odd p

@@ -1,6 +1,7 @@
 -- What the functions that spell a key (docs/FORMAT.md, 7.2) promise: the bytes that it means, one at a time. All is
 -- said of every key that the machine hears from there on; where it hears none, nothing is. Assumes nothing.
-use Rattle.std.specs.Prelude.{◌≡◌, Bool, true, false, List, [], ◌∷◌, ◌++◌, ℕ, ◌+◌, ◌*◌, ◌-◌, ◌≤◌, ◌<◌, length, drop, get_or}
+use Rattle.std.specs.Prelude.{◌≡◌, Bool, true, false, List, [], ◌∷◌, ◌++◌, ℕ, ◌+◌, ◌*◌, ◌-◌, ◌≤◌, ◌<◌, length, drop}
+use Rattle.std.specs.Prelude.{get_or}
 use Rattle.std.proofs.Math.Option.{some}
 use Rattle.rules.specs.Rfc3629.{encode}
 use Rattle.machine.specs.Scan.{ended, ran}
@@ -113,5 +114,6 @@ LetterSays text s Letter.Over = (e u : List ℕ) → Spells text s e u → e ≡
 abbrev pub ThreeSays : List ℕ → ℕ → ℕ → Bool → Type 0
 ThreeSays text p q true = (p + 3 ≤ length text) × (get_or text p 0 ≡ q) × (get_or text (p + 1) 0 ≡ q)
     × (get_or text (p + 2) 0 ≡ q)
-ThreeSays text p q false = p + 3 ≤ length text → get_or text p 0 ≡ q → get_or text (p + 1) 0 ≡ q → get_or text (p + 2) 0 ≡ q
+ThreeSays text p q false = p + 3 ≤ length text → get_or text p 0 ≡ q → get_or text (p + 1) 0 ≡ q → get_or text (p + 2) 0
+    ≡ q
     → ⊥

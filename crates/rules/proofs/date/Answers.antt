@@ -15,4 +15,4 @@ pub returns-then-day-days : goal.returns-then-day-days
 returns-then-day-days c = too_late _ _ _ _ c.days.ensures c.if-day-days.true
 
 pub returns : goal.returns
-returns c =     a_date _ _ _ _ (omega arith) (omega arith) c.days.ensures c.if-day-days.false
+returns c = a_date _ _ _ _ (omega arith) (omega arith) c.days.ensures c.if-day-days.false

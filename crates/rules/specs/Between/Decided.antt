@@ -1,7 +1,8 @@
 -- The first fault of any bytes, and whether three numbers are a date (docs/FORMAT.md, 1.1 and 6), as functions that
 -- compute. That they answer what Rfc3629 and Rfc3339 allow is proved (`judged_is` of proofs/Decided.antt; `date_is`,
 -- `is_date_lem` of proofs/Months.antt). Assumes nothing.
-use Rattle.std.specs.Prelude.{Bool, true, false, cond, List, [], ◌∷◌, ℕ, zero, suc, ◌+◌, ◌-◌, ◌/◌, ◌%◌, eqb, leb, ltb, length, get_or}
+use Rattle.std.specs.Prelude.{Bool, true, false, cond, List, [], ◌∷◌, ℕ, zero, suc, ◌+◌, ◌-◌, ◌/◌, ◌%◌, eqb, leb, ltb}
+use Rattle.std.specs.Prelude.{length, get_or}
 use Rattle.std.specs.Int.Count.{count_leading_zeros}
 use Rattle.rules.specs.Between.Posts.{low_of, high_of}
 use Rattle.rules.specs.declared.Utf8Answer.{Utf8Answer}

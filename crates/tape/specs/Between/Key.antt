@@ -1,6 +1,7 @@
 -- The first key among records that repeats an earlier one of its object (docs/FORMAT.md, 7.2 and 11), and what the
 -- functions that look for it promise their callers. Assumes nothing.
-use Rattle.std.specs.Prelude.{◌≡◌, Bool, true, false, cond, List, [], ◌∷◌, ◌++◌, ℕ, suc, ◌+◌, ◌-◌, ◌*◌, ◌/◌, ◌≤◌, ◌<◌, leb, length, get_or, take, drop}
+use Rattle.std.specs.Prelude.{◌≡◌, Bool, true, false, cond, List, [], ◌∷◌, ◌++◌, ℕ, suc, ◌+◌, ◌-◌, ◌*◌, ◌/◌, ◌≤◌, ◌<◌}
+use Rattle.std.specs.Prelude.{leb, length, get_or, take, drop}
 use Rattle.meaning.specs.declared.Record.{Record}
 use Rattle.meaning.specs.Once.{same}
 use Rattle.meaning.specs.Limits.{record_limit, depth_limit}
@@ -75,7 +76,8 @@ events_in store (r ∷ rs) i os =
 -- no more are open at once than may be
 abbrev pub Shallow : List Record → ℕ → List Open → Type 0
 Shallow [] i os = Unit {0}
-Shallow (r ∷ rs) i os = (length (open_after r (left i os)) ≤ depth_limit) × Shallow rs (i + 1) (open_after r (left i os))
+Shallow (r ∷ rs) i os = (length (open_after r (left i os)) ≤ depth_limit)
+    × Shallow rs (i + 1) (open_after r (left i os))
 
 -- ---- the first repeated key
 

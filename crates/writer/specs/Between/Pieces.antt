@@ -1,5 +1,6 @@
 -- What the functions below the writers of a piece (docs/FORMAT.md, 12) promise their callers. Assumes nothing.
-use Rattle.std.specs.Prelude.{◌≡◌, Bool, true, false, cond, List, [], ◌∷◌, ◌++◌, ℕ, suc, ◌+◌, ◌^◌, ◌≤◌, ◌<◌, ltb, ℤ, pos, negsuc, nat_abs, length, get_or}
+use Rattle.std.specs.Prelude.{◌≡◌, Bool, true, false, cond, List, [], ◌∷◌, ◌++◌, ℕ, suc, ◌+◌, ◌^◌, ◌≤◌, ◌<◌, ltb, ℤ}
+use Rattle.std.specs.Prelude.{pos, negsuc, nat_abs, length, get_or}
 use Rattle.meaning.specs.Letters.{letters, ch}
 use Rattle.meaning.specs.Limits.{plain_digits, fraction_digits}
 use Rattle.meaning.specs.Canonical.{hex_pair, escaped, fixed, trimmed as trimmedText}

@@ -25,7 +25,7 @@ overflow_sub-b c = omega (arith, held c.is_digit.ensures c.if-is_digit.true)
 pub returns-then-is_digit : goal.returns-then-is_digit
 unfolding begin_figure
 returns-then-is_digit c = as_open c.args.p 1 (eqb c.args.b 48)
-    (c.args.b - 48) c.goes-then-is_digit.ensures c.push-acc.ensures.holds.1
+    (c.args.b - 48) c.goes-then-is_digit.ensures c.push-acc.ensures.told
     ∙ begin_digit c.args.p c.args.b
     (held c.is_digit.ensures c.if-is_digit.true)
 

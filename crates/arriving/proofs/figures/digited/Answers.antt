@@ -4,4 +4,4 @@ use Rattle.arriving.proofs.figures.digited.Goals as goal
 
 pub returns : goal.returns
 returns c = with_digit c.args.d _ _ c.args.b
-    c.args.more c.decimal.ensures c.push-acc.ensures.holds.1
+    c.args.more c.decimal.ensures c.push-acc.ensures.told

@@ -10,7 +10,7 @@ raise-requires c = (held c.is_digit.ensures c.if-is_digit.true, c.requires.1)
 pub returns-then-is_digit : goal.returns-then-is_digit
 returns-then-is_digit c = rw (dg_digit _ (held c.is_digit.ensures c.if-is_digit.true))
     (as_digits c.args.d c.args.down c.goes.ensures
-    c.raise.ensures.capped.1)
+    c.raise.ensures.told)
 
 pub returns : goal.returns
 returns c = rw (dg_else _ (failed c.is_digit.ensures c.if-is_digit.false)) c.scaled.ensures

@@ -18,5 +18,5 @@ pub returns-then-b-eq45 : goal.returns-then-b-eq45
 returns-then-b-eq45 c = rw c.if-b-eq45.true c.open_minus.ensures
 
 pub returns : goal.returns
-returns c = c.as_number.ensures ∙ open_else _ _ _ _ _ _ _ (failed c.is_digit.ensures
+returns c = c.as_number.ensures ∙ open_else c.args.p c.args.first c.args.count c.args.zero c.args.value c.args.acc c.args.b (failed c.is_digit.ensures
     c.if-is_digit.false) c.if-b-eq58.false c.if-b-eq45.false

@@ -3,7 +3,7 @@ use Rattle.arriving.proofs.FiguresLaws.{settled_in, settled_out}
 use Rattle.arriving.proofs.figures.settled.Goals as goal
 
 pub returns-then-fits : goal.returns-then-fits
-returns-then-fits c = settled_in _ _ _ _ c.fits2.ensures c.if-fits.true
+returns-then-fits c = settled_in _ _ _ _ c.fits.ensures c.if-fits.true
 
 pub returns : goal.returns
-returns c = settled_out _ _ _ _ c.fits2.ensures c.if-fits.false
+returns c = settled_out _ _ _ _ c.fits.ensures c.if-fits.false

@@ -28,12 +28,12 @@ returns-in-Done c = c.whole.ensures
 
 pub overflow_add-from : goal.overflow_add-from
 overflow_add-from c = omega (
-      arith,
-      fault_room _ _ _ _ _ c.rest_of-from.ensures
-          c.bytes-u.ensures
-          c.if-from-part.false c.if-u.false _
-          (subst (Judged _) c.in-IllFormed.is c.utf8-2.ensures),
-    )
+  arith,
+  fault_room _ _ _ _ _ c.rest_of-from.ensures
+      c.bytes-u.ensures
+      c.if-from-part.false c.if-u.false _
+      (subst (Judged _) c.in-IllFormed.is c.utf8-2.ensures),
+)
 
 pub returns-in-IllFormed : goal.returns-in-IllFormed
 returns-in-IllFormed c = c.bytes.ensures

@@ -7,7 +7,8 @@ use Rattle.arriving.specs.Between.Packing.{spread}
 use Rattle.arriving.proofs.packing.put_words.Given as goal
 
 abbrev pub invariant-loop-i : goal.invariant-loop-i
-invariant-loop-i l =     (l.bytes ≡ sets l.initial.bytes l.at (spread (take l.i l.words))) × (l.o ≡ l.at + 8 * l.i) × (l.i ≤ length l.words) × (length l.bytes ≡ length l.initial.bytes)
+invariant-loop-i l = (l.bytes ≡ sets l.initial.bytes l.at (spread (take l.i l.words))) × (l.o ≡ l.at + 8 * l.i) × (l.i ≤ length l.words)
+    × (length l.bytes ≡ length l.initial.bytes)
 
 abbrev pub decreases-loop-i : goal.decreases-loop-i
 decreases-loop-i l = length l.words - l.i

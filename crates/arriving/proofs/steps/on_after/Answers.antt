@@ -23,7 +23,7 @@ returns-in-Comma c = by (λ k. on_after (c.args.here, c.args.kinds.now) c.args.p
 
 pub returns-in-CloseArray : goal.returns-in-CloseArray
 returns-in-CloseArray c = by (λ k. on_after (c.args.here, c.args.kinds.now) c.args.p
-    (class_is k)) c.in-CloseArray.is (c.Closed-after.ensures square refl)
+    (class_is k)) c.in-CloseArray.is (c.closed_after.ensures square refl)
 
 pub returns-in-CloseObject : goal.returns-in-CloseObject
 returns-in-CloseObject c = by (λ k. on_after (c.args.here, c.args.kinds.now) c.args.p

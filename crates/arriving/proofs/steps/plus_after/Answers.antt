@@ -1,4 +1,4 @@
-use Rattle.arriving.specs.Between.Steps.{odd, plus}
+use Rattle.arriving.specs.Between.Steps.{plus}
 use Rattle.arriving.proofs.StepsLaws.{by}
 use Rattle.arriving.proofs.steps.plus_after.Goals as goal
 

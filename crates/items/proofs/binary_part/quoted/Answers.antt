@@ -39,12 +39,12 @@ returns-in-NotGrammar c = fill_wrong c.loop-i.invariant.0 _
 
 pub overflow_add-out : goal.overflow_add-out
 overflow_add-out c = omega (
-      arith,
-      c.loop-i.invariant.0.placed,
-      c.loop-i.invariant.0.room,
-      c.loop-i.invariant.0.within,
-      c.requires.1,
-    )
+  arith,
+  c.loop-i.invariant.0.placed,
+  c.loop-i.invariant.0.room,
+  c.loop-i.invariant.0.within,
+  c.requires.1,
+)
 
 pub loop-i-smaller : goal.loop-i-smaller
 loop-i-smaller c = let w = rw c.in-Byte.is at

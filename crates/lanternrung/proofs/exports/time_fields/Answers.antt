@@ -7,7 +7,8 @@ use Rattle.lanternrung.proofs.ToldLaws.{same16, wider, passed}
 use Rattle.lanternrung.proofs.exports.time_fields.Goals as goal
 
 pub overflow_cast-offset : goal.overflow_cast-offset
-overflow_cast-offset c = subst (SFits w32) (sym (same16 c.in-OffsetDateTime.offset c.in-OffsetDateTime.known_told-in-OffsetDateTime-1-own.given.1.1.0.1)) (wider c.in-OffsetDateTime.offset c.in-OffsetDateTime.known_told-in-OffsetDateTime-1-own.given.1.1.0.1)
+overflow_cast-offset c = subst (SFits w32) (sym (same16 c.in-OffsetDateTime.offset c.in-OffsetDateTime.known_told-in-OffsetDateTime-1-own.given.1.1.0.1))
+    (wider c.in-OffsetDateTime.offset c.in-OffsetDateTime.known_told-in-OffsetDateTime-1-own.given.1.1.0.1)
 
 pub returns-in-LocalDate : goal.returns-in-LocalDate
 unfolding time_fields

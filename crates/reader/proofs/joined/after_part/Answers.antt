@@ -12,7 +12,8 @@ returns-in-NotGrammar c = join_breaks c.args.text.now c.args.from c.in-NotGramma
     (rw c.in-NotGrammar.is at c.pass.ensures)
 
 pub returns-in-NotGrammar-pass : goal.returns-in-NotGrammar-pass
-returns-in-NotGrammar-pass c = plus_breaks c.args.text.now c.args.from c.in-Ended.at (rw c.in-Ended.is at c.pass.ensures) c.if-at-text.false c.if-text-at-ne43.false
+returns-in-NotGrammar-pass c = plus_breaks c.args.text.now c.args.from c.in-Ended.at (rw c.in-Ended.is at c.pass.ensures) c.if-at-text.false
+    c.if-text-at-ne43.false
     c.in-NotGrammar-pass.p (rw c.in-NotGrammar-pass.is at c.pass-in-Ended.ensures)
 
 pub returns-in-Ended-pass : goal.returns-in-Ended-pass

@@ -6,10 +6,12 @@ pub returns-then-at-text : goal.returns-then-at-text
 returns-then-at-text c = key_over c.args.text.now c.args.at c.args.start c.args.store.now c.if-at-text.true
 
 pub returns-then-b-eq34 : goal.returns-then-b-eq34
-returns-then-b-eq34 c = key_string c.args.text.now c.args.at c.args.start c.args.store.now c.if-at-text.false (rw c.if-b-eq34.true) _ c.string.result c.string.ensures
+returns-then-b-eq34 c = key_string c.args.text.now c.args.at c.args.start c.args.store.now c.if-at-text.false (rw c.if-b-eq34.true) _ c.string.result
+    c.string.ensures
 
 pub returns-then-b-eq39 : goal.returns-then-b-eq39
-returns-then-b-eq39 c = key_string c.args.text.now c.args.at c.args.start c.args.store.now c.if-at-text.false (rw c.if-b-eq39.true) _ c.string-then-b-eq39.result c.string-then-b-eq39.ensures
+returns-then-b-eq39 c = key_string c.args.text.now c.args.at c.args.start c.args.store.now c.if-at-text.false (rw c.if-b-eq39.true) _
+    c.string-then-b-eq39.result c.string-then-b-eq39.ensures
 
 pub returns-in-Neither : goal.returns-in-Neither
 returns-in-Neither c = key_none c.args.text.now c.args.at c.args.start c.args.store.now c.if-at-text.false c.requires.2 c.if-b-eq34.false

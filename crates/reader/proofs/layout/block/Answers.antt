@@ -28,7 +28,8 @@ pub is_control-requires : goal.is_control-requires
 is_control-requires c = tt
 
 pub returns-then-is_control : goal.returns-then-is_control
-returns-then-is_control c = note_breaks c.loop-at.invariant (omega arith) (control_breaks c.args.text.now c.loop-at.at (eqb c.loop-at.last (ch "*")) (held c.is_control.ensures c.if-is_control.true))
+returns-then-is_control c = note_breaks c.loop-at.invariant (omega arith) (control_breaks c.args.text.now c.loop-at.at (eqb c.loop-at.last (ch "*"))
+    (held c.is_control.ensures c.if-is_control.true))
 
 pub overflow_add-at : goal.overflow_add-at
 overflow_add-at c = omega arith

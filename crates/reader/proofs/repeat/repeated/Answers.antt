@@ -66,7 +66,7 @@ loop-i-smaller c = seeking_falls c.args.text.now
 
 pub loop-i-preserved : goal.loop-i-preserved
 loop-i-preserved c = elim c.if-tag_of-tag.branch [
-  then-tag_of-tag+else-same_key w ↦ seeking_past c.args.text.now c.args.seen.now c.args.at c.args.tag c.requires
+  | then-tag_of-tag+else-same_key w ↦ seeking_past c.args.text.now c.args.seen.now c.args.at c.args.tag c.requires
       c.loop-i.i c.loop-i.invariant c.loop-i-test.true _ _ _
       w.place_of-place.ensures w.same_key.ensures w.if-same_key.false c.earlier-i.ensures
   | else-tag_of-tag w ↦ seeking_past_tag c.args.text.now c.args.seen.now c.args.at c.args.tag c.requires

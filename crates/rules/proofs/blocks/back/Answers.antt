@@ -31,12 +31,12 @@ pub bounds-s-at-3 : goal.bounds-s-at-3
 bounds-s-at-3 c = omega (arith, open_room c.requires)
 
 pub returns-then-s-at-ge240 : goal.returns-then-s-at-ge240
-returns-then-s-at-ge240 c =     back_three c.requires c.if-s-at-ge240.true c.if-s-at-ge224.false
+returns-then-s-at-ge240 c = back_three c.requires c.if-s-at-ge240.true c.if-s-at-ge224.false
     c.if-s-at-ge192.false
 
 pub overflow_add-result-2 : goal.overflow_add-result-2
 overflow_add-result-2 c = omega (arith, open_room c.requires)
 
 pub returns : goal.returns
-returns c =     back_none c.requires c.if-s-at-ge240.false c.if-s-at-ge224.false
+returns c = back_none c.requires c.if-s-at-ge240.false c.if-s-at-ge224.false
     c.if-s-at-ge192.false

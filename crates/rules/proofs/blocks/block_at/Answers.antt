@@ -8,7 +8,7 @@ pub returns-then-wanted-ne0 : goal.returns-then-wanted-ne0
 returns-then-wanted-ne0 c = faulty
 
 pub returns-then-most-lt128 : goal.returns-then-most-lt128
-returns-then-most-lt128 c =     let a = ascii_32 _ _ _ c.requires
+returns-then-most-lt128 c = let a = ascii_32 _ _ _ c.requires
     c.greatest-most.ensures c.if-most-lt128.true in
     plain (clean_ascii _ _ _ c.wanted.ensures (omega arith) a)
     (topped _ _ _ c.greatest-most.ensures (omega arith)) a

@@ -27,11 +27,11 @@ pub overflow_sub-at : goal.overflow_sub-at
 overflow_sub-at c = omega arith
 
 pub loop-at-smaller-in-Plain : goal.loop-at-smaller-in-Plain
-loop-at-smaller-in-Plain c =     omega
+loop-at-smaller-in-Plain c = omega
     (arith, ahead _ _ _ c.lesser-here.ensures.2 c.lesser-here.ensures.3 (omega arith))
 
 pub loop-at-preserved-in-Plain : goal.loop-at-preserved-in-Plain
-loop-at-preserved-in-Plain c =     plain_on _ _ _ (omega arith)
+loop-at-preserved-in-Plain c = plain_on _ _ _ (omega arith)
     (omega (arith, ahead _ _ _ c.lesser-here.ensures.2 c.lesser-here.ensures.3 (omega arith)))
     (omega arith) c.loop-at.invariant _ c.block_at.ensures
     c.in-Plain.is c.ascii_blocks-at.ensures
@@ -43,7 +43,7 @@ pub loop-at-smaller : goal.loop-at-smaller
 loop-at-smaller c = omega (arith, ahead _ _ _ c.lesser-here.ensures.2 c.lesser-here.ensures.3 (omega arith))
 
 pub loop-at-preserved : goal.loop-at-preserved
-loop-at-preserved c =     wide_on _ _ _ (omega arith)
+loop-at-preserved c = wide_on _ _ _ (omega arith)
     (omega (arith, ahead _ _ _ c.lesser-here.ensures.2 c.lesser-here.ensures.3 (omega arith)))
     (omega arith) c.loop-at.invariant c.block_at.ensures c.in-Wide.is
 

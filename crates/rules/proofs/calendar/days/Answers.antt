@@ -19,7 +19,7 @@ pub returns-then-month-eq2 : goal.returns-then-month-eq2
 returns-then-month-eq2 c = february_is _ _ c.if-month-eq2.true c.if-is_leap.false c.is_leap.ensures
 
 pub returns : goal.returns
-returns c =     but_february _ c.if-month-lt1.false c.if-month-gt12.false c.if-month-eq2.false
+returns c = but_february _ c.if-month-lt1.false c.if-month-gt12.false c.if-month-eq2.false
     record {
       january = λ e. rw e (month calendar.january);
       march = λ e. rw e (month calendar.march);

@@ -7,4 +7,4 @@ pub returns-in-Done : goal.returns-in-Done
 returns-in-Done c = utf8_told _ _ Done c.utf8-2.ensures c.in-Done.is
 
 pub returns-in-IllFormed : goal.returns-in-IllFormed
-returns-in-IllFormed c =     utf8_told _ _ (IllFormed c.in-IllFormed.at) c.utf8-2.ensures c.in-IllFormed.is
+returns-in-IllFormed c = utf8_told _ _ (IllFormed c.in-IllFormed.at) c.utf8-2.ensures c.in-IllFormed.is

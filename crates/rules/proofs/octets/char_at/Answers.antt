@@ -37,7 +37,7 @@ pub returns-then-b-high : goal.returns-then-b-high
 returns-then-b-high c = no_char _ _ (λ z. omega arith) (λ n w. omega arith)
 
 pub returns : goal.returns
-returns c =     by_tails _ _ _ _ (λ z. omega arith) (omega arith)
+returns c = by_tails _ _ _ _ (λ z. omega arith) (omega arith)
     (λ t. record {
       two = omega arith;
       four = omega arith;

@@ -22,7 +22,7 @@ pub loop-k-preserved : goal.loop-k-preserved
 loop-k-preserved c = (
   omega arith,
   elim c.if-most-b.branch [
-    then-most-b w ↦ at_most_more _ _ _ _ _ c.loop-k.invariant.1 (omega arith) (omega arith)
+    | then-most-b w ↦ at_most_more _ _ _ _ _ c.loop-k.invariant.1 (omega arith) (omega arith)
     | else-most-b w ↦ at_most_more _ _ _ _ _ c.loop-k.invariant.1 (omega arith) (omega arith)
   ],
 )

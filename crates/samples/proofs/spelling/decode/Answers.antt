@@ -1,6 +1,6 @@
 use native.Mathlib.Omega.{arith}
 use lib.ListN.{length-set}
-use Rattle.io.proofs.Counting.{prefix_len_of_le}
+use Rattle.samples.proofs.Prefixes.{prefix_len_of_le}
 use Rattle.samples.proofs.spelling.decode.Goals as goal
 
 pub returns-then-n-out : goal.returns-then-n-out

@@ -2,7 +2,7 @@
 use Prim.Native.Nat.{◌*◌}
 use native.Mathlib.Omega.{arith}
 use lib.ListN.{length}
-use Rattle.io.proofs.Counting.{prefix_len_of_le}
+use Rattle.samples.proofs.Prefixes.{prefix_len_of_le}
 use Rattle.samples.proofs.spelling.filled.Goals as goal
 
 pub returns-then-n-tape : goal.returns-then-n-tape

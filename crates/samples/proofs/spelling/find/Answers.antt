@@ -1,5 +1,5 @@
 use native.Mathlib.Omega.{arith}
-use Rattle.io.proofs.Counting.{prefix_len_of_le}
+use Rattle.samples.proofs.Prefixes.{prefix_len_of_le}
 use Rattle.samples.proofs.spelling.find.Goals as goal
 
 pub returns-then-s-i : goal.returns-then-s-i

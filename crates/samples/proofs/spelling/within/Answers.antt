@@ -1,7 +1,7 @@
 -- `within` stays within the buffer. Assumes nothing.
 use native.Mathlib.Omega.{arith}
 use lib.ListN.{length}
-use Rattle.io.proofs.Counting.{prefix_len_of_le}
+use Rattle.samples.proofs.Prefixes.{prefix_len_of_le}
 use Rattle.samples.proofs.spelling.within.Goals as goal
 
 pub returns-then-size-buffer : goal.returns-then-size-buffer

@@ -14,11 +14,15 @@ returns-in-LocalDate c = rw c.in-LocalDate.is (written _ _ c.month_day.ensures.1
 
 pub returns-in-LocalTime : goal.returns-in-LocalTime
 unfolding mark_of low_of mid_of high_of
-returns-in-LocalTime c = rw c.in-LocalTime.is (written _ _ c.in-LocalTime.known_told-in-LocalTime-1-own.given.0.1 (record { mark_is = refl; low_is = refl; mid_is = refl; high_is = refl }))
+returns-in-LocalTime c = rw c.in-LocalTime.is (written _ _ c.in-LocalTime.known_told-in-LocalTime-1-own.given.0.1
+    (record { mark_is = refl; low_is = refl; mid_is = refl; high_is = refl }))
 
 pub returns-in-LocalDateTime : goal.returns-in-LocalDateTime
 unfolding mark_of low_of mid_of high_of
-returns-in-LocalDateTime c = rw c.in-LocalDateTime.is (written _ _ (c.month_day-in-LocalDateTime.ensures.1, c.in-LocalDateTime.known_told-in-LocalDateTime-1-own.given.1.0.1)
+returns-in-LocalDateTime c = rw c.in-LocalDateTime.is (written _ _ (
+  c.month_day-in-LocalDateTime.ensures.1,
+  c.in-LocalDateTime.known_told-in-LocalDateTime-1-own.given.1.0.1,
+)
     (record { mark_is = refl; low_is = refl; mid_is = c.month_day-in-LocalDateTime.ensures.0; high_is = refl }))
 
 pub returns-in-OffsetDateTime : goal.returns-in-OffsetDateTime

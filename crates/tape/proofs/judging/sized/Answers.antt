@@ -11,4 +11,5 @@ pub returns-then-n-gt-RECORD_LIMIT : goal.returns-then-n-gt-RECORD_LIMIT
 returns-then-n-gt-RECORD_LIMIT c = fails (λ z. omega (arith, c.if-n-gt-RECORD_LIMIT.true, z.few))
 
 pub returns : goal.returns
-returns c = decides_as (λ h. record { whole = c.if-tape-n.false; few = omega (arith, c.if-n-gt-RECORD_LIMIT.false); short = h }) (λ z. z.short) (at_most_test _ _)
+returns c = decides_as (λ h. record { whole = c.if-tape-n.false; few = omega (arith, c.if-n-gt-RECORD_LIMIT.false); short = h }) (λ z. z.short)
+    (at_most_test _ _)

@@ -68,9 +68,12 @@ returns-in_default c = absurd (omega (
   arith,
   (less 0 (less 1 (less 2 (less 3 (less 4 (less 5
       (less 6 (less 7 (less 8 (less 9 (less 10 (less 11 (less 12 (less 13 (less 14
-      (less 15 (less 16 (less 17 (less 18 (less 19 c.requires c.in_default.in_default-own.rest.1) c.in_default.in_default-own.rest.0.1) c.in_default.in_default-own.rest.0.0.1)
-      c.in_default.in_default-own.rest.0.0.0.1) c.in_default.in_default-own.rest.0.0.0.0.1) c.in_default.in_default-own.rest.0.0.0.0.0.1) c.in_default.in_default-own.rest.0.0.0.0.0.0.1)
-      c.in_default.in_default-own.rest.0.0.0.0.0.0.0.1) c.in_default.in_default-own.rest.0.0.0.0.0.0.0.0.1) c.in_default.in_default-own.rest.0.0.0.0.0.0.0.0.0.1)
+      (less 15 (less 16 (less 17 (less 18 (less 19 c.requires c.in_default.in_default-own.rest.1) c.in_default.in_default-own.rest.0.1)
+      c.in_default.in_default-own.rest.0.0.1)
+      c.in_default.in_default-own.rest.0.0.0.1) c.in_default.in_default-own.rest.0.0.0.0.1) c.in_default.in_default-own.rest.0.0.0.0.0.1)
+      c.in_default.in_default-own.rest.0.0.0.0.0.0.1)
+      c.in_default.in_default-own.rest.0.0.0.0.0.0.0.1) c.in_default.in_default-own.rest.0.0.0.0.0.0.0.0.1)
+      c.in_default.in_default-own.rest.0.0.0.0.0.0.0.0.0.1)
       c.in_default.in_default-own.rest.0.0.0.0.0.0.0.0.0.0.1) c.in_default.in_default-own.rest.0.0.0.0.0.0.0.0.0.0.0.1)
       c.in_default.in_default-own.rest.0.0.0.0.0.0.0.0.0.0.0.0.1) c.in_default.in_default-own.rest.0.0.0.0.0.0.0.0.0.0.0.0.0.1)
       c.in_default.in_default-own.rest.0.0.0.0.0.0.0.0.0.0.0.0.0.0.1) c.in_default.in_default-own.rest.0.0.0.0.0.0.0.0.0.0.0.0.0.0.0.1)

@@ -21,31 +21,39 @@ pub number_at-requires : goal.number_at-requires
 number_at-requires c = omega (arith, c.requires.1, ap length (number_printed c.args.store.now c.in-Number.is))
 
 pub string_at-requires : goal.string_at-requires
-string_at-requires c = (omega (arith, c.requires.0, ap bytes_end c.in-Str.is), omega (arith, c.requires.1, ap length (string_printed c.args.store.now c.in-Str.is)))
+string_at-requires c = (
+  omega (arith, c.requires.0, ap bytes_end c.in-Str.is),
+  omega
+      (arith, c.requires.1, ap length (string_printed c.args.store.now c.in-Str.is)),
+)
 
 pub string_at-colon-requires : goal.string_at-colon-requires
 string_at-colon-requires c = (
-      omega (arith, c.requires.0, ap bytes_end c.in-Key.is),
-      omega (
-        arith,
-        c.requires.1,
-        ap length (key_printed c.args.store.now c.in-Key.is),
-        length-append (quoted (part c.args.store.now c.in-Key.length c.in-Key.start)) (letters ":"),
-      ),
-    )
+  omega (arith, c.requires.0, ap bytes_end c.in-Key.is),
+  omega (
+    arith,
+    c.requires.1,
+    ap length (key_printed c.args.store.now c.in-Key.is),
+    length-append (quoted (part c.args.store.now c.in-Key.length c.in-Key.start)) (letters ":"),
+  ),
+)
 
 pub byte_at-requires : goal.byte_at-requires
 byte_at-requires c = omega (
-      arith,
-      c.requires.1,
-      ap length (key_printed c.args.store.now c.in-Key.is),
-      length-append (quoted (part c.args.store.now c.in-Key.length c.in-Key.start)) (letters ":"),
-      c.string_at-colon.ensures.next,
-      c.string_at-colon.auto.out,
-    )
+  arith,
+  c.requires.1,
+  ap length (key_printed c.args.store.now c.in-Key.is),
+  length-append (quoted (part c.args.store.now c.in-Key.length c.in-Key.start)) (letters ":"),
+  c.string_at-colon.ensures.next,
+  c.string_at-colon.auto.out,
+)
 
 pub binary_at-requires : goal.binary_at-requires
-binary_at-requires c = (omega (arith, c.requires.0, ap bytes_end c.in-Bin.is), omega (arith, c.requires.1, ap length (binary_printed c.args.store.now c.in-Bin.is)))
+binary_at-requires c = (
+  omega (arith, c.requires.0, ap bytes_end c.in-Bin.is),
+  omega
+      (arith, c.requires.1, ap length (binary_printed c.args.store.now c.in-Bin.is)),
+)
 
 pub time_at-requires : goal.time_at-requires
 time_at-requires c = omega (arith, c.requires.1, ap length (time_printed c.args.store.now c.in-Time.is))
@@ -69,7 +77,8 @@ pub returns-in-Str : goal.returns-in-Str
 returns-in-Str c = put_at_as (sym (string_printed c.args.store.now c.in-Str.is)) c.string_at.ensures
 
 pub returns-in-Key : goal.returns-in-Key
-returns-in-Key c = put_at_as (sym (key_printed c.args.store.now c.in-Key.is)) (put_next (omega (arith, c.requires.1)) c.string_at-colon.ensures c.byte_at.ensures)
+returns-in-Key c = put_at_as (sym (key_printed c.args.store.now c.in-Key.is)) (put_next (omega (arith, c.requires.1)) c.string_at-colon.ensures
+    c.byte_at.ensures)
 
 pub returns-in-Bin : goal.returns-in-Bin
 returns-in-Bin c = put_at_as (sym (binary_printed c.args.store.now c.in-Bin.is)) c.binary_at.ensures

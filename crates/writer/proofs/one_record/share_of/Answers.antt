@@ -21,32 +21,32 @@ part_len-requires c = ((omega (arith, c.requires.0, ap bytes_end c.in-Str.is)), 
 
 pub overflow_add-result-in-Str : goal.overflow_add-result-in-Str
 overflow_add-result-in-Str c = omega (
-      arith,
-      c.part_len.ensures,
-      quoted_small (part c.args.store.now c.in-Str.length c.in-Str.start)
-          (omega (
-            arith,
-            part_length c.args.store.now c.in-Str.length c.in-Str.start (omega (arith, c.requires.0, ap bytes_end c.in-Str.is)),
-            c.requires,
-            ap bytes_end c.in-Str.is,
-          )),
-    )
+  arith,
+  c.part_len.ensures,
+  quoted_small (part c.args.store.now c.in-Str.length c.in-Str.start)
+      (omega (
+        arith,
+        part_length c.args.store.now c.in-Str.length c.in-Str.start (omega (arith, c.requires.0, ap bytes_end c.in-Str.is)),
+        c.requires,
+        ap bytes_end c.in-Str.is,
+      )),
+)
 
 pub part_len-requires-in-Key : goal.part_len-requires-in-Key
 part_len-requires-in-Key c = ((omega (arith, c.requires.0, ap bytes_end c.in-Key.is)), c.requires.1)
 
 pub overflow_add-result-in-Key : goal.overflow_add-result-in-Key
 overflow_add-result-in-Key c = omega (
-      arith,
-      c.part_len-in-Key.ensures,
-      quoted_small (part c.args.store.now c.in-Key.length c.in-Key.start)
-          (omega (
-            arith,
-            part_length c.args.store.now c.in-Key.length c.in-Key.start (omega (arith, c.requires.0, ap bytes_end c.in-Key.is)),
-            c.requires,
-            ap bytes_end c.in-Key.is,
-          )),
-    )
+  arith,
+  c.part_len-in-Key.ensures,
+  quoted_small (part c.args.store.now c.in-Key.length c.in-Key.start)
+      (omega (
+        arith,
+        part_length c.args.store.now c.in-Key.length c.in-Key.start (omega (arith, c.requires.0, ap bytes_end c.in-Key.is)),
+        c.requires,
+        ap bytes_end c.in-Key.is,
+      )),
+)
 
 pub overflow_mul-result : goal.overflow_mul-result
 overflow_mul-result c = omega (arith, c.requires, ap bytes_end c.in-Bin.is)

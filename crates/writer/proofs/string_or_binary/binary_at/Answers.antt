@@ -8,10 +8,21 @@ use Rattle.writer.proofs.PiecesLaws.{part_to}
 use Rattle.writer.proofs.string_or_binary.binary_at.Goals as goal
 
 pub write_binary-requires : goal.write_binary-requires
-write_binary-requires c = omega (arith, c.requires.1, ap length (ap binary_text (part_to c.args.store.now c.args.start c.args.length)), tail_length c.args.at c.args.out.now)
+write_binary-requires c = omega (
+  arith,
+  c.requires.1,
+  ap length (ap binary_text (part_to c.args.store.now c.args.start c.args.length)),
+  tail_length c.args.at c.args.out.now,
+)
 
 pub overflow_add-result : goal.overflow_add-result
-overflow_add-result c = omega (arith, c.requires.1, c.well_formed, ap length (ap binary_text (part_to c.args.store.now c.args.start c.args.length)), c.write_binary.ensures.size)
+overflow_add-result c = omega (
+  arith,
+  c.requires.1,
+  c.well_formed,
+  ap length (ap binary_text (part_to c.args.store.now c.args.start c.args.length)),
+  c.write_binary.ensures.size,
+)
 
 pub returns : goal.returns
 returns c = put_at_as (ap binary_text (part_to c.args.store.now c.args.start c.args.length)) (put_tail c.write_binary.ensures)

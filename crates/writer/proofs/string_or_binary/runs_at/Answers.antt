@@ -17,7 +17,8 @@ pub slice_bounds-bytes_at-end : goal.slice_bounds-bytes_at-end
 slice_bounds-bytes_at-end c = omega (arith, c.plain_run-j.ensures.within)
 
 pub bytes_at-end-requires : goal.bytes_at-end-requires
-bytes_at-end-requires c = writing_room (take (c.plain_run-j.result - c.loop-i.i) (drop c.loop-i.i c.args.s.now)) (escapes (drop c.plain_run-j.result c.args.s.now))
+bytes_at-end-requires c = writing_room (take (c.plain_run-j.result - c.loop-i.i) (drop c.loop-i.i c.args.s.now))
+    (escapes (drop c.plain_run-j.result c.args.s.now))
     (writing_as (run_text c.args.s.now c.loop-i.i _ c.plain_run-j.ensures) c.loop-i.invariant.1)
 
 pub loop-i-smaller-then-i-j : goal.loop-i-smaller-then-i-j

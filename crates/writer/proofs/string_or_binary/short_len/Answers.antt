@@ -9,7 +9,13 @@ pub loop-i-init : goal.loop-i-init
 loop-i-init c = (omega arith, omega (arith, quoted_length c.args.s.now))
 
 pub overflow_add-total : goal.overflow_add-total
-overflow_add-total c = omega (arith, c.loop-i.invariant, c.escaped_len-total.ensures, count_more c.args.s.now c.loop-i.i c.loop-i-test.true, quoted_small c.args.s.now c.requires)
+overflow_add-total c = omega (
+  arith,
+  c.loop-i.invariant,
+  c.escaped_len-total.ensures,
+  count_more c.args.s.now c.loop-i.i c.loop-i-test.true,
+  quoted_small c.args.s.now c.requires,
+)
 
 pub loop-i-smaller : goal.loop-i-smaller
 loop-i-smaller c = omega arith

@@ -13,26 +13,27 @@ byte_at-first-requires c = omega (arith, c.requires, ap length (quoted_parts c.a
 
 pub escapes_at-last-requires : goal.escapes_at-last-requires
 escapes_at-last-requires c = omega (
-      arith,
-      c.requires,
-      ap length (quoted_parts c.args.s.now),
-      length_three (letters "\"") (escapes c.args.s.now) (letters "\""),
-      c.byte_at-first.ensures.next,
-      c.byte_at-first.auto.out,
-    )
+  arith,
+  c.requires,
+  ap length (quoted_parts c.args.s.now),
+  length_three (letters "\"") (escapes c.args.s.now) (letters "\""),
+  c.byte_at-first.ensures.next,
+  c.byte_at-first.auto.out,
+)
 
 pub byte_at-requires : goal.byte_at-requires
 byte_at-requires c = omega (
-      arith,
-      c.requires,
-      ap length (quoted_parts c.args.s.now),
-      length_three (letters "\"") (escapes c.args.s.now) (letters "\""),
-      c.byte_at-first.ensures.next,
-      c.byte_at-first.auto.out,
-      c.escapes_at-last.ensures.next,
-      c.escapes_at-last.auto.out,
-    )
+  arith,
+  c.requires,
+  ap length (quoted_parts c.args.s.now),
+  length_three (letters "\"") (escapes c.args.s.now) (letters "\""),
+  c.byte_at-first.ensures.next,
+  c.byte_at-first.auto.out,
+  c.escapes_at-last.ensures.next,
+  c.escapes_at-last.auto.out,
+)
 
 pub returns : goal.returns
-returns c = put_as (sym (quoted_parts c.args.s.now)) (put_whole (put_next (omega arith) (put_next (omega arith) c.byte_at-first.ensures c.escapes_at-last.ensures)
+returns c = put_as (sym (quoted_parts c.args.s.now)) (put_whole (put_next (omega arith)
+    (put_next (omega arith) c.byte_at-first.ensures c.escapes_at-last.ensures)
     c.byte_at.ensures))

@@ -15,47 +15,47 @@ byte_at-b-requires c = omega (arith, c.requires, date_length c.args.d, c.digits_
 
 pub digits_at-c-requires : goal.digits_at-c-requires
 digits_at-c-requires c = omega (
-      arith,
-      c.requires,
-      date_length c.args.d,
-      c.digits_at-a.ensures.next,
-      c.digits_at-a.auto.out,
-      fixed_length 4 c.args.d.year,
-      c.byte_at-b.ensures.next,
-      c.byte_at-b.auto.out,
-    )
+  arith,
+  c.requires,
+  date_length c.args.d,
+  c.digits_at-a.ensures.next,
+  c.digits_at-a.auto.out,
+  fixed_length 4 c.args.d.year,
+  c.byte_at-b.ensures.next,
+  c.byte_at-b.auto.out,
+)
 
 pub byte_at-e-requires : goal.byte_at-e-requires
 byte_at-e-requires c = omega (
-      arith,
-      c.requires,
-      date_length c.args.d,
-      c.digits_at-a.ensures.next,
-      c.digits_at-a.auto.out,
-      fixed_length 4 c.args.d.year,
-      c.byte_at-b.ensures.next,
-      c.byte_at-b.auto.out,
-      c.digits_at-c.ensures.next,
-      c.digits_at-c.auto.out,
-      fixed_length 2 c.args.d.month,
-    )
+  arith,
+  c.requires,
+  date_length c.args.d,
+  c.digits_at-a.ensures.next,
+  c.digits_at-a.auto.out,
+  fixed_length 4 c.args.d.year,
+  c.byte_at-b.ensures.next,
+  c.byte_at-b.auto.out,
+  c.digits_at-c.ensures.next,
+  c.digits_at-c.auto.out,
+  fixed_length 2 c.args.d.month,
+)
 
 pub digits_at-requires : goal.digits_at-requires
 digits_at-requires c = omega (
-      arith,
-      c.requires,
-      date_length c.args.d,
-      c.digits_at-a.ensures.next,
-      c.digits_at-a.auto.out,
-      fixed_length 4 c.args.d.year,
-      c.byte_at-b.ensures.next,
-      c.byte_at-b.auto.out,
-      c.digits_at-c.ensures.next,
-      c.digits_at-c.auto.out,
-      fixed_length 2 c.args.d.month,
-      c.byte_at-e.ensures.next,
-      c.byte_at-e.auto.out,
-    )
+  arith,
+  c.requires,
+  date_length c.args.d,
+  c.digits_at-a.ensures.next,
+  c.digits_at-a.auto.out,
+  fixed_length 4 c.args.d.year,
+  c.byte_at-b.ensures.next,
+  c.byte_at-b.auto.out,
+  c.digits_at-c.ensures.next,
+  c.digits_at-c.auto.out,
+  fixed_length 2 c.args.d.month,
+  c.byte_at-e.ensures.next,
+  c.byte_at-e.auto.out,
+)
 
 pub returns : goal.returns
 returns c = put_at_as (sym (date_parts c.args.d)) (put_next (omega (arith, c.requires, date_length c.args.d))

@@ -14,21 +14,21 @@ returns-then-n-eq0 c = put_at_as (sym (fraction_none c.args.n c.if-n-eq0.true)) 
 
 pub byte_at-first-requires : goal.byte_at-first-requires
 byte_at-first-requires c = omega (
-      arith,
-      c.requires,
-      ap length (fraction_some c.args.n c.if-n-eq0.false ∙ ap (λ (l : List _). letters "." ++ l) c.trimmed-t.ensures.text),
-      fixed_length c.trimmed-t.result.count c.trimmed-t.result.digits,
-    )
+  arith,
+  c.requires,
+  ap length (fraction_some c.args.n c.if-n-eq0.false ∙ ap (λ (l : List _). letters "." ++ l) c.trimmed-t.ensures.text),
+  fixed_length c.trimmed-t.result.count c.trimmed-t.result.digits,
+)
 
 pub digits_at-requires : goal.digits_at-requires
 digits_at-requires c = omega (
-      arith,
-      c.requires,
-      ap length (fraction_some c.args.n c.if-n-eq0.false ∙ ap (λ (l : List _). letters "." ++ l) c.trimmed-t.ensures.text),
-      fixed_length c.trimmed-t.result.count c.trimmed-t.result.digits,
-      c.byte_at-first.ensures.next,
-      c.byte_at-first.auto.out,
-    )
+  arith,
+  c.requires,
+  ap length (fraction_some c.args.n c.if-n-eq0.false ∙ ap (λ (l : List _). letters "." ++ l) c.trimmed-t.ensures.text),
+  fixed_length c.trimmed-t.result.count c.trimmed-t.result.digits,
+  c.byte_at-first.ensures.next,
+  c.byte_at-first.auto.out,
+)
 
 pub returns : goal.returns
 returns c = put_at_as (sym (fraction_some c.args.n c.if-n-eq0.false ∙ ap (λ (l : List _). letters "." ++ l) c.trimmed-t.ensures.text))

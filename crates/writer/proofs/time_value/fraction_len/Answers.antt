@@ -13,10 +13,10 @@ returns-then-n-eq0 c = (sym (ap length (fraction_none c.args.n c.if-n-eq0.true))
 
 pub returns : goal.returns
 returns c = (
-      omega (
-        arith,
-        ap length (fraction_some c.args.n c.if-n-eq0.false ∙ ap (λ (l : List _). letters "." ++ l) c.trimmed-t.ensures.text),
-        fixed_length c.trimmed-t.result.count c.trimmed-t.result.digits,
-      ),
-      omega (arith, c.trimmed-t.ensures.few),
-    )
+  omega (
+    arith,
+    ap length (fraction_some c.args.n c.if-n-eq0.false ∙ ap (λ (l : List _). letters "." ++ l) c.trimmed-t.ensures.text),
+    fixed_length c.trimmed-t.result.count c.trimmed-t.result.digits,
+  ),
+  omega (arith, c.trimmed-t.ensures.few),
+)

@@ -14,16 +14,17 @@ byte_at-b-requires c = omega (arith, c.requires, minutes_length c.args.n, c.digi
 
 pub digits_at-requires : goal.digits_at-requires
 digits_at-requires c = omega (
-      arith,
-      c.requires,
-      minutes_length c.args.n,
-      c.digits_at-a.ensures.next,
-      c.digits_at-a.auto.out,
-      fixed_length 2 (c.args.n / 60),
-      c.byte_at-b.ensures.next,
-      c.byte_at-b.auto.out,
-    )
+  arith,
+  c.requires,
+  minutes_length c.args.n,
+  c.digits_at-a.ensures.next,
+  c.digits_at-a.auto.out,
+  fixed_length 2 (c.args.n / 60),
+  c.byte_at-b.ensures.next,
+  c.byte_at-b.auto.out,
+)
 
 pub returns : goal.returns
-returns c = put_next (omega (arith, c.requires, minutes_length c.args.n)) (put_next (omega (arith, c.requires, minutes_length c.args.n)) c.digits_at-a.ensures c.byte_at-b.ensures)
+returns c = put_next (omega (arith, c.requires, minutes_length c.args.n)) (put_next (omega (arith, c.requires, minutes_length c.args.n)) c.digits_at-a.ensures
+    c.byte_at-b.ensures)
     c.digits_at.ensures

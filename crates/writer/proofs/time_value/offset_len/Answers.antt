@@ -10,7 +10,10 @@ pub overflow_cast-offset : goal.overflow_cast-offset
 overflow_cast-offset c = offset_cast _ c.ranges.offset
 
 pub returns-then-o-eq0 : goal.returns-then-o-eq0
-returns-then-o-eq0 c = (sym (ap length (offset_at_zero _ c.sign_and_size-o.result (offset_sign _ c.ranges.offset _ c.sign_and_size-o.ensures) c.if-o-eq0.true)), omega arith)
+returns-then-o-eq0 c = (
+  sym (ap length (offset_at_zero _ c.sign_and_size-o.result (offset_sign _ c.ranges.offset _ c.sign_and_size-o.ensures) c.if-o-eq0.true)),
+  omega arith,
+)
 
 pub returns : goal.returns
 returns c = (sym (offset_signed _ c.sign_and_size-o.result (offset_sign _ c.ranges.offset _ c.sign_and_size-o.ensures) c.if-o-eq0.false), omega arith)

@@ -17,10 +17,16 @@ pub returns-in-LocalTime : goal.returns-in-LocalTime
 returns-in-LocalTime c = c.clock_len.ensures.0 ∙ sym (ap length (ap time_text c.in-LocalTime.is ∙ clock_alone _))
 
 pub returns-in-LocalDateTime : goal.returns-in-LocalDateTime
-returns-in-LocalDateTime c = omega (arith, c.clock_len-in-LocalDateTime.ensures.0, ap length (ap time_text c.in-LocalDateTime.is), local_date_time_length c.in-LocalDateTime.date c.in-LocalDateTime.clock)
+returns-in-LocalDateTime c = omega (
+  arith,
+  c.clock_len-in-LocalDateTime.ensures.0,
+  ap length (ap time_text c.in-LocalDateTime.is),
+  local_date_time_length c.in-LocalDateTime.date c.in-LocalDateTime.clock,
+)
 
 pub returns-in-OffsetDateTime : goal.returns-in-OffsetDateTime
-returns-in-OffsetDateTime c = let f : SFits w16 c.in-OffsetDateTime.offset = record { sfits = c.in-OffsetDateTime.known_told-in-OffsetDateTime-1-own.given.1.1.0.1 } in
+returns-in-OffsetDateTime c = let f : SFits w16 c.in-OffsetDateTime.offset = record
+    { sfits = c.in-OffsetDateTime.known_told-in-OffsetDateTime-1-own.given.1.1.0.1 } in
     omega (
       arith,
       c.clock_len-in-OffsetDateTime.ensures.0,

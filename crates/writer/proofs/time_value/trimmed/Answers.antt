@@ -9,7 +9,11 @@ pub loop-count-init : goal.loop-count-init
 loop-count-init c = (refl, omega arith)
 
 pub returns-then-rest-ne0 : goal.returns-then-rest-ne0
-returns-then-rest-ne0 c = record { text = c.loop-count.invariant.0 ∙ trimmed_kept c.loop-count.count c.loop-count.rest c.loop-count-test.true c.if-rest-ne0.true; few = c.loop-count.invariant.1 }
+returns-then-rest-ne0 c = record {
+  text = c.loop-count.invariant.0 ∙ trimmed_kept c.loop-count.count c.loop-count.rest c.loop-count-test.true
+      c.if-rest-ne0.true;
+  few = c.loop-count.invariant.1;
+}
 
 pub overflow_sub-count : goal.overflow_sub-count
 overflow_sub-count c = omega arith
@@ -18,11 +22,14 @@ pub loop-count-smaller : goal.loop-count-smaller
 loop-count-smaller c = omega arith
 
 pub loop-count-preserved : goal.loop-count-preserved
-loop-count-preserved c = (c.loop-count.invariant.0 ∙ trimmed_cut c.loop-count.count c.loop-count.rest c.loop-count-test.true c.if-rest-ne0.false, omega (arith, c.loop-count.invariant.1))
+loop-count-preserved c = (
+  c.loop-count.invariant.0 ∙ trimmed_cut c.loop-count.count c.loop-count.rest c.loop-count-test.true c.if-rest-ne0.false,
+  omega (arith, c.loop-count.invariant.1),
+)
 
 pub returns : goal.returns
 returns c = let z : c.loop-count.count ≡ 0 = omega arith in record {
-      text = c.loop-count.invariant.0 ∙ ap (λ (k : ℕ). trimmedText k c.loop-count.rest) z
-          ∙ trimmed_zero c.loop-count.rest c.loop-count.rest;
-      few = omega arith;
-    }
+  text = c.loop-count.invariant.0 ∙ ap (λ (k : ℕ). trimmedText k c.loop-count.rest) z
+      ∙ trimmed_zero c.loop-count.rest c.loop-count.rest;
+  few = omega arith;
+}

@@ -13,10 +13,12 @@ pub loop-i-smaller : goal.loop-i-smaller
 loop-i-smaller c = omega arith
 
 pub loop-i-preserved : goal.loop-i-preserved
-loop-i-preserved c = search_on c.args.tape.now c.args.store.now c.loop-i.invariant _ c.loop-i-test.true c.record_at-r.ensures (sym c.json_form.ensures ∙ c.if-json_form.true)
+loop-i-preserved c = search_on c.args.tape.now c.args.store.now c.loop-i.invariant _ c.loop-i-test.true c.record_at-r.ensures
+    (sym c.json_form.ensures ∙ c.if-json_form.true)
 
 pub returns-else-json_form : goal.returns-else-json_form
-returns-else-json_form c = search_stop c.args.tape.now c.args.store.now c.loop-i.invariant _ c.loop-i-test.true c.record_at-r.ensures (sym c.json_form.ensures ∙ c.if-json_form.false)
+returns-else-json_form c = search_stop c.args.tape.now c.args.store.now c.loop-i.invariant _ c.loop-i-test.true c.record_at-r.ensures
+    (sym c.json_form.ensures ∙ c.if-json_form.false)
 
 pub returns : goal.returns
 returns c = search_end c.args.tape.now c.args.store.now c.loop-i.invariant c.loop-i-test.false

@@ -7,18 +7,18 @@ loop-i-init c = sum_begin c.args.tape.now c.args.store.now c.requires
 
 pub share_of-total-requires : goal.share_of-total-requires
 share_of-total-requires c = (
-      read_bytes c.args.tape.now c.args.store.now c.loop-i.invariant.well _ _ c.loop-i-test.true c.record_at-r.ensures,
-      store_small c.args.tape.now c.args.store.now c.loop-i.invariant.well,
-      omega
-          (arith, c.loop-i-test.true, few_records c.args.tape.now c.args.store.now c.loop-i.invariant.well),
-    )
+  read_bytes c.args.tape.now c.args.store.now c.loop-i.invariant.well _ _ c.loop-i-test.true c.record_at-r.ensures,
+  store_small c.args.tape.now c.args.store.now c.loop-i.invariant.well,
+  omega
+      (arith, c.loop-i-test.true, few_records c.args.tape.now c.args.store.now c.loop-i.invariant.well),
+)
 
 pub overflow_add-total : goal.overflow_add-total
 overflow_add-total c = omega (
-      arith,
-      sum_small c.args.tape.now c.args.store.now (sum_more c.args.tape.now c.args.store.now c.loop-i.invariant _ _ c.loop-i-test.true
-          c.record_at-r.ensures c.share_of-total.ensures),
-    )
+  arith,
+  sum_small c.args.tape.now c.args.store.now (sum_more c.args.tape.now c.args.store.now c.loop-i.invariant _ _ c.loop-i-test.true
+      c.record_at-r.ensures c.share_of-total.ensures),
+)
 
 pub overflow_add-i : goal.overflow_add-i
 overflow_add-i c = omega (arith, c.loop-i-test.true, few_records c.args.tape.now c.args.store.now c.loop-i.invariant.well)

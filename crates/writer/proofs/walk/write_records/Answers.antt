@@ -19,7 +19,10 @@ pub overflow_add-i : goal.overflow_add-i
 overflow_add-i c = omega (arith, walk_inside c.loop-i.invariant c.if-i-until.true, few_records _ _ c.loop-i.invariant.well)
 
 pub printed_at-at-requires : goal.printed_at-at-requires
-printed_at-at-requires c = (walk_bytes c.loop-i.invariant c.if-i-until.true c.record_at-r.ensures, walk_piece c.loop-i.invariant c.if-i-until.true c.comma_at-piece.ensures c.record_at-r.ensures)
+printed_at-at-requires c = (
+  walk_bytes c.loop-i.invariant c.if-i-until.true c.record_at-r.ensures,
+  walk_piece c.loop-i.invariant c.if-i-until.true c.comma_at-piece.ensures c.record_at-r.ensures,
+)
 
 pub loop-i-smaller-in-Pass : goal.loop-i-smaller-in-Pass
 loop-i-smaller-in-Pass c = omega (arith, walk_inside c.loop-i.invariant c.if-i-until.true)
