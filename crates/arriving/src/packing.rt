@@ -2,7 +2,8 @@
 ghost use Rattle.std.specs.Prelude.{◌≡◌, ◌+◌, ◌*◌, ◌≤◌, length};
 ghost use Rattle.std.proofs.lemmas.List.Edits.{sets};
 ghost use Rattle.meaning.specs.Bytes.{flag};
-ghost use Rattle.arriving.specs.Between.Packing.{flat, due_number, due_of, flat_decimal, decimal_of, flat_figure, figure_of, flat_time, flat_field, flat_moment};
+ghost use Rattle.arriving.specs.Between.Packing.{flat, due_number, due_of, flat_decimal, decimal_of, flat_figure, figure_of};
+ghost use Rattle.arriving.specs.Between.Packing.{flat_time, flat_field, flat_moment};
 ghost use Rattle.arriving.specs.Between.Packing.{stamp_of, slot_of, moment_of, flat_quoted, flat_inner, quoted_of, inner_of, flat_octets, octets_of};
 ghost use Rattle.arriving.specs.Between.Packing.{flat_refusal, refusal_of, flat_mode, mode_of, open_of, FitFigure, FitSlot, FitMoment, FitInner, FitMode};
 ghost use Rattle.arriving.specs.Between.Packing.{spread, Narrow, smalls, larges, Kept, packed, unpacked, padded, flat_at, utf_at, here_at};

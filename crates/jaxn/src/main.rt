@@ -1,5 +1,7 @@
 // The program: a JAXN text from standard input; its canonical text, or its refusal, and a line feed to standard output. What
 // cannot be read or written is told on standard error: no part of an input is passed off as the whole.
+#![tactic(auto)]
+
 ghost use Rattle.std.specs.Prelude.{◌≤◌, ◌≡◌, length};
 ghost use Rattle.writer.specs.Between.Laid.{Put};
 ghost use Rattle.jaxn.specs.Line.{refused_line, Tells};

@@ -2,7 +2,8 @@
 // number and place (docs/FORMAT.md, 10.1).
 ghost use Rattle.std.specs.Prelude.{◌≡◌};
 ghost use Rattle.meaning.specs.Bytes.{flag};
-ghost use Rattle.lanternrung.specs.Told.{sizes_of, text_of, refused_fields, plain_fields, container_fields, number_fields, dated_fields, time_fields, fields_of};
+ghost use Rattle.lanternrung.specs.Told.{sizes_of, text_of, refused_fields, plain_fields, container_fields, number_fields};
+ghost use Rattle.lanternrung.specs.Told.{dated_fields, time_fields, fields_of};
 ghost use Rattle.lanternrung.specs.Told.{Utf8Told, DateTold, MeasureTold, ReadTold, LookTold, JaxnTold, JsonTold};
 ghost use Rattle.lanternrung.specs.Told.{CheckStartTold, CheckFeedTold, CheckFinishTold};
 

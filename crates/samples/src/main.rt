@@ -14,6 +14,8 @@
 //
 // A percent sign and two hex digits spell a byte; in a tape a dot spells a zero byte. What a call must leave as it was is looked
 // at too, and told only where it is not so.
+#![tactic(auto)]
+
 mod calls;
 mod generated;
 mod showing;

@@ -2,7 +2,8 @@
 ghost use Rattle.std.specs.Prelude.{◌≡◌, ◌+◌, ◌≤◌, ◌<◌, ◌^◌, length};
 ghost use Rattle.meaning.specs.declared.Record.{Record};
 ghost use Rattle.meaning.specs.Between.Words.{month_day, four_words, FitDate};
-ghost use Rattle.tape.specs.Between.Shapes.{Written, Holds, Loaded, not_finite, date_of, container_of, time_of, bytes_of, only_record, Common, Shaped, words_at};
+ghost use Rattle.tape.specs.Between.Shapes.{Written, Holds, Loaded, not_finite, date_of, container_of, time_of, bytes_of};
+ghost use Rattle.tape.specs.Between.Shapes.{only_record, Common, Shaped, words_at};
 
 use crate::{Shape, Words, little_endian};
 use meaning::{Date, Number, Record, Time};

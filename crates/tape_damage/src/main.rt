@@ -1,6 +1,8 @@
 // The tape of the sample record (docs/FORMAT.md, 14), with each of its bytes set to each value: `look` and a decoder written from the table alone
 // agree on which records stand, and what `look` takes gives its bytes back. Prints how often they differ, how
 // many of the tapes are well formed, how many of the records stand, and how many were tried.
+#![tactic(auto)]
+
 ghost use Rattle.std.specs.Prelude.{◌≤◌, ◌<◌, ◌^◌};
 
 use meaning::{Date, Number, Record, Time};
