@@ -1,8 +1,7 @@
 /* Lanternrung: JAXN (JSON with comments, NaN, dates and raw bytes) read into a tape and a store, and written back.
  *
- * The archive is made by `harness/archive lanternrung`, on x86-64 and on Arm (aarch64) alike, for the machine at hand:
- * target/native/liblanternrung.a, and liblanternrung.so, which needs no other library. `rt staticlib lanternrung` writes the x86-64 archive
- * on either machine. docs/LINKING.md has whole programs in C and Rust.
+ * The archive is made by `harness/archive lanternrung`, for Linux on x86-64: target/native/liblanternrung.a, and liblanternrung.so, which
+ * needs no other library. docs/LINKING.md has whole programs in C and Rust.
  *
  * Every call ends, on any bytes. It answers done (`refused` 0, `place` 0) or one refusal (enum lr_refusal) with its place; in a refusal all
  * other fields are 0, and every buffer that was lent holds what it held before. No call keeps a pointer or allocates. Lent buffers must not
