@@ -1,4 +1,4 @@
-/* UTF-8 and the calendar by themselves: target/native/librules.a and librules.so, made by `harness/archive rules` for the machine at hand.
+/* UTF-8 and the calendar by themselves: target/native/librules.a and librules.so, made by `harness/archive rules` for Linux on x86-64.
  *
  * Every call ends, touches nothing, and answers done (refused 0, place 0) or one refusal with its place: 2, not UTF-8, or 5, no date.
  */

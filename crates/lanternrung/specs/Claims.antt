@@ -30,7 +30,7 @@ use Rattle.lanternrung.specs.Told.{CheckStartTold, CheckFeedTold, CheckFinishTol
 
 -- ---- reading
 
--- unambiguous: the grammar gives no text two meanings; one-refusal: nor two refusals
+-- unambiguous: the grammar gives no text two meanings; one_refusal: nor two refusals
 pub record OneReading : Type 0 where
   pub meaning : {text : List ℕ} {m n : Meaning} → Text text m → Text text n → m ≡ n
   pub refusal : {text : List ℕ} {v w : Refusal} → TextRefused text v → TextRefused text w → v ≡ w
@@ -93,7 +93,7 @@ pub record RepeatsFirst (text : List ℕ) (p : ℕ) : Type 0 where
   pub repeats : Repeats text p
   pub first : (q : ℕ) → Repeats text q → p ≤ q
 
--- repeated-key: 15 is given exactly there; and a text with a meaning but for its keys has one where none repeats
+-- repeated_key: 15 is given exactly there; and a text with a meaning but for its keys has one where none repeats
 pub record RepeatedKeys : Type 0 where
   pub measure : {text : List ℕ} {a : Answer} {p : ℕ} → Measures text a
       → (a ≡ Answer.Refused (Refusal.RepeatedKey p)) ↔ RepeatsFirst text p
@@ -277,7 +277,7 @@ pub record OneOutcomeC : Type 0 where
   pub check_feed : (state part : List ℕ) → Single (CheckFeedTold state part)
   pub check_finish : (state : List ℕ) → Single (CheckFinishTold state)
 
--- calls-for-c: where `refused` is 0 the library's answer is done, with these counts; where it is not, each lent buffer
+-- calls_for_c: where `refused` is 0 the library's answer is done, with these counts; where it is not, each lent buffer
 -- is as it was
 pub record CallsForC : Type 0 where
   pub measure_done : {text : List ℕ} {r : Sizes} → MeasureTold text r → r.refused ≡ 0

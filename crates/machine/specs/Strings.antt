@@ -87,7 +87,7 @@ blame k at = mk k.quote (first (bad_now k) at) whole k.acc
 abbrev pub wait : Ctx → ℕ → ℕ → Ctx
 wait k at h = mk k.quote (bad_now k) (half at h) k.acc
 
--- one, two: after so many quotes. lines0, linesCR: after three, and after a CR behind them. lines q n acc: in a
+-- one, two: after so many quotes. lines0, lines_cr: after three, and after a CR behind them. lines q n acc: in a
 -- multiline part, after n quotes more. body: between two characters. esc, uni: after a backslash at that place, and its
 -- `u`. hex k at n v: n more digits after the next one, v so far. brace0, brace: in braces, before the first digit and
 -- after one. done: after the closing quote.

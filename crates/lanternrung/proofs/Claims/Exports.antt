@@ -1,4 +1,4 @@
--- one-outcome-c-X, calls-for-c: what holds of the calls for C (include/lanternrung.h), by what they pass on. Assumes nothing.
+-- one_outcome_c_X, calls_for_c: what holds of the calls for C (include/lanternrung.h), by what they pass on. Assumes nothing.
 use mathlib.Core.Path.{◌≡◌, refl, sym, ap, ◌∙◌, subst}
 use mathlib.Core.List.{List}
 use Prim.Native.Nat.{ℕ}

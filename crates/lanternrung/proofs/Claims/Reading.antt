@@ -1,4 +1,4 @@
--- accepted, measured, refusals, repeated-key, one-refusal, bounded, unambiguous: what `measure` and `read` answer, by the grammar. Assumes nothing.
+-- accepted, measured, refusals, repeated_key, one_refusal, bounded, unambiguous: what `measure` and `read` answer, by the grammar. Assumes nothing.
 use mathlib.Core.Path.{◌≡◌, refl, sym, ap, subst}
 use mathlib.Core.Logic.{◌↔◌, ◌⊎◌, inl, inr}
 use mathlib.Core.Bool.{Bool, true, false}
@@ -109,7 +109,7 @@ one_refusal = machine.one_text_refusal
 pub one_reading : OneReading
 one_reading = record { meaning = unambiguous; refusal = one_refusal }
 
--- ---- repeated-key: where 15 is given
+-- ---- repeated_key: where 15 is given
 
 -- but for its keys a text is refused with 1 to 7
 one_to_seven : {text : List ℕ} {why : Refusal} → LooseRefused text why → number_of why ≤ 7
