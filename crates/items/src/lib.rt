@@ -11,7 +11,31 @@ pub mod string_part;
 pub mod time_value;
 pub mod word;
 
+ghost use Rattle.std.specs.Prelude.{◌≡◌};
+ghost use Rattle.meaning.specs.declared.Refusal.TheVariants as Refused;
+
 use meaning::{Number, Refusal, Time};
+
+// A value that has been read, and the place after it.
+#[derive(Clone, Copy)]
+pub struct Taken<T> {
+    pub value: T,
+    pub end: usize,
+}
+
+// The place of a byte that no rule allows there, or the text's length.
+#[derive(Clone, Copy)]
+pub struct NotGrammar {
+    pub place: usize,
+}
+
+impl From<NotGrammar> for Refusal {
+    ghost from_gives = { λ e r. r ≡ Refused.NotGrammar e.place };
+
+    fn from(e: NotGrammar) -> Refusal {
+        Refusal::NotGrammar(e.place)
+    }
+}
 
 // One value that is no array and no object; a string or binary with how many store bytes it has.
 #[derive(Clone, Copy)]
