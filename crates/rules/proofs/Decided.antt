@@ -12,7 +12,7 @@ use borrow.Author.Tests.{eqb-true, eqb-false, leb-true, leb-false, le-leb, lt-lt
 use Rattle.rules.specs.Rfc3629.{Octets, Judged, done}
 use Rattle.rules.specs.Between.Posts.{Passed, CharAt, Tails, Tailed, tailed, broken}
 use Rattle.rules.specs.Between.Decided.{ones, conj, bounds, is_wide, length_at, fault_from, judged}
-use Rattle.rules.specs.declared.Utf8Answer.TheVariants.{Done, IllFormed}
+use Rattle.std.specs.declared.result.Result.TheVariants.{Ok, Err}
 use Rattle.rules.proofs.Places.{step1, down⁻, Wide, no_char, ascii_char, back2, back3, back4}
 use Rattle.rules.proofs.Outcomes.{one_outcome_utf8, utf8_done}
 use Rattle.rules.proofs.Runs.{passed_none, passed_char, char_room, fault_at_lem, all_passed}
@@ -136,7 +136,7 @@ fault_is zero s i p h = all_passed s i p (omega arith)
 fault_is (suc f) s i p h = go (fault_is f s (i + length_at s i)) (leb (length s) i) refl (eqb (length_at s i) 0) refl
   where
     go : (Passed s (i + length_at s i) → length s ≤ i + length_at s i + f → Judged s (fault_from f s (i + length_at s i))) → (x : Bool) → leb (length s) i ≡ x
-        → (y : Bool) → eqb (length_at s i) 0 ≡ y → Judged s (cond x Done (cond y (IllFormed i) (fault_from f s (i + length_at s i))))
+        → (y : Bool) → eqb (length_at s i) 0 ≡ y → Judged s (cond x (Ok tt) (cond y (Err (record { place = i })) (fault_from f s (i + length_at s i))))
     go k true e y g = all_passed s i p (leb-true _ _ e)
     go k false e true g = fault_at_lem s i _ p (leb-false _ _ e) (length_is s i (leb-false _ _ e)) (eqb-true _ _ g)
     go k false e false g =
@@ -148,8 +148,8 @@ pub judged_is : (s : List ℕ) → Judged s (judged s)
 unfolding judged
 judged_is s = fault_is (length s) s 0 (passed_none s) (omega arith)
 
-pub judged_done : {s : List ℕ} → judged s ≡ Done → Octets s
+pub judged_done : {s : List ℕ} → judged s ≡ Ok tt → Octets s
 judged_done {s} e = utf8_done (subst (Judged s) e (judged_is s))
 
-pub done_judged : {s : List ℕ} → Octets s → judged s ≡ Done
+pub done_judged : {s : List ℕ} → Octets s → judged s ≡ Ok tt
 done_judged {s} o = one_outcome_utf8 (judged_is s) (done o refl)

@@ -12,7 +12,8 @@ use Rattle.rules.specs.Rfc3339
 use Rattle.rules.specs.Between.Decided.{is_leap, long_or_short, days_of, is_date}
 use Rattle.rules.specs.Between.Posts.{Lasts, month, no_month}
 use Rattle.rules.specs.Between.Tests.{Decides, holds, fails}
-use Rattle.rules.specs.declared.DateAnswer.TheVariants.{Done, NoDate}
+use Rattle.std.specs.declared.result.Result.TheVariants.{Ok, Err}
+use Rattle.rules.specs.declared.NoDate.{NoDate}
 
 -- ---- leap years, as the code tests them
 
@@ -116,11 +117,11 @@ pub same_days : {y m a b : ℕ} → Days y m a → Days y m b → a ≡ b
 same_days {y} p q = days_are (leap_is y) p ∙ sym (days_are (leap_is y) q)
 
 -- what the days of a month decide of a day
-pub too_late : (y m d n : ℕ) → Lasts y m n → n < d → Dated y m d NoDate
-too_late y m d n (month x) h = Rfc3339.none (λ t. omega (arith, same_days x t.month)) refl
-too_late y m d n (no_month f) h = Rfc3339.none (λ t. f t.days t.month) refl
+pub too_late : (y m d n : ℕ) → Lasts y m n → n < d → {e : NoDate} → Dated y m d (Err e)
+too_late y m d n (month x) h {e} = Rfc3339.none (λ t. omega (arith, same_days x t.month)) refl
+too_late y m d n (no_month f) h {e} = Rfc3339.none (λ t. f t.days t.month) refl
 
-pub a_date : (y m d n : ℕ) → y ≤ 9999 → 1 ≤ d → Lasts y m n → d ≤ n → Dated y m d Done
+pub a_date : (y m d n : ℕ) → y ≤ 9999 → 1 ≤ d → Lasts y m n → d ≤ n → Dated y m d (Ok tt)
 a_date y m d n a b (month x) h = done (record { year = a; days = n; month = x; from = b; to = h }) refl
 a_date y m d n a b (no_month f) h = absurd (omega arith)
 

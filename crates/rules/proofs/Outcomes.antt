@@ -11,9 +11,10 @@ use Rattle.rules.specs.Rfc3339.{Date, Dated}
 use Rattle.rules.specs.Paper as paper
 use Rattle.rules.specs.Paper.{Said, refused, utf8_said, date_said, number_said, place_said}
 use Rattle.rules.specs.Told.{Utf8Told, DateTold}
-use Rattle.rules.specs.declared.Utf8Answer.{Utf8Answer}
-use Rattle.rules.specs.declared.Utf8Answer.TheVariants.{Done, IllFormed}
-use Rattle.rules.specs.declared.DateAnswer.{DateAnswer}
+use Rattle.std.specs.declared.result.Result.{Result}
+use Rattle.std.specs.declared.result.Result.TheVariants.{Ok, Err}
+use Rattle.rules.specs.declared.IllFormed.{IllFormed}
+use Rattle.rules.specs.declared.NoDate.{NoDate}
 use Rattle.rules.proofs.Characters.{Within, cuts, after, begins}
 
 -- UTF-8 goes on past no fault
@@ -45,39 +46,39 @@ done_apart e = let z : ◌≡◌ {A = ℕ} 0 1 = cc in omega arith
 pub same_place_said : {X : Type 0} {n p m q : ℕ} → ◌≡◌ {A = Said X} (refused n p) (refused m q) → p ≡ q
 same_place_said e = ap place_said e
 
-pub same_utf8_answer : (a b : Utf8Answer) → utf8_said a ≡ utf8_said b → a ≡ b
-same_utf8_answer Done Done e = refl
-same_utf8_answer Done (IllFormed k) e = absurd (done_apart e)
-same_utf8_answer (IllFormed j) Done e = absurd (done_apart (sym e))
-same_utf8_answer (IllFormed j) (IllFormed k) e = ap IllFormed (same_place_said e)
+pub same_utf8_answer : (a b : Result (Unit {0}) IllFormed) → utf8_said a ≡ utf8_said b → a ≡ b
+same_utf8_answer (Ok u) (Ok v) e = refl
+same_utf8_answer (Ok u) (Err k) e = absurd (done_apart e)
+same_utf8_answer (Err j) (Ok v) e = absurd (done_apart (sym e))
+same_utf8_answer (Err j) (Err k) e = ap (λ (p : ℕ). Err (record { place = p })) (same_place_said e)
 
-pub same_date_answer : (a b : DateAnswer) → date_said a ≡ date_said b → a ≡ b
-same_date_answer DateAnswer.Done DateAnswer.Done e = refl
-same_date_answer DateAnswer.Done DateAnswer.NoDate e = absurd (done_apart e)
-same_date_answer DateAnswer.NoDate DateAnswer.Done e = absurd (done_apart (sym e))
-same_date_answer DateAnswer.NoDate DateAnswer.NoDate e = refl
+pub same_date_answer : (a b : Result (Unit {0}) NoDate) → date_said a ≡ date_said b → a ≡ b
+same_date_answer (Ok u) (Ok v) e = refl
+same_date_answer (Ok u) (Err k) e = absurd (done_apart e)
+same_date_answer (Err j) (Ok v) e = absurd (done_apart (sym e))
+same_date_answer (Err j) (Err k) e = refl
 
 -- ---- what an answer says of what was given
 
-pub utf8_done : {s : List ℕ} → Judged s Done → Octets s
+pub utf8_done : {s : List ℕ} {u : Unit {0}} → Judged s (Ok u) → Octets s
 utf8_done (done o e) = o
 utf8_done (ill f e) = absurd (done_apart e)
 
-pub utf8_fault : {s : List ℕ} {k : ℕ} → Judged s (IllFormed k) → Fault s k
+pub utf8_fault : {s : List ℕ} {e : IllFormed} → Judged s (Err e) → Fault s e.place
 utf8_fault (done o e) = absurd (done_apart (sym e))
 utf8_fault {s} (ill f e) = subst (Fault s) (sym (same_place_said e)) f
 
-pub date_done_lem : {y m d : ℕ} → Dated y m d DateAnswer.Done → Date y m d
+pub date_done_lem : {y m d : ℕ} {u : Unit {0}} → Dated y m d (Ok u) → Date y m d
 date_done_lem (Rfc3339.done p e) = p
 date_done_lem (Rfc3339.none f e) = absurd (done_apart e)
 
-pub date_none : {y m d : ℕ} → Dated y m d DateAnswer.NoDate → Date y m d → ⊥
+pub date_none : {y m d : ℕ} {e : NoDate} → Dated y m d (Err e) → Date y m d → ⊥
 date_none (Rfc3339.done p e) = absurd (done_apart (sym e))
 date_none (Rfc3339.none f e) = f
 
 -- ---- one outcome
 
-pub one_outcome_utf8 : {s : List ℕ} {a b : Utf8Answer} → Judged s a → Judged s b → a ≡ b
+pub one_outcome_utf8 : {s : List ℕ} {a b : Result (Unit {0}) IllFormed} → Judged s a → Judged s b → a ≡ b
 one_outcome_utf8 {s} {a} {b} p q = same_utf8_answer a b (said p q)
   where
     said : Judged s a → Judged s b → utf8_said a ≡ utf8_said b
@@ -86,7 +87,7 @@ one_outcome_utf8 {s} {a} {b} p q = same_utf8_answer a b (said p q)
     said (ill f e) (done q g) = absurd (no_fault q f)
     said (ill f e) (ill g h) = e ∙ ap (refused 2) (same_fault f g) ∙ sym h
 
-pub one_outcome_date : {y m d : ℕ} {a b : DateAnswer} → Dated y m d a → Dated y m d b → a ≡ b
+pub one_outcome_date : {y m d : ℕ} {a b : Result (Unit {0}) NoDate} → Dated y m d a → Dated y m d b → a ≡ b
 one_outcome_date {y} {m} {d} {a} {b} p q = same_date_answer a b (said p q)
   where
     said : Dated y m d a → Dated y m d b → date_said a ≡ date_said b
@@ -97,11 +98,11 @@ one_outcome_date {y} {m} {d} {a} {b} p q = same_date_answer a b (said p q)
 
 -- ---- the calls for C
 
-pub utf8_told : (s : List ℕ) (a b : Utf8Answer) → Judged s a → a ≡ b → Utf8Told s (number_said (utf8_said b)) (place_said (utf8_said b))
-utf8_told s a b j e = record { answer = b; judged = subst (Judged s) e j; number_is = refl; place_is = refl }
+pub utf8_told : (s : List ℕ) (a : Result (Unit {0}) IllFormed) → Judged s a → Utf8Told s (number_said (utf8_said a)) (place_said (utf8_said a))
+utf8_told s a j = record { answer = a; judged = j; number_is = refl; place_is = refl }
 
-pub date_told : (y m d : ℕ) (a b : DateAnswer) → Dated y m d a → a ≡ b → DateTold y m d (number_said (date_said b)) (place_said (date_said b))
-date_told y m d a b j e = record { answer = b; dated = subst (Dated y m d) e j; number_is = refl; place_is = refl }
+pub date_told : (y m d : ℕ) (a : Result (Unit {0}) NoDate) → Dated y m d a → DateTold y m d (number_said (date_said a)) (place_said (date_said a))
+date_told y m d a j = record { answer = a; dated = j; number_is = refl; place_is = refl }
 
 pub one_outcome_utf8_told : {s : List ℕ} {n p m q : ℕ} → Utf8Told s n p → Utf8Told s m q → (n ≡ m) × (p ≡ q)
 one_outcome_utf8_told t u =

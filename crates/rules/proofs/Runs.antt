@@ -8,7 +8,7 @@ use native.Mathlib.Omega.{arith}
 use lib.ListN.{length, get_or, take, drop, take-append-drop, length-drop}
 use lib.Seq.{take-suc, take-add, take-length, length-take-le}
 use Rattle.rules.specs.Rfc3629.{utf8_1, NoChar, Octets, none, Fault, Judged, done, ill}
-use Rattle.rules.specs.declared.Utf8Answer.TheVariants.{Done, IllFormed}
+use Rattle.std.specs.declared.result.Result.TheVariants.{Ok, Err}
 use Rattle.rules.specs.Between.Posts.{AtMost, Ascii, Passed, CharAt, char, gap}
 use Rattle.rules.proofs.Characters.{join, one}
 
@@ -101,9 +101,9 @@ fault s i p h g =
       bad = g;
     }
 
-pub fault_at_lem : (s : List ℕ) (i n : ℕ) → Passed s i → i < length s → CharAt s i n → n ≡ 0 → Judged s (IllFormed i)
+pub fault_at_lem : (s : List ℕ) (i n : ℕ) → Passed s i → i < length s → CharAt s i n → n ≡ 0 → Judged s (Err (record { place = i }))
 fault_at_lem s i n p h (char q f x) e = absurd (omega arith)
 fault_at_lem s i n p h (gap g) e = ill (fault s i p h g) refl
 
-pub all_passed : (s : List ℕ) (i : ℕ) → Passed s i → length s ≤ i → Judged s Done
+pub all_passed : (s : List ℕ) (i : ℕ) → Passed s i → length s ≤ i → Judged s (Ok tt)
 all_passed s i p h = done (subst Octets (ap (λ (k : ℕ). take k s) (le_antisymm p.within h) ∙ take-length s) p.good) refl

@@ -1,7 +1,7 @@
 -- The calendar as RFC 3339 has it (docs/FORMAT.md, 6): appendix C's leap years and section 5.7's days of a month, row
 -- for row. Assumes nothing.
-use Rattle.std.specs.Prelude.{◌≡◌, ℕ, ◌%◌, ◌≤◌}
-use Rattle.rules.specs.declared.DateAnswer.{DateAnswer}
+use Rattle.std.specs.Prelude.{◌≡◌, ℕ, ◌%◌, ◌≤◌, Result}
+use Rattle.rules.specs.declared.NoDate.{NoDate}
 use Rattle.rules.specs.Paper as paper
 use Rattle.rules.specs.Paper.{date_said, refused}
 
@@ -35,6 +35,6 @@ pub record Date (y m d : ℕ) : Type 0 where
   pub to : d ≤ days
 
 -- what `date` may answer
-pub data Dated (y m d : ℕ) (a : DateAnswer) : Type 0 where
+pub data Dated (y m d : ℕ) (a : Result (Unit {0}) NoDate) : Type 0 where
   done : Date y m d → date_said a ≡ paper.done tt → Dated y m d a
   none : (Date y m d → ⊥) → date_said a ≡ refused 5 0 → Dated y m d a

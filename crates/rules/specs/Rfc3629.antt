@@ -1,7 +1,7 @@
 -- UTF-8 as RFC 3629 has it (docs/FORMAT.md, 1.1): section 4's ABNF, rule for rule, and section 3's table of character
 -- numbers. Assumes nothing.
-use Rattle.std.specs.Prelude.{◌≡◌, ◌⊎◌, cond, List, [], ◌∷◌, ◌++◌, ℕ, ◌+◌, ◌/◌, ◌%◌, ◌≤◌, ◌<◌, leb, length}
-use Rattle.rules.specs.declared.Utf8Answer.{Utf8Answer}
+use Rattle.std.specs.Prelude.{◌≡◌, ◌⊎◌, cond, List, [], ◌∷◌, ◌++◌, ℕ, ◌+◌, ◌/◌, ◌%◌, ◌≤◌, ◌<◌, leb, length, Result}
+use Rattle.rules.specs.declared.IllFormed.{IllFormed}
 use Rattle.rules.specs.Paper as paper
 use Rattle.rules.specs.Paper.{utf8_said, refused}
 
@@ -47,7 +47,7 @@ pub record Fault (s : List ℕ) (k : ℕ) : Type 0 where
   pub bad : NoChar rest
 
 -- what `utf8` may answer
-pub data Judged (s : List ℕ) (a : Utf8Answer) : Type 0 where
+pub data Judged (s : List ℕ) (a : Result (Unit {0}) IllFormed) : Type 0 where
   done : Octets s → utf8_said a ≡ paper.done tt → Judged s a
   ill : {k : ℕ} → Fault s k → utf8_said a ≡ refused 2 k → Judged s a
 

@@ -1,7 +1,7 @@
 // The two calls for C and Rust (include/lanternrung_rules.h), which crate `rules_c` exports under these names.
 ghost use Rattle.rules.specs.Told.{Utf8Told, DateTold};
 
-use crate::{DateAnswer, Utf8Answer};
+use crate::{IllFormed, NoDate};
 
 // A refusal's number (docs/FORMAT.md, 10.1), 0 where there is none, and its place.
 #[repr(C)]
@@ -16,11 +16,11 @@ pub fn lr_rules_utf8(s: &[u8]) -> Status
     ensures { Utf8Told s.now result.refused result.place }
 {
     match crate::utf8(s) {
-        Utf8Answer::Done => Status {
+        Ok(()) => Status {
             refused: 0,
             place: 0,
         },
-        Utf8Answer::IllFormed(at) => Status {
+        Err(IllFormed { place: at }) => Status {
             refused: 2,
             place: at as u64,
         },
@@ -32,11 +32,11 @@ pub fn lr_rules_date(year: u64, month: u64, day: u64) -> Status
     ensures { DateTold year month day result.refused result.place }
 {
     match crate::date(year, month, day) {
-        DateAnswer::Done => Status {
+        Ok(()) => Status {
             refused: 0,
             place: 0,
         },
-        DateAnswer::NoDate => Status {
+        Err(NoDate) => Status {
             refused: 5,
             place: 0,
         },

@@ -9,22 +9,18 @@ mod octets;
 ghost use Rattle.rules.specs.Rfc3339.{Dated};
 ghost use Rattle.rules.specs.Rfc3629.{Judged};
 
-// What `utf8` answers: the bytes are UTF-8, or the place of the first ill-formed sequence (refusal 2).
+// The bytes are not UTF-8: the place of the first ill-formed sequence (refusal 2).
 #[derive(Clone, Copy)]
-pub enum Utf8Answer {
-    Done,
-    IllFormed(usize),
+pub struct IllFormed {
+    pub place: usize,
 }
 
-// What `date` answers: a date in years 0000 to 9999, or none (refusal 5 at 0).
+// The numbers are no date in years 0000 to 9999 (refusal 5 at 0).
 #[derive(Clone, Copy)]
-pub enum DateAnswer {
-    Done,
-    NoDate,
-}
+pub struct NoDate;
 
 // Whether the bytes are UTF-8; any length, empty too. Blocks are passed first; what is left, and the place of a fault, character by character.
-pub fn utf8(s: &[u8]) -> Utf8Answer
+pub fn utf8(s: &[u8]) -> Result<(), IllFormed>
     ensures { Judged s.now result }
 {
     let mut i = blocks::passed(s);
@@ -34,26 +30,26 @@ pub fn utf8(s: &[u8]) -> Utf8Answer
         } else {
             let n = octets::char_at(s, i);
             if n == 0 {
-                return Utf8Answer::IllFormed(i);
+                return Err(IllFormed { place: i });
             }
             i += n;
         }
     }
-    Utf8Answer::Done
+    Ok(())
 }
 
 // Whether the three numbers are a date.
-pub fn date(year: u64, month: u64, day: u64) -> DateAnswer
+pub fn date(year: u64, month: u64, day: u64) -> Result<(), NoDate>
     ensures { Dated year month day result }
 {
     if year > 9999 {
-        return DateAnswer::NoDate;
+        return Err(NoDate);
     }
     if day < 1 {
-        return DateAnswer::NoDate;
+        return Err(NoDate);
     }
     if day > calendar::days(year, month) {
-        return DateAnswer::NoDate;
+        return Err(NoDate);
     }
-    DateAnswer::Done
+    Ok(())
 }

@@ -2,11 +2,10 @@
 -- compute. That they answer what Rfc3629 and Rfc3339 allow is proved (`judged_is` of proofs/Decided.antt; `date_is`,
 -- `is_date_lem` of proofs/Months.antt). Assumes nothing.
 use Rattle.std.specs.Prelude.{Bool, true, false, cond, List, [], ◌∷◌, ℕ, zero, suc, ◌+◌, ◌-◌, ◌/◌, ◌%◌, eqb, leb, ltb}
-use Rattle.std.specs.Prelude.{length, get_or}
+use Rattle.std.specs.Prelude.{length, get_or, Result, Ok, Err}
 use Rattle.std.specs.Int.Count.{count_leading_zeros}
 use Rattle.rules.specs.Between.Posts.{low_of, high_of}
-use Rattle.rules.specs.declared.Utf8Answer.{Utf8Answer}
-use Rattle.rules.specs.declared.Utf8Answer.TheVariants.{Done, IllFormed}
+use Rattle.rules.specs.declared.IllFormed.{IllFormed}
 
 -- the count of leading ones of a byte
 abbrev pub ones : ℕ → ℕ
@@ -33,15 +32,15 @@ unfoldable pub length_at : List ℕ → ℕ → ℕ
 length_at s i = let n = ones (get_or s i 0) in cond (eqb n 0) 1 (cond (is_wide s i n) n 0)
 
 -- from the place i on, in at most so many characters
-unfoldable pub fault_from : ℕ → List ℕ → ℕ → Utf8Answer
-fault_from zero s i = Done
+unfoldable pub fault_from : ℕ → List ℕ → ℕ → Result (Unit {0}) IllFormed
+fault_from zero s i = Ok tt
 fault_from (suc f) s i =
     let n = length_at s i in
     let further = fault_from f s (i + n) in
-    cond (leb (length s) i) Done (cond (eqb n 0) (IllFormed i) further)
+    cond (leb (length s) i) (Ok tt) (cond (eqb n 0) (Err (record { place = i })) further)
 
 -- what `utf8` answers
-unfoldable pub judged : List ℕ → Utf8Answer
+unfoldable pub judged : List ℕ → Result (Unit {0}) IllFormed
 judged s = fault_from (length s) s 0
 
 -- ---- a date
