@@ -1,4 +1,5 @@
 -- The parts of a decimal number: digits, a fraction, an exponent, and where it ends. Assumes nothing.
+use Rattle.std.specs.Prelude.{Ok, Err}
 use Prim.Native.Nat.{ℕ, suc, ◌+◌, ◌-◌, ◌≤◌, ◌<◌, ◌^◌}
 use mathlib.Core.Path.{◌≡◌, refl, sym, ◌∙◌, ap, subst}
 use mathlib.Core.Bool.{Bool, true, false}
@@ -22,13 +23,12 @@ use Rattle.machine.proofs.Runs.{NoDigit}
 use Rattle.machine.proofs.Numeric.Rows.{found, num_digit, num_class, NumIs, dg_digit, dg_none, exp_digit}
 use Rattle.machine.proofs.Numeric.Value.{settle_to}
 use Rattle.items.specs.Between.Places.{byte_at}
-use Rattle.items.specs.Between.NumberOrTime.{Means, Tells, Reads, Closes, IsDigit, Edge, Held, Holds, Span, Digited, Powered, From, Settles, Onto}
+use Rattle.items.specs.Between.NumberOrTime.{Scanned, taken, Means, Tells, Reads, Closes, IsDigit, Edge, Held, Holds, Span, Digited, Powered, From, Settles}
+use Rattle.items.specs.Between.NumberOrTime.{Onto}
 use Rattle.items.specs.declared.number.Acc.{Acc}
 use Rattle.items.specs.declared.number.Run.{Run}
 use Rattle.items.specs.declared.number.Power.{Power}
 use Rattle.items.specs.declared.Item.TheVariants as Item
-use Rattle.items.specs.declared.Scanned.{Scanned}
-use Rattle.items.specs.declared.Scanned.TheVariants.{Item, Refused}
 use Rattle.items.proofs.PlacesLaws.{byte_in, byte_out}
 use Rattle.items.proofs.NumberOrTimeLaws.{edge_none, no_digit_lem, digit?, took, halts, breaks_at, same, closes_by}
 use Rattle.items.proofs.NumberSettleLaws.{capped_up, capped_dn}
@@ -96,7 +96,7 @@ module _ (q : ℕ) (g : Bool) (m f : ℕ) where
       same (exp_digits q g m f z 0) (rw (b, dg_digit (get_or s i 0) d)) (span_exp q g m f z x _ (halts (scaled q g m f z w) (rw (dg_none (edge_none e))) k))
 
 module _ (s : List ℕ) (q : ℕ) (g : Bool) (a : Acc) (f : ℕ) (z : Bool) (k : ℕ) where
-  pub raised_edge : Edge s k → From s a k (λ m. exp_sign q g m f z) (Refused (NotGrammar k))
+  pub raised_edge : Edge s k → From s a k (λ m. exp_sign q g m f z) (Err (NotGrammar k))
   raised_edge e = record { reads = λ m i. breaks_at (rw (dg_none (edge_none e))) }
 
   module _ (w : Power) (r : Scanned) (l : a.c < coefficient_limit) (y : a.z ≤ text_limit) (h : k < length s) (i : IsDigit (get_or s k 0)) (p : Powered s k w)
@@ -143,7 +143,7 @@ module _ (s : List ℕ) (q : ℕ) (g : Bool) (a : Acc) (f i : ℕ) (r : Scanned)
         (rw (← byte_in s i h) at y)) (t.reads m o);
   }
 
-pub e_over : (s : List ℕ) (q : ℕ) (g : Bool) (a : Acc) (f i : ℕ) → length s ≤ i → From s a i (λ m. exp q g m f) (Refused (NotGrammar i))
+pub e_over : (s : List ℕ) (q : ℕ) (g : Bool) (a : Acc) (f i : ℕ) → length s ≤ i → From s a i (λ m. exp q g m f) (Err (NotGrammar i))
 e_over s q g a f i h = record { reads = λ m o. breaks_at (rw (byte_out s i h)) }
 
 -- ---- a fraction, and a whole number before it
@@ -191,7 +191,7 @@ pub holds_none : (a : Acc) → a.c ≡ 0 → a.over ≡ false → Holds 0 a
 holds_none a c e = subst (λ (x : Bool). Held 0 a.c x a.z) (sym e) (rw c (sym (zero-mul (10 ^ a.z)), inl refl))
 
 module _ (s : List ℕ) (q : ℕ) (g : Bool) (i : ℕ) where
-  pub point_edge : Edge s i → Reads s i (point q g) (Refused (NotGrammar i))
+  pub point_edge : Edge s i → Reads s i (point q g) (Err (NotGrammar i))
   point_edge e = breaks_at (rw (dg_none (edge_none e)))
 
   module _ (a : Acc) (c : a.c ≡ 0) (v : a.over ≡ false) (r : Scanned) (h : i < length s) where
@@ -226,12 +226,13 @@ module _ (s : List ℕ) (q : ℕ) (g : Bool) (i : ℕ) where
   nought_done NumIs.minus p e f x y = refl
   nought_done NumIs.other p e f x y = refl
 
-  ends_nought : scan i (nought q g) (byte_at s i) ≡ settle q g 0 0 0 → (r : Scanned) → r ≡ Item (Item.Number (Finite g 0 (pos 0))) i → Reads s i (nought q g) r
+  ends_nought : scan i (nought q g) (byte_at s i) ≡ settle q g 0 0 0 → (r : Scanned) → r ≡ Ok (taken (Item.Number (Finite g 0 (pos 0))) i)
+      → Reads s i (nought q g) r
   ends_nought h r e = rw e (halts _ (h ∙ nought_is) (record { tells = Tells.item Means.number }))
 
-  pub nought_over : length s ≤ i → (r : Scanned) → r ≡ Item (Item.Number (Finite g 0 (pos 0))) i → Reads s i (nought q g) r
+  pub nought_over : length s ≤ i → (r : Scanned) → r ≡ Ok (taken (Item.Number (Finite g 0 (pos 0))) i) → Reads s i (nought q g) r
   nought_over h = ends_nought (rw (byte_out s i h))
 
   pub nought_ends : i < length s → (get_or s i 0 ≡ ch "." → ⊥) → (get_or s i 0 ≡ ch "e" → ⊥) → (get_or s i 0 ≡ ch "E" → ⊥) → (get_or s i 0 ≡ ch "x" → ⊥)
-      → (get_or s i 0 ≡ ch "X" → ⊥) → (r : Scanned) → r ≡ Item (Item.Number (Finite g 0 (pos 0))) i → Reads s i (nought q g) r
+      → (get_or s i 0 ≡ ch "X" → ⊥) → (r : Scanned) → r ≡ Ok (taken (Item.Number (Finite g 0 (pos 0))) i) → Reads s i (nought q g) r
   nought_ends h p e f x y = let b = byte_in s i h in ends_nought (rw b (nought_done (num_class (get_or s i 0)) p e f x y))

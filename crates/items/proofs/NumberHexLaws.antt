@@ -1,4 +1,5 @@
 -- Hexadecimal digits, and hexadecimal numbers. Assumes nothing.
+use Rattle.std.specs.Prelude.{Ok, Err}
 use Prim.Native.Nat.{ℕ, ◌+◌, ◌*◌, ◌-◌, ◌≤◌, ◌<◌}
 use mathlib.Core.Path.{◌≡◌, refl, sym, ap, subst}
 use mathlib.Core.Bool.{Bool, true, false, cond}
@@ -24,12 +25,10 @@ use Rattle.machine.specs.Numeric.{hex, hex_mark, settle}
 use Rattle.machine.proofs.Numeric.Rows.{found, hex_is}
 use Rattle.machine.proofs.Numeric.Value.{settle_to}
 use Rattle.items.specs.Between.Places.{byte_at}
-use Rattle.items.specs.Between.NumberOrTime.{Means, Tells, Reads, Closes, Holds, Settles, HexSpan, Kept, Hexed, Onto}
+use Rattle.items.specs.Between.NumberOrTime.{Scanned, taken, Means, Tells, Reads, Closes, Holds, Settles, HexSpan, Kept, Hexed, Onto}
 use Rattle.items.specs.declared.number.Acc.{Acc}
 use Rattle.items.specs.declared.number.Hex.{Hex}
 use Rattle.items.specs.declared.Item.TheVariants as Item
-use Rattle.items.specs.declared.Scanned.{Scanned}
-use Rattle.items.specs.declared.Scanned.TheVariants.{Item, Refused}
 use Rattle.items.proofs.PlacesLaws.{byte_in, byte_out}
 use Rattle.items.proofs.NumberOrTimeLaws.{took, halts, breaks_at, same, closes_by}
 
@@ -136,17 +135,17 @@ hex_span q g {s} (HexSpan.next {j = j} {w = w} {d = d} x h e) = λ r k.
     hex_span q g x r (took (hex q g (16 * w + d)) h (rw (hex_is e)) (subst (λ (y : ℕ). Reads s y (hex q g (16 * w + d)) r) (sym (add-one j)) k))
 
 module _ (s : List ℕ) (q : ℕ) (g : Bool) (from d : ℕ) (x : HexValue (byte_at s from) d) where
-  pub mark_none : 16 ≤ d → Reads s from (hex_mark q g) (Refused (NotGrammar from))
+  pub mark_none : 16 ≤ d → Reads s from (hex_mark q g) (Err (NotGrammar from))
   mark_none l = breaks_at (rw (is_none x l))
 
   module _ (l : d < 16) (w : Hex) (k : Hexed s from w) where
     hex_on : (r : Scanned) → Closes w.at (S.on_hex q g k.says.0 S.no_hex) r → Reads s from (hex_mark q g) r
     hex_on r c = same (hex q g 0) (rw (hex_is (is_hex x l))) (hex_span q g k.says.1 r (halts (S.on_hex q g k.says.0 S.no_hex) (rw k.edge) c))
 
-    pub hex_large : w.over ≡ true → Reads s from (hex_mark q g) (Refused (BadNumber q))
+    pub hex_large : w.over ≡ true → Reads s from (hex_mark q g) (Err (BadNumber q))
     hex_large o =
         let h : coefficient_limit ≤ k.says.0 = subst (λ (y : Bool). Kept k.says.0 w.v y) o k.says.2 in
-        hex_on (Refused (BadNumber q)) (closes_by _ (breaks (BadNumber q)) (rw (le-ltb k.says.0 coefficient_limit h)) (record { tells = Tells.refused }))
+        hex_on (Err (BadNumber q)) (closes_by _ (breaks (BadNumber q)) (rw (le-ltb k.says.0 coefficient_limit h)) (record { tells = Tells.refused }))
 
     module _ (o : w.over ≡ false) (u : w.v < coefficient_limit) where
       hex_kept : (r : Scanned) → Closes w.at (settle q g w.v 0 0) r → Reads s from (hex_mark q g) r
@@ -154,7 +153,7 @@ module _ (s : List ℕ) (q : ℕ) (g : Bool) (from d : ℕ) (x : HexValue (byte_
           let h : k.says.0 ≡ w.v = subst (λ (y : Bool). Kept k.says.0 w.v y) o k.says.2 in
           hex_on r (closes_by _ (settle q g w.v 0 0) (rw (h, lt-ltb w.v coefficient_limit u)) c)
 
-      pub hex_nought : w.v ≡ 0 → (r : Scanned) → r ≡ Item (Item.Number (Finite g 0 (pos 0))) w.at → Reads s from (hex_mark q g) r
+      pub hex_nought : w.v ≡ 0 → (r : Scanned) → r ≡ Ok (taken (Item.Number (Finite g 0 (pos 0))) w.at) → Reads s from (hex_mark q g) r
       hex_nought z r e = rw e (hex_kept _ (closes_by _ _ (settle_to (G.Finite.nought z) q) (record { tells = Tells.item Means.number })))
 
       pub hex_settled : (a : Acc) → Holds w.v a → (r : Scanned) → Settles q g a 0 0 w.at r → Reads s from (hex_mark q g) r

@@ -1,4 +1,5 @@
 -- From how the scanner goes on to the promise of the whole: the item's meaning and the place after it, or the refusal. Assumes nothing.
+use Rattle.std.specs.Prelude.{Ok, Err}
 use mathlib.Core.Path.{◌≡◌, refl}
 use mathlib.Core.List.{List, [], ◌∷◌}
 use Prim.Native.Nat.{ℕ, suc, ◌+◌, ◌≤◌, ◌<◌}
@@ -9,10 +10,8 @@ use Rattle.meaning.specs.Meaning.{Meaning}
 use Rattle.machine.specs.Scan.{takes, stops, breaks, Ran, ended, broke, unended, goes_on, ran, over as textEnd}
 use Rattle.machine.specs.Numeric as S
 use Rattle.machine.specs.Numeric.{St, Res, begin, scan}
-use Rattle.items.specs.Between.NumberOrTime.{Means, NumericSays, Tells, Reads}
+use Rattle.items.specs.Between.NumberOrTime.{Scanned, taken, Means, NumericSays, Tells, Reads}
 use Rattle.items.specs.declared.Item as ItemOf
-use Rattle.items.specs.declared.Scanned.{Scanned}
-use Rattle.items.specs.declared.Scanned.TheVariants.{Item, Refused}
 
 -- an item ends within the text
 pub ran_within : (t : List ℕ) (p : ℕ) (st : St) (m : Meaning) (q : ℕ) → ran scan p st t ≡ ended m q → (p ≤ q) × (q ≤ p + length t)
@@ -50,20 +49,20 @@ begin_past (b ∷ t) p m q e = go (S.fst_of b) e
     go S.i_f f = later _ f
     go S.other_f f = let z : ◌≡◌ {A = ℕ} 0 1 = cc in absurd (omega arith)
 
-tells_refused : {x : Ran Meaning} {e : Refusal} → Tells x (Refused e) → x ≡ broke e
+tells_refused : {x : Ran Meaning} {e : Refusal} → Tells x (Err e) → x ≡ broke e
 tells_refused Tells.refused = refl
 
-tells_item : {x : Ran Meaning} {i : ItemOf.Item} {at : ℕ} → Tells x (Item i at) → (m : Meaning) × Means i m × (x ≡ ended m at)
+tells_item : {x : Ran Meaning} {i : ItemOf.Item} {at : ℕ} → Tells x (Ok (taken i at)) → (m : Meaning) × Means i m × (x ≡ ended m at)
 tells_item (Tells.item {m = m} k) = (m, k, refl)
 
 pub numeric_says : (s : List ℕ) (p : ℕ) → p < length s → (r : Scanned) → Reads s p begin r → NumericSays s p r
-numeric_says s p h (Item i q) k =
+numeric_says s p h (Ok t) k =
     let e = tells_item k.tells in
     record {
       m = e.0;
       means = e.1;
       runs = e.2;
-      past = begin_past (drop p s) p e.0 q e.2;
-      within = omega (arith, (ran_within (drop p s) p begin e.0 q e.2).1, length-drop p s);
+      past = begin_past (drop p s) p e.0 t.end e.2;
+      within = omega (arith, (ran_within (drop p s) p begin e.0 t.end e.2).1, length-drop p s);
     }
-numeric_says s p h (Refused e) k = tells_refused k.tells
+numeric_says s p h (Err e) k = tells_refused k.tells

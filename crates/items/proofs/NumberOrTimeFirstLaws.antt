@@ -1,4 +1,5 @@
 -- Words, a sign, and what begins a number or a time value. Assumes nothing.
+use Rattle.std.specs.Prelude.{Ok, Err}
 use Prim.Native.Nat.{ℕ, suc, ◌+◌, ◌≤◌, ◌<◌}
 use mathlib.Core.Path.{◌≡◌, refl, subst}
 use mathlib.Core.Bool.{Bool, true, false, cond}
@@ -19,11 +20,9 @@ use Rattle.machine.proofs.Runs.{NoDigit}
 use Rattle.machine.proofs.Numeric.Rows.{FstIs, fst_class, fst_digit, num_digit}
 use Rattle.items.specs.Between.Places.{byte_at}
 use Rattle.items.specs.Between.Spelling.{WordSays}
-use Rattle.items.specs.Between.NumberOrTime.{Means, Tells, Reads, Edge, From}
+use Rattle.items.specs.Between.NumberOrTime.{Scanned, taken, Means, Tells, Reads, Edge, From}
 use Rattle.items.specs.declared.number.Acc.{Acc}
 use Rattle.items.specs.declared.Item.TheVariants as Item
-use Rattle.items.specs.declared.Scanned.{Scanned}
-use Rattle.items.specs.declared.Scanned.TheVariants.{Item, Refused}
 use Rattle.items.specs.declared.word.Word.{Word}
 use Rattle.items.specs.declared.word.Word.TheVariants.{Whole}
 use Rattle.items.proofs.PlacesLaws.{byte_in, byte_out}
@@ -57,12 +56,12 @@ word_ran n (b ∷ t) i (a ∷ l) = go (word_ran n t (suc i) l) (eqb b a)
     go e false = refl
 
 module _ (s : List ℕ) (i : ℕ) (l : List ℕ) (n : Number) (w : Word) (k : WordSays s i l w) (p : ℕ) where
-  pub named_cut : w ≡ Word.NotGrammar p → Reads s i (word l n) (Refused (NotGrammar p))
+  pub named_cut : w ≡ Word.NotGrammar p → Reads s i (word l n) (Err (NotGrammar p))
   named_cut e =
       let h : WordSays s i l (Word.NotGrammar p) = subst (λ (x : Word). WordSays s i l x) e k in
       record { tells = rw (word_ran n (drop i s) i l, h.0) Tells.refused }
 
-  pub named_whole : w ≡ Whole p → Reads s i (word l n) (Item (Item.Number n) p)
+  pub named_whole : w ≡ Whole p → Reads s i (word l n) (Ok (taken (Item.Number n) p))
   named_whole e =
       let h : WordSays s i l (Whole p) = subst (λ (x : Word). WordSays s i l x) e k in
       record { tells = rw (word_ran n (drop i s) i l, h.0) (Tells.item Means.number) }
@@ -70,7 +69,7 @@ module _ (s : List ℕ) (i : ℕ) (l : List ℕ) (n : Number) (w : Word) (k : Wo
 -- ---- after a sign
 
 module _ (s : List ℕ) (q : ℕ) (g : Bool) (i : ℕ) where
-  pub sign_end : length s ≤ i → Reads s i (sign q g) (Refused (NotGrammar i))
+  pub sign_end : length s ≤ i → Reads s i (sign q g) (Err (NotGrammar i))
   sign_end h = breaks_at (rw (byte_out s i h))
 
   sign_none : {b : ℕ} {c : S.Fst} → FstIs b c → NoDigit b → (b ≡ ch "." → ⊥) → (b ≡ ch "N" → ⊥) → (b ≡ ch "I" → ⊥) → S.on_sign i q g b c ≡ breaks (NotGrammar i)
@@ -85,7 +84,7 @@ module _ (s : List ℕ) (q : ℕ) (g : Bool) (i : ℕ) where
 
   module _ (h : i < length s) where
     pub sign_other : Edge s i → (get_or s i 0 ≡ ch "." → ⊥) → (get_or s i 0 ≡ ch "N" → ⊥) → (get_or s i 0 ≡ ch "I" → ⊥)
-        → Reads s i (sign q g) (Refused (NotGrammar i))
+        → Reads s i (sign q g) (Err (NotGrammar i))
     sign_other e p n j = let b = byte_in s i h in breaks_at (sign_none (fst_class (byte_at s i)) (edge_none e) (rw (← b) at p) (rw (← b) at n) (rw (← b) at j))
 
     pub sign_nought : (r : Scanned) → get_or s i 0 ≡ ch "0" → Reads s (i + 1) (nought q g) r → Reads s i (sign q g) r

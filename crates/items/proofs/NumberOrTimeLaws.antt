@@ -1,4 +1,5 @@
 -- The scanner of a number or a time value over a text, from a place on. Assumes nothing.
+use Rattle.std.specs.Prelude.{Err}
 use Prim.Native.Nat.{ℕ, suc, ◌+◌, ◌≤◌, ◌<◌}
 use mathlib.Core.Path.{◌≡◌, refl, subst}
 use mathlib.Core.Bool.{Bool, true, false}
@@ -16,11 +17,9 @@ use Rattle.meaning.specs.declared.Refusal.{Refusal}
 use Rattle.machine.specs.Scan.{takes, stops, breaks, Ran, unended, goes_on, ran, over as textEnd}
 use Rattle.machine.specs.Numeric.{St, Res, scan}
 use Rattle.machine.proofs.Runs.{NoDigit}
-use Rattle.items.specs.declared.Scanned.{Scanned}
-use Rattle.items.specs.declared.Scanned.TheVariants.{Refused}
 use Rattle.items.specs.Between.Places.{byte_at}
 use Rattle.items.proofs.PlacesLaws.{byte_in, byte_out}
-use Rattle.items.specs.Between.NumberOrTime.{Tells, Reads, Closes, IsDigit, Edge}
+use Rattle.items.specs.Between.NumberOrTime.{Scanned, Tells, Reads, Closes, IsDigit, Edge}
 
 -- ---- the byte at a place
 
@@ -88,7 +87,7 @@ halts {s} {i} {st} {r} o e k = record { tells = rw ((goes_at s i st).1, e) (go o
     go (stops v) x = x
     go (breaks v) x = x
 
-pub breaks_at : {s : List ℕ} {i : ℕ} {st : St} {e : Refusal} → scan i st (byte_at s i) ≡ breaks e → Reads s i st (Refused e)
+pub breaks_at : {s : List ℕ} {i : ℕ} {st : St} {e : Refusal} → scan i st (byte_at s i) ≡ breaks e → Reads s i st (Err e)
 breaks_at {e = e} h = halts (breaks e) h (record { tells = Tells.refused })
 
 -- two states that do the same with the byte, or at the end

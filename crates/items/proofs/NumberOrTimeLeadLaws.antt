@@ -1,4 +1,5 @@
 -- Digits with no sign: number and time, and what the byte after them makes of them. Assumes nothing.
+use Rattle.std.specs.Prelude.{Err}
 use Prim.Native.Nat.{ℕ, zero, suc, ◌+◌, ◌*◌, ◌-◌, ◌≤◌, ◌<◌, ◌^◌}
 use mathlib.Core.Path.{◌≡◌, refl, sym, ◌∙◌, ap, subst}
 use mathlib.Core.Bool.{Bool, true, false}
@@ -20,7 +21,7 @@ use Rattle.machine.specs.Numeric.{St, scan, dig, begin, int, both, field, hex_ma
 use Rattle.machine.proofs.Runs.{NoDigit}
 use Rattle.machine.proofs.Numeric.Rows.{NumIs, num_class, num_digit, fst_digit}
 use Rattle.items.specs.Between.Places.{byte_at}
-use Rattle.items.specs.Between.NumberOrTime.{Reads, IsDigit, Edge, Holds, Span, PlainSays, TimelySays, Ready, Onto, len_of, First, FewSays, LeadSays}
+use Rattle.items.specs.Between.NumberOrTime.{Scanned, Reads, IsDigit, Edge, Holds, Span, PlainSays, TimelySays, Ready, Onto, len_of, First, FewSays, LeadSays}
 use Rattle.items.specs.Between.NumberOrTime.{Marks, Plainly}
 use Rattle.items.specs.declared.number.Acc.{Acc}
 use Rattle.items.specs.declared.number.Plain.{Plain}
@@ -29,8 +30,6 @@ use Rattle.items.specs.declared.number_or_time.Lead as LeadOf
 use Rattle.items.specs.declared.number_or_time.Lead.TheVariants as Lead
 use Rattle.items.specs.declared.number_or_time.Mark as MarkOf
 use Rattle.items.specs.declared.number_or_time.Mark.TheVariants as Mark
-use Rattle.items.specs.declared.Scanned.{Scanned}
-use Rattle.items.specs.declared.Scanned.TheVariants.{Refused}
 use Rattle.items.proofs.PlacesLaws.{byte_in, byte_out}
 use Rattle.items.proofs.NumberOrTimeLaws.{edge_none, no_digit_lem, took, breaks_at, same}
 use Rattle.items.proofs.NumberDecimalLaws.{span_low}
@@ -227,7 +226,7 @@ module _ (s : List ℕ) (q : ℕ) (w : Few) (f : FewSays s q w) (o : Follows s q
       ∙ as_nought q (num_class (byte_at s w.at)) (j.digit d1_4) (o.small_x e d) (o.large_x e d)
       ∙ ap (λ (x : ℕ). S.on_int q false x (byte_at s w.at) (num_of (byte_at s w.at))) (sym v)) k))
 
-  nothing : get_or s q 0 ≡ ch "0" → 1 < w.n → Reads s q begin (Refused (NotGrammar w.at))
+  nothing : get_or s q 0 ≡ ch "0" → 1 < w.n → Reads s q begin (Err (NotGrammar w.at))
   nothing d h =
       f.first _ (rw (eq-eqb (get_or s q 0) (ch "0") d)
       (breaks_at (as_number_lem (len_of w.n) true w.at q w.v (num_class (byte_at s w.at)) off

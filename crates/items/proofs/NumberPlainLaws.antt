@@ -13,10 +13,9 @@ use Rattle.meaning.specs.Letters.{ch}
 use Rattle.machine.specs.Numeric.{dig, int, frac, settle}
 use Rattle.machine.proofs.Numeric.Rows.{num_class}
 use Rattle.items.specs.Between.Places.{byte_at}
-use Rattle.items.specs.Between.NumberOrTime.{Reads, Edge, Held, Holds, Span, Ended, PlainSays, Settles}
+use Rattle.items.specs.Between.NumberOrTime.{Scanned, Reads, Edge, Held, Holds, Span, Ended, PlainSays, Settles}
 use Rattle.items.specs.declared.number.Acc.{Acc}
 use Rattle.items.specs.declared.number.Plain.{Plain}
-use Rattle.items.specs.declared.Scanned.{Scanned}
 use Rattle.items.proofs.PlacesLaws.{byte_in, byte_out}
 use Rattle.items.proofs.NumberOrTimeLaws.{edge_none, took, halts, same}
 use Rattle.items.proofs.NumberDigitLaws.{span_next}

@@ -1,4 +1,5 @@
 -- Where a number ends: what the scanner's check makes of a value that an accumulator holds. Assumes nothing.
+use Rattle.std.specs.Prelude.{Ok, Err}
 use Prim.Native.Nat.{ℕ, zero, suc, ◌+◌, ◌*◌, ◌-◌, ◌≤◌, ◌<◌, ◌%◌, ◌^◌}
 use mathlib.Core.Path.{◌≡◌, refl, sym, ◌∙◌, ap, subst}
 use mathlib.Core.Bool.{Bool, true, false}
@@ -19,11 +20,9 @@ use Rattle.grammar.specs.Times.{signed}
 use Rattle.machine.specs.Scan.{breaks}
 use Rattle.machine.specs.Numeric.{Res, settle, strip, ranged, checked, finite}
 use Rattle.machine.proofs.Numeric.Value.{settle_to, only_one, positive, powers}
-use Rattle.items.specs.Between.NumberOrTime.{Means, Tells, Held, Holds, Capped, Settles}
+use Rattle.items.specs.Between.NumberOrTime.{Scanned, taken, Means, Tells, Held, Holds, Capped, Settles}
 use Rattle.items.specs.declared.number.Acc.{Acc}
 use Rattle.items.specs.declared.Item.TheVariants as Item
-use Rattle.items.specs.declared.Scanned.{Scanned}
-use Rattle.items.specs.declared.Scanned.TheVariants.{Item, Refused}
 
 -- ---- negation: -z, which the machine has as 0 - z
 
@@ -98,40 +97,41 @@ module _ (q : ℕ) (g : Bool) (c u dn : ℕ) where
 -- ---- what `settle` answers
 
 module _ (q : ℕ) (g : Bool) (a : Acc) (up dn at : ℕ) where
-  refuses : ((m : ℕ) → Holds m a → settle q g m up dn ≡ breaks (BadNumber q)) → Settles q g a up dn at (Refused (BadNumber q))
+  refuses : ((m : ℕ) → Holds m a → settle q g m up dn ≡ breaks (BadNumber q)) → Settles q g a up dn at (Err (BadNumber q))
   refuses f = record { closes = λ m k. rw (f m k) (record { tells = Tells.refused }) }
 
-  gives : (c : ℕ) (p p' : ℤ) (r : Scanned) → r ≡ Item (Item.Number (Finite g c p')) at → p' ≡ p → ((m : ℕ) → Holds m a → settle q g m up dn ≡ finite g c p)
+  gives : (c : ℕ) (p p' : ℤ) (r : Scanned) → r ≡ Ok (taken (Item.Number (Finite g c p')) at) → p' ≡ p
+      → ((m : ℕ) → Holds m a → settle q g m up dn ≡ finite g c p)
       → Settles q g a up dn at r
   gives c p p' r i e f = record { closes = λ m k. rw (f m k, i, e) (record { tells = Tells.item Means.number }) }
 
-  pub settles_over : a.over ≡ true → Settles q g a up dn at (Refused (BadNumber q))
+  pub settles_over : a.over ≡ true → Settles q g a up dn at (Err (BadNumber q))
   settles_over e = refuses (λ m k. of_over q g m up dn a.c a.z (subst (λ (x : Bool). Held m a.c x a.z) e k))
 
   module _ (e : a.over ≡ false) where
     held : (m : ℕ) → Holds m a → Held m a.c false a.z
     held m k = subst (λ (x : Bool). Held m a.c x a.z) e k
 
-    pub settles_none : a.c ≡ 0 → (r : Scanned) → r ≡ Item (Item.Number (Finite g 0 (pos 0))) at → Settles q g a up dn at r
+    pub settles_none : a.c ≡ 0 → (r : Scanned) → r ≡ Ok (taken (Item.Number (Finite g 0 (pos 0))) at) → Settles q g a up dn at r
     settles_none n r i = gives 0 (pos 0) (pos 0) r i refl (λ m k. of_none q g m up dn a.c a.z n (held m k))
 
     module _ (n : a.c ≡ 0 → ⊥) (l : a.c < coefficient_limit) where
       fits : (o : Res) → ranged q g a.c (a.z + up) dn ≡ o → (m : ℕ) → Holds m a → settle q g m up dn ≡ o
       fits o h m k = of_fits q g m up dn a.c a.z n l (held m k) ∙ h
 
-      pub settles_up : (r : Scanned) (p : ℤ) → r ≡ Item (Item.Number (Finite g a.c p)) at → dn ≤ a.z + up → a.z + up - dn ≤ power_limit → p
+      pub settles_up : (r : Scanned) (p : ℤ) → r ≡ Ok (taken (Item.Number (Finite g a.c p)) at) → dn ≤ a.z + up → a.z + up - dn ≤ power_limit → p
           ≡ pos (a.z + up - dn) → Settles q g a up dn at r
       settles_up r p i h k f = gives a.c (pos (a.z + up - dn)) p r i f (fits _ (in_up q g a.c (a.z + up) dn h k))
 
-      pub settles_high : dn ≤ a.z + up → power_limit < a.z + up - dn → Settles q g a up dn at (Refused (BadNumber q))
+      pub settles_high : dn ≤ a.z + up → power_limit < a.z + up - dn → Settles q g a up dn at (Err (BadNumber q))
       settles_high h k = refuses (fits _ (out_up q g a.c (a.z + up) dn h k))
 
-      pub settles_dn : (r : Scanned) (p : ℤ) → r ≡ Item (Item.Number (Finite g a.c p)) at → a.z + up < dn → dn - (a.z + up) ≤ power_limit → p
+      pub settles_dn : (r : Scanned) (p : ℤ) → r ≡ Ok (taken (Item.Number (Finite g a.c p)) at) → a.z + up < dn → dn - (a.z + up) ≤ power_limit → p
           ≡ neg_ℤ (pos (dn - (a.z + up))) → Settles q g a up dn at r
       settles_dn r p i h k f = gives a.c (negsuc (dn - (a.z + up) - 1)) p r i (f ∙ neg_suc (dn - (a.z + up)) (omega arith))
           (fits _ (in_dn q g a.c (a.z + up) dn h k))
 
-      pub settles_low : a.z + up < dn → power_limit < dn - (a.z + up) → Settles q g a up dn at (Refused (BadNumber q))
+      pub settles_low : a.z + up < dn → power_limit < dn - (a.z + up) → Settles q g a up dn at (Err (BadNumber q))
       settles_low h k = refuses (fits _ (out_dn q g a.c (a.z + up) dn h k))
 
 -- ---- exponents that are too large anyway

@@ -1,4 +1,5 @@
 -- The fields of a time value, and its check. Assumes nothing.
+use Rattle.std.specs.Prelude.{Ok, Err}
 use Prim.Native.Nat.{ℕ, zero, suc, ◌+◌, ◌*◌, ◌-◌, ◌≤◌, ◌<◌, ◌^◌}
 use mathlib.Core.Path.{◌≡◌, refl, sym, ◌∙◌, ap, subst}
 use mathlib.Core.Bool.{Bool, true, false, ◌&&◌}
@@ -35,10 +36,9 @@ use Rattle.machine.proofs.Runs.{NoDigit}
 use Rattle.machine.proofs.Numeric.Rows.{dg_digit, dg_none, sec_digit, sec_class, SecIs, day_class, DayIs}
 use Rattle.items.specs.Between.Places.{byte_at}
 use Rattle.items.specs.Between.Fractions.{Fractioned}
-use Rattle.items.specs.Between.NumberOrTime.{Means, Tells, Reads, Closes, IsDigit, Edge, Onto, TwoSays, ThenSays, when_of, clock_test, Zoned, NanosSays}
+use Rattle.items.specs.Between.NumberOrTime.{Scanned, taken, Means, Tells, Reads, Closes, IsDigit, Edge, Onto, TwoSays, ThenSays, when_of, clock_test, Zoned}
+use Rattle.items.specs.Between.NumberOrTime.{NanosSays}
 use Rattle.items.specs.declared.Item.TheVariants as Item
-use Rattle.items.specs.declared.Scanned.{Scanned}
-use Rattle.items.specs.declared.Scanned.TheVariants.{Item, Refused}
 use Rattle.items.specs.declared.time_value.Field.{Field}
 use Rattle.items.specs.declared.time_value.Field.TheVariants.{Got}
 use Rattle.items.specs.declared.time_value.When.{When}
@@ -51,7 +51,7 @@ use Rattle.items.proofs.NumberOrTimeLaws.{edge_none, no_digit_lem, took, halts, 
 -- ---- fields of two digits
 
 module _ (s : List ℕ) (q : ℕ) (l : Slot) (n v i : ℕ) where
-  no_more : Edge s i → Reads s i (field q l (suc n) v) (Refused (NotGrammar i))
+  no_more : Edge s i → Reads s i (field q l (suc n) v) (Err (NotGrammar i))
   no_more e = breaks_at (rw (dg_none (edge_none e)))
 
   one_digit : i < length s → IsDigit (get_or s i 0) → Onto s i (field q l (suc n) v) (i + 1) (field q l n (dig v (get_or s i 0)))
@@ -138,57 +138,57 @@ second_false true b e = e
 second_false false b e = refl
 
 module _ (q at : ℕ) (ok : Bool) (t : Time) where
-  test_yes : (r : Scanned) → ok ≡ true → r ≡ Item (Item.Time t) at → Closes at (tested q ok t) r
+  test_yes : (r : Scanned) → ok ≡ true → r ≡ Ok (taken (Item.Time t) at) → Closes at (tested q ok t) r
   test_yes r e f = rw (e, f) (record { tells = Tells.item Means.time })
 
-  test_no : ok ≡ false → Closes at (tested q ok t) (Refused (BadTime q))
+  test_no : ok ≡ false → Closes at (tested q ok t) (Err (BadTime q))
   test_no e = rw e (record { tells = Tells.refused })
 
 module _ (q : ℕ) (d : Date) (at : ℕ) (x : Bool) (e : x ≡ ok_date d) where
-  pub date_good : x ≡ true → (r : Scanned) → r ≡ Item (Item.Time (LocalDate d)) at → Closes at (date_done q d) r
+  pub date_good : x ≡ true → (r : Scanned) → r ≡ Ok (taken (Item.Time (LocalDate d)) at) → Closes at (date_done q d) r
   date_good f r k = test_yes q at (ok_date d) (LocalDate d) r (sym e ∙ f) k
 
-  pub date_bad : x ≡ false → Closes at (date_done q d) (Refused (BadTime q))
+  pub date_bad : x ≡ false → Closes at (date_done q d) (Err (BadTime q))
   date_bad f = test_no q at (ok_date d) (LocalDate d) (sym e ∙ f)
 
 module _ (q : ℕ) (c : Clock) (at : ℕ) (y : Bool) (f : y ≡ clock_test c) where
   abbrev clock_of : ℕ
   clock_of = time_of_day c.hour c.minute c.second c.nanos
 
-  pub time_good : y ≡ true → (n : ℕ) → n ≡ clock_of → (r : Scanned) → r ≡ Item (Item.Time (LocalTime n)) at
+  pub time_good : y ≡ true → (n : ℕ) → n ≡ clock_of → (r : Scanned) → r ≡ Ok (taken (Item.Time (LocalTime n)) at)
       → Closes at (clock_done q S.alone c.hour c.minute c.second c.nanos) r
-  time_good g n k r j = test_yes q at (clock_test c) (LocalTime clock_of) r (sym f ∙ g) (j ∙ ap (λ (z : ℕ). Item (Item.Time (LocalTime z)) at) k)
+  time_good g n k r j = test_yes q at (clock_test c) (LocalTime clock_of) r (sym f ∙ g) (j ∙ ap (λ (z : ℕ). Ok (taken (Item.Time (LocalTime z)) at)) k)
 
-  pub time_bad : y ≡ false → Closes at (clock_done q S.alone c.hour c.minute c.second c.nanos) (Refused (BadTime q))
+  pub time_bad : y ≡ false → Closes at (clock_done q S.alone c.hour c.minute c.second c.nanos) (Err (BadTime q))
   time_bad g = test_no q at (clock_test c) (LocalTime clock_of) (sym f ∙ g)
 
   module _ (d : Date) (x : Bool) (e : x ≡ ok_date d) where
-    pub stamp_good : x ≡ true → y ≡ true → (n : ℕ) → n ≡ clock_of → (r : Scanned) → r ≡ Item (Item.Time (LocalDateTime d n)) at
+    pub stamp_good : x ≡ true → y ≡ true → (n : ℕ) → n ≡ clock_of → (r : Scanned) → r ≡ Ok (taken (Item.Time (LocalDateTime d n)) at)
         → Closes at (clock_done q (S.on d) c.hour c.minute c.second c.nanos) r
     stamp_good g h n k r j = test_yes q at (ok_date d && clock_test c) (LocalDateTime d clock_of) r
         (both_true (ok_date d) (clock_test c) (sym e ∙ g) (sym f ∙ h))
-        (j ∙ ap (λ (z : ℕ). Item (Item.Time (LocalDateTime d z)) at) k)
+        (j ∙ ap (λ (z : ℕ). Ok (taken (Item.Time (LocalDateTime d z)) at)) k)
 
-    pub stamp_clock : y ≡ false → Closes at (clock_done q (S.on d) c.hour c.minute c.second c.nanos) (Refused (BadTime q))
+    pub stamp_clock : y ≡ false → Closes at (clock_done q (S.on d) c.hour c.minute c.second c.nanos) (Err (BadTime q))
     stamp_clock h = test_no q at (ok_date d && clock_test c) (LocalDateTime d clock_of) (second_false (ok_date d) (clock_test c) (sym f ∙ h))
 
     module _ (o : ℤ) where
-      pub offset_good : x ≡ true → y ≡ true → (n : ℕ) → n ≡ clock_of → (p : ℤ) → p ≡ o → (r : Scanned) → r ≡ Item (Item.Time (OffsetDateTime d n p)) at
+      pub offset_good : x ≡ true → y ≡ true → (n : ℕ) → n ≡ clock_of → (p : ℤ) → p ≡ o → (r : Scanned) → r ≡ Ok (taken (Item.Time (OffsetDateTime d n p)) at)
           → Closes at (tested q (ok_date d && clock_test c) (OffsetDateTime d clock_of o)) r
       offset_good g h n k p v r j = test_yes q at (ok_date d && clock_test c) (OffsetDateTime d clock_of o) r
-          (both_true (ok_date d) (clock_test c) (sym e ∙ g) (sym f ∙ h)) (j ∙ ap (λ (z : ℤ). Item (Item.Time (OffsetDateTime d n z)) at) v
-          ∙ ap (λ (z : ℕ). Item (Item.Time (OffsetDateTime d z o)) at) k)
+          (both_true (ok_date d) (clock_test c) (sym e ∙ g) (sym f ∙ h)) (j ∙ ap (λ (z : ℤ). Ok (taken (Item.Time (OffsetDateTime d n z)) at)) v
+          ∙ ap (λ (z : ℕ). Ok (taken (Item.Time (OffsetDateTime d z o)) at)) k)
 
-      pub offset_clock : y ≡ false → Closes at (tested q (ok_date d && clock_test c) (OffsetDateTime d clock_of o)) (Refused (BadTime q))
+      pub offset_clock : y ≡ false → Closes at (tested q (ok_date d && clock_test c) (OffsetDateTime d clock_of o)) (Err (BadTime q))
       offset_clock h = test_no q at (ok_date d && clock_test c) (OffsetDateTime d clock_of o) (second_false (ok_date d) (clock_test c) (sym f ∙ h))
 
 module _ (q : ℕ) (c : Clock) (at : ℕ) (d : Date) (x : Bool) (e : x ≡ ok_date d) (g : x ≡ false) where
-  pub stamp_date : Closes at (clock_done q (S.on d) c.hour c.minute c.second c.nanos) (Refused (BadTime q))
+  pub stamp_date : Closes at (clock_done q (S.on d) c.hour c.minute c.second c.nanos) (Err (BadTime q))
   stamp_date = test_no q at (ok_date d && clock_test c) (LocalDateTime d (time_of_day c.hour c.minute c.second c.nanos))
       (first_false (ok_date d) (clock_test c) (sym e ∙ g))
 
   pub offset_date : (o : ℤ) → Closes at (tested q (ok_date d && clock_test c) (OffsetDateTime d (time_of_day c.hour c.minute c.second c.nanos) o))
-      (Refused (BadTime q))
+      (Err (BadTime q))
   offset_date o = test_no q at (ok_date d && clock_test c) (OffsetDateTime d (time_of_day c.hour c.minute c.second c.nanos) o)
       (first_false (ok_date d) (clock_test c) (sym e ∙ g))
 
@@ -198,7 +198,7 @@ module _ (s : List ℕ) (q : ℕ) (d : Date) (c : Clock) (g : Bool) (i : ℕ) (f
   abbrev offset_at : Slot
   offset_at = S.offset_hour d c.hour c.minute c.second c.nanos g
 
-  pub offset_bad : (p : ℕ) → f ≡ Field.NotGrammar p → Reads s i (field q offset_at 2 0) (Refused (NotGrammar p))
+  pub offset_bad : (p : ℕ) → f ≡ Field.NotGrammar p → Reads s i (field q offset_at 2 0) (Err (NotGrammar p))
   offset_bad p e = mark_bad s i (ch ":") f t p e q offset_at (λ v. S.offset_minute d c.hour c.minute c.second c.nanos g v) (λ p q v b. refl)
 
   pub offset_got : (h k : ℕ) → f ≡ Got h k → Onto s i (field q offset_at 2 0) k (field q (S.offset_minute d c.hour c.minute c.second c.nanos g h) 2 0)
@@ -208,7 +208,7 @@ module _ (s : List ℕ) (q : ℕ) (d : Date) (c : Clock) (g : Bool) (h i : ℕ) 
   abbrev minute_at : Slot
   minute_at = S.offset_minute d c.hour c.minute c.second c.nanos g h
 
-  pub offset_bad_minute : (p : ℕ) → b ≡ Field.NotGrammar p → Reads s i (field q minute_at 2 0) (Refused (NotGrammar p))
+  pub offset_bad_minute : (p : ℕ) → b ≡ Field.NotGrammar p → Reads s i (field q minute_at 2 0) (Err (NotGrammar p))
   offset_bad_minute p j = two_bad s i b u p j q minute_at
 
   module _ (m at : ℕ) (j : b ≡ Got m at) where
@@ -221,11 +221,11 @@ module _ (s : List ℕ) (q : ℕ) (d : Date) (c : Clock) (g : Bool) (h i : ℕ) 
     ends : (r : Scanned) → Closes at (tested q offset_test offset_time) r → Reads s i (field q minute_at 2 0) r
     ends r x = (two_got s i b u m at j).2 q minute_at r (halts (tested q offset_test offset_time) refl x)
 
-    pub offset_hour_lem : 23 < h → Reads s i (field q minute_at 2 0) (Refused (BadTime q))
+    pub offset_hour_lem : 23 < h → Reads s i (field q minute_at 2 0) (Err (BadTime q))
     offset_hour_lem l = ends _ (test_no q at offset_test offset_time (second_false (ok_date d && clock_test c) (leb h 23 && leb m 59)
         (first_false (leb h 23) (leb m 59) (lt-leb h 23 l))))
 
-    pub offset_minute_lem : 59 < m → Reads s i (field q minute_at 2 0) (Refused (BadTime q))
+    pub offset_minute_lem : 59 < m → Reads s i (field q minute_at 2 0) (Err (BadTime q))
     offset_minute_lem l = ends _ (test_no q at offset_test offset_time (second_false (ok_date d && clock_test c) (leb h 23 && leb m 59)
         (second_false (leb h 23) (leb m 59) (lt-leb m 59 l))))
 
@@ -401,7 +401,7 @@ module _ (s : List ℕ) (at : ℕ) where
     part_none x = record { within = omega arith; small = omega arith; reads = λ q w h m c r k. second_none s q w h m c at l r x k }
 
     module _ (e : get_or s at 0 ≡ ch ".") where
-      pub part_bare : Edge s (at + 1) → (q : ℕ) (w : S.When) (h m c : ℕ) → Reads s at (field q (S.second w h m) 0 c) (Refused (NotGrammar (at + 1)))
+      pub part_bare : Edge s (at + 1) → (q : ℕ) (w : S.When) (h m c : ℕ) → Reads s at (field q (S.second w h m) 0 c) (Err (NotGrammar (at + 1)))
       part_bare d = λ q w h m c. second_point s q w h m c at l _ e (breaks_at (rw (dg_none (edge_none d))))
 
       pub part_nanos : at + 1 < length s → ch "0" ≤ get_or s (at + 1) 0 → get_or s (at + 1) 0 ≤ ch "9" → (n : Nanos) → NanosSays s (at + 1) n → (x : ℕ) → x
@@ -422,35 +422,35 @@ module _ (s : List ℕ) (at : ℕ) where
 -- ---- after an hour, after a date, after a year
 
 module _ (s : List ℕ) (q : ℕ) (w : S.When) (h i : ℕ) (f : Field) (t : ThenSays s i (ch ":") f) where
-  pub minute_bad : (p : ℕ) → f ≡ Field.NotGrammar p → Reads s i (field q (S.minute w h) 2 0) (Refused (NotGrammar p))
+  pub minute_bad : (p : ℕ) → f ≡ Field.NotGrammar p → Reads s i (field q (S.minute w h) 2 0) (Err (NotGrammar p))
   minute_bad p e = mark_bad s i (ch ":") f t p e q (S.minute w h) (λ v. S.second w h v) (λ p q v b. refl)
 
   module _ (m k : ℕ) (e : f ≡ Got m k) (b : Field) (u : TwoSays s k b) where
     on_second : Onto s i (field q (S.minute w h) 2 0) k (field q (S.second w h m) 2 0)
     on_second = (mark_got s i (ch ":") f t m k e).2 q (S.minute w h) (λ v. S.second w h v) (λ p q v b. refl)
 
-    pub second_bad : (p : ℕ) → b ≡ Field.NotGrammar p → Reads s i (field q (S.minute w h) 2 0) (Refused (NotGrammar p))
+    pub second_bad : (p : ℕ) → b ≡ Field.NotGrammar p → Reads s i (field q (S.minute w h) 2 0) (Err (NotGrammar p))
     second_bad p j = on_second _ (two_bad s k b u p j q (S.second w h m))
 
     pub second_got : (c at : ℕ) → b ≡ Got c at → Onto s i (field q (S.minute w h) 2 0) at (field q (S.second w h m) 0 c)
     second_got c at j = λ r x. on_second r ((two_got s k b u c at j).2 q (S.second w h m) r x)
 
 module _ (s : List ℕ) (q : ℕ) (d : Date) (i : ℕ) (f : Field) (t : ThenSays s i (ch ":") f) where
-  pub hour_bad : (p : ℕ) → f ≡ Field.NotGrammar p → Reads s i (field q (S.hour d) 2 0) (Refused (NotGrammar p))
+  pub hour_bad : (p : ℕ) → f ≡ Field.NotGrammar p → Reads s i (field q (S.hour d) 2 0) (Err (NotGrammar p))
   hour_bad p e = mark_bad s i (ch ":") f t p e q (S.hour d) (λ v. S.minute (S.on d) v) (λ p q v b. refl)
 
   pub hour_got : (h k : ℕ) → f ≡ Got h k → Onto s i (field q (S.hour d) 2 0) k (field q (S.minute (S.on d) h) 2 0)
   hour_got h k e = (mark_got s i (ch ":") f t h k e).2 q (S.hour d) (λ v. S.minute (S.on d) v) (λ p q v b. refl)
 
 module _ (s : List ℕ) (q y i : ℕ) (f : Field) (t : ThenSays s i (ch "-") f) where
-  pub month_bad : (p : ℕ) → f ≡ Field.NotGrammar p → Reads s i (field q (S.month y) 2 0) (Refused (NotGrammar p))
+  pub month_bad : (p : ℕ) → f ≡ Field.NotGrammar p → Reads s i (field q (S.month y) 2 0) (Err (NotGrammar p))
   month_bad p e = mark_bad s i (ch "-") f t p e q (S.month y) (λ v. S.day y v) (λ p q v b. refl)
 
   module _ (m k : ℕ) (e : f ≡ Got m k) (b : Field) (u : TwoSays s k b) where
     on_day_lem : Onto s i (field q (S.month y) 2 0) k (field q (S.day y m) 2 0)
     on_day_lem = (mark_got s i (ch "-") f t m k e).2 q (S.month y) (λ v. S.day y v) (λ p q v b. refl)
 
-    pub day_bad : (p : ℕ) → b ≡ Field.NotGrammar p → Reads s i (field q (S.month y) 2 0) (Refused (NotGrammar p))
+    pub day_bad : (p : ℕ) → b ≡ Field.NotGrammar p → Reads s i (field q (S.month y) 2 0) (Err (NotGrammar p))
     day_bad p j = on_day_lem _ (two_bad s k b u p j q (S.day y m))
 
     pub day_got : (d at : ℕ) → b ≡ Got d at → Onto s i (field q (S.month y) 2 0) at (field q (S.day y m) 0 d)

@@ -49,8 +49,4 @@ pub enum Item {
 }
 
 // An item and the place after it, or a refusal.
-#[derive(Clone, Copy)]
-pub enum Scanned {
-    Item(Item, usize),
-    Refused(Refusal),
-}
+pub type Scanned = Result<Taken<Item>, Refusal>;

@@ -1,16 +1,15 @@
 // Decimal and hexadecimal numbers. The digits are streamed: a coefficient that does not end in 0, and a count of zeros after it.
-ghost use Rattle.std.specs.Prelude.{◌≡◌, ℕ, ◌+◌, ◌*◌, ◌^◌, ◌≤◌, ◌<◌, length};
+ghost use Rattle.std.specs.Prelude.{◌≡◌, ℕ, ◌+◌, ◌*◌, ◌^◌, ◌≤◌, ◌<◌, Ok, length};
 ghost use Rattle.meaning.specs.Limits.{text_limit, power_limit};
 ghost use Rattle.meaning.specs.declared.Number.TheVariants as Number;
 ghost use Rattle.grammar.specs.Times.{signed};
 ghost use Rattle.machine.specs.Numeric as Numeric;
 ghost use Rattle.machine.specs.Numeric.{dig};
 ghost use Rattle.items.specs.declared.Item.TheVariants as Item;
-ghost use Rattle.items.specs.declared.Scanned.TheVariants as Scanned;
 ghost use Rattle.items.specs.Between.NumberOrTime.{Reads, IsDigit, Place, Edge, Holds, Shifted, Digited, Capped};
-ghost use Rattle.items.specs.Between.NumberOrTime.{pushed, raised_by, Powered, Ready, From, Settles, PlainSays, EndsSays, Hexed};
+ghost use Rattle.items.specs.Between.NumberOrTime.{pushed, raised_by, Powered, Ready, From, Settles, PlainSays, EndsSays, Hexed, taken};
 
-use crate::{Item, Scanned, hex_digit};
+use crate::{Item, Scanned, Taken, hex_digit};
 use meaning::{COEFFICIENT_MOST, Number, POWER_LIMIT, Refusal};
 
 // Ten times a number above this is no coefficient.
@@ -201,16 +200,17 @@ fn with_sign(minus: bool, m: usize) -> i32
 
 // The finite number c * 10 ^ power, with its sign, before the place `at`.
 fn finite(g: bool, c: u64, power: i32, at: usize) -> Scanned
-    ensures { result ≡ Scanned.Item (Item.Number (Number.Finite g c power)) at }
+    ensures { result ≡ Ok (taken (Item.Number (Number.Finite g c power)) at) }
 {
-    Scanned::Item(
-        Item::Number(Number::Finite {
-            minus: g,
-            coefficient: c,
-            power,
-        }),
-        at,
-    )
+    let n = Number::Finite {
+        minus: g,
+        coefficient: c,
+        power,
+    };
+    Ok(Taken {
+        value: Item::Number(n),
+        end: at,
+    })
 }
 
 // The number whose first byte is at q, with its last digit before `at`: the digits times 10^up / 10^dn.
@@ -219,7 +219,7 @@ fn settle(q: usize, g: bool, a: Acc, up: usize, dn: usize, at: usize) -> Scanned
     ensures { Settles q g a up dn at result }
 {
     if a.over {
-        return Scanned::Refused(Refusal::BadNumber(q));
+        return Err(Refusal::BadNumber(q));
     }
     if a.c == 0 {
         return finite(g, 0, 0, at);
@@ -228,13 +228,13 @@ fn settle(q: usize, g: bool, a: Acc, up: usize, dn: usize, at: usize) -> Scanned
     if dn <= u {
         let n = u - dn;
         if n > POWER_LIMIT {
-            return Scanned::Refused(Refusal::BadNumber(q));
+            return Err(Refusal::BadNumber(q));
         }
         return finite(g, a.c, with_sign(false, n), at);
     }
     let n = dn - u;
     if n > POWER_LIMIT {
-        return Scanned::Refused(Refusal::BadNumber(q));
+        return Err(Refusal::BadNumber(q));
     }
     finite(g, a.c, with_sign(true, n), at)
 }
@@ -245,14 +245,14 @@ fn raised(s: &[u8], q: usize, g: bool, a: Acc, f: usize, minus: bool, k: usize) 
     ensures { From s.now a k (λ m. Numeric.exp_sign q g m f minus) result }
 {
     if k >= s.len() {
-        return Scanned::Refused(Refusal::NotGrammar(k));
+        return Err(Refusal::NotGrammar(k));
     }
     let b = s[k];
     if b < b'0' {
-        return Scanned::Refused(Refusal::NotGrammar(k));
+        return Err(Refusal::NotGrammar(k));
     }
     if b > b'9' {
-        return Scanned::Refused(Refusal::NotGrammar(k));
+        return Err(Refusal::NotGrammar(k));
     }
     let w = exp_digits(s, k);
     let e = w.e;
@@ -279,7 +279,7 @@ fn exponent(s: &[u8], q: usize, g: bool, a: Acc, f: usize, at: usize) -> Scanned
     }
     let k = at + 1;
     if k >= s.len() {
-        return Scanned::Refused(Refusal::NotGrammar(k));
+        return Err(Refusal::NotGrammar(k));
     }
     let x = s[k];
     if x == b'+' {
@@ -333,14 +333,14 @@ pub fn point(s: &[u8], q: usize, g: bool, i: usize) -> Scanned
     ensures { Reads s.now i (Numeric.point q g) result }
 {
     if i >= s.len() {
-        return Scanned::Refused(Refusal::NotGrammar(i));
+        return Err(Refusal::NotGrammar(i));
     }
     let b = s[i];
     if b < b'0' {
-        return Scanned::Refused(Refusal::NotGrammar(i));
+        return Err(Refusal::NotGrammar(i));
     }
     if b > b'9' {
-        return Scanned::Refused(Refusal::NotGrammar(i));
+        return Err(Refusal::NotGrammar(i));
     }
     fraction(s, q, g, NONE, i)
 }
@@ -471,13 +471,13 @@ pub fn hexadecimal(s: &[u8], q: usize, g: bool, from: usize) -> Scanned
     ensures { Reads s.now from (Numeric.hex_mark q g) result }
 {
     if 16 <= hex_digit::digit(s, from) {
-        return Scanned::Refused(Refusal::NotGrammar(from));
+        return Err(Refusal::NotGrammar(from));
     }
     let w = hex_digits(s, from);
     let v = w.v;
     let at = w.at;
     if w.over {
-        return Scanned::Refused(Refusal::BadNumber(q));
+        return Err(Refusal::BadNumber(q));
     }
     if v == 0 {
         return finite(g, 0, 0, at);

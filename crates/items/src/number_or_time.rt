@@ -7,7 +7,7 @@ ghost use Rattle.items.specs.Between.NumberOrTime.{NumericSays, Reads, Place, Ed
 use crate::number::{Acc, NONE};
 use crate::time_value::When;
 use crate::word::Word;
-use crate::{Item, Scanned, number, time_value, word};
+use crate::{Item, Scanned, Taken, number, time_value, word};
 use meaning::{Number, Refusal, Time};
 
 // Up to four digits with no sign: how many, their value twice, and the place after them.
@@ -149,7 +149,7 @@ fn any_unsigned(s: &[u8], q: usize) -> Scanned
         Lead::Hex(at) => number::hexadecimal(s, q, false, at),
         Lead::Hour { hour: v, at } => time_value::after_hour(s, q, When::Alone, v, at),
         Lead::Year { year: v, at } => time_value::after_year(s, q, v, at),
-        Lead::NotGrammar(p) => Scanned::Refused(Refusal::NotGrammar(p)),
+        Lead::NotGrammar(p) => Err(Refusal::NotGrammar(p)),
     }
 }
 
@@ -193,8 +193,11 @@ fn named(s: &[u8], from: usize, spelt: &[u8], n: Number) -> Scanned
     ensures { Reads s.now from (Numeric.word spelt.now n) result }
 {
     match word::spell(s, from, spelt) {
-        Word::NotGrammar(p) => Scanned::Refused(Refusal::NotGrammar(p)),
-        Word::Whole(at) => Scanned::Item(Item::Number(n), at),
+        Word::NotGrammar(p) => Err(Refusal::NotGrammar(p)),
+        Word::Whole(at) => Ok(Taken {
+            value: Item::Number(n),
+            end: at,
+        }),
     }
 }
 
@@ -213,7 +216,7 @@ fn undigited(s: &[u8], q: usize, g: bool, i: usize) -> Scanned
     if b == b'I' {
         return named(s, i + 1, b"nfinity", Number::Infinite { minus: g });
     }
-    Scanned::Refused(Refusal::NotGrammar(i))
+    Err(Refusal::NotGrammar(i))
 }
 
 // After a sign.
@@ -222,7 +225,7 @@ fn signed(s: &[u8], q: usize, g: bool, i: usize) -> Scanned
     ensures { Reads s.now i (Numeric.sign q g) result }
 {
     if i >= s.len() {
-        return Scanned::Refused(Refusal::NotGrammar(i));
+        return Err(Refusal::NotGrammar(i));
     }
     let b = s[i];
     if b == b'0' {

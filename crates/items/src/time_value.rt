@@ -1,5 +1,5 @@
 // Time values. The check of one is made at its end, and gives 5 at its first byte, q.
-ghost use Rattle.std.specs.Prelude.{◌≡◌, ◌&&◌, ◌⊎◌, ◌+◌, ◌*◌, ◌^◌, ◌<◌};
+ghost use Rattle.std.specs.Prelude.{◌≡◌, ◌&&◌, ◌⊎◌, ◌+◌, ◌*◌, ◌^◌, ◌<◌, Ok};
 ghost use Rattle.rules.specs.Between.Tests.{Decides};
 ghost use Rattle.meaning.specs.Clock.{time_of_day};
 ghost use Rattle.meaning.specs.declared.Time.TheVariants as Time;
@@ -7,11 +7,10 @@ ghost use Rattle.grammar.specs.Times.{signed};
 ghost use Rattle.machine.specs.Numeric as Numeric;
 ghost use Rattle.machine.specs.Numeric.{field};
 ghost use Rattle.items.specs.declared.Item.TheVariants as Item;
-ghost use Rattle.items.specs.declared.Scanned.TheVariants as Scanned;
 ghost use Rattle.items.specs.Between.Fractions.{FractionSays};
-ghost use Rattle.items.specs.Between.NumberOrTime.{Reads, Closes, Place, TwoSays, ThenSays, when_of, Parted, clock_test, Zoned, NanosSays};
+ghost use Rattle.items.specs.Between.NumberOrTime.{Reads, Closes, Place, TwoSays, ThenSays, when_of, Parted, clock_test, Zoned, NanosSays, taken};
 
-use crate::{Item, Scanned};
+use crate::{Item, Scanned, Taken};
 use meaning::{Date, FRACTION_DIGITS, Refusal, SECOND, Time};
 use rules::DateAnswer;
 
@@ -143,9 +142,12 @@ fn time_of_day(c: Clock) -> u64
 
 // A time value before the place `at`.
 fn time(t: Time, at: usize) -> Scanned
-    ensures { result ≡ Scanned.Item (Item.Time t) at }
+    ensures { result ≡ Ok (taken (Item.Time t) at) }
 {
-    Scanned::Item(Item::Time(t), at)
+    Ok(Taken {
+        value: Item::Time(t),
+        end: at,
+    })
 }
 
 // A date that ends before the place `at`.
@@ -155,7 +157,7 @@ fn date_done(q: usize, d: Date, at: usize) -> Scanned
     if is_date(d) {
         return time(Time::LocalDate(d), at);
     }
-    Scanned::Refused(Refusal::BadTime(q))
+    Err(Refusal::BadTime(q))
 }
 
 // A time of day that ends before the place `at`.
@@ -166,7 +168,7 @@ fn local_time(q: usize, c: Clock, at: usize) -> Scanned
     if is_clock(c) {
         return time(Time::LocalTime(time_of_day(c)), at);
     }
-    Scanned::Refused(Refusal::BadTime(q))
+    Err(Refusal::BadTime(q))
 }
 
 // A date and a time of day that end before the place `at`.
@@ -184,9 +186,9 @@ fn local_date_time(q: usize, d: Date, c: Clock, at: usize) -> Scanned
                 at,
             );
         }
-        return Scanned::Refused(Refusal::BadTime(q));
+        return Err(Refusal::BadTime(q));
     }
-    Scanned::Refused(Refusal::BadTime(q))
+    Err(Refusal::BadTime(q))
 }
 
 // The same with an offset.
@@ -206,9 +208,9 @@ fn offset_date_time(q: usize, d: Date, c: Clock, offset: i16, at: usize) -> Scan
                 at,
             );
         }
-        return Scanned::Refused(Refusal::BadTime(q));
+        return Err(Refusal::BadTime(q));
     }
-    Scanned::Refused(Refusal::BadTime(q))
+    Err(Refusal::BadTime(q))
 }
 
 // Hours and minutes with their sign.
@@ -226,13 +228,13 @@ fn offset_minute(s: &[u8], q: usize, d: Date, c: Clock, minus: bool, hour: u8, i
     ensures { Reads s.now i (field q (Numeric.offset_minute d c.hour c.minute c.second c.nanos minus hour) 2 0) result }
 {
     match two(s, i) {
-        Field::NotGrammar(p) => Scanned::Refused(Refusal::NotGrammar(p)),
+        Field::NotGrammar(p) => Err(Refusal::NotGrammar(p)),
         Field::Got { value: minute, at } => {
             if hour > 23 {
-                return Scanned::Refused(Refusal::BadTime(q));
+                return Err(Refusal::BadTime(q));
             }
             if minute > 59 {
-                return Scanned::Refused(Refusal::BadTime(q));
+                return Err(Refusal::BadTime(q));
             }
             offset_date_time(q, d, c, minutes(minus, hour, minute), at)
         }
@@ -245,7 +247,7 @@ fn offset(s: &[u8], q: usize, d: Date, c: Clock, minus: bool, i: usize) -> Scann
     ensures { Reads s.now i (field q (Numeric.offset_hour d c.hour c.minute c.second c.nanos minus) 2 0) result }
 {
     match two_then(s, i, b':') {
-        Field::NotGrammar(p) => Scanned::Refused(Refusal::NotGrammar(p)),
+        Field::NotGrammar(p) => Err(Refusal::NotGrammar(p)),
         Field::Got { value: hour, at: k } => offset_minute(s, q, d, c, minus, hour, k),
     }
 }
@@ -368,7 +370,7 @@ fn after_second(s: &[u8], q: usize, w: When, hour: u8, minute: u8, second: u8, a
     ensures { Reads s.now at (field q (Numeric.second (when_of w) hour minute) 0 second) result }
 {
     match second_part(s, at) {
-        Fraction::NotGrammar(p) => Scanned::Refused(Refusal::NotGrammar(p)),
+        Fraction::NotGrammar(p) => Err(Refusal::NotGrammar(p)),
         Fraction::Got { nanos, at: next } => {
             let c = Clock {
                 hour,
@@ -387,12 +389,12 @@ pub fn after_hour(s: &[u8], q: usize, w: When, hour: u8, i: usize) -> Scanned
     ensures { Reads s.now i (field q (Numeric.minute (when_of w) hour) 2 0) result }
 {
     match two_then(s, i, b':') {
-        Field::NotGrammar(p) => Scanned::Refused(Refusal::NotGrammar(p)),
+        Field::NotGrammar(p) => Err(Refusal::NotGrammar(p)),
         Field::Got {
             value: minute,
             at: k,
         } => match two(s, k) {
-            Field::NotGrammar(p) => Scanned::Refused(Refusal::NotGrammar(p)),
+            Field::NotGrammar(p) => Err(Refusal::NotGrammar(p)),
             Field::Got { value: second, at } => after_second(s, q, w, hour, minute, second, at),
         },
     }
@@ -404,7 +406,7 @@ fn clock_at(s: &[u8], q: usize, d: Date, i: usize) -> Scanned
     ensures { Reads s.now i (field q (Numeric.hour d) 2 0) result }
 {
     match two_then(s, i, b':') {
-        Field::NotGrammar(p) => Scanned::Refused(Refusal::NotGrammar(p)),
+        Field::NotGrammar(p) => Err(Refusal::NotGrammar(p)),
         Field::Got { value: hour, at: k } => after_hour(s, q, When::On(d), hour, k),
     }
 }
@@ -451,12 +453,12 @@ pub fn after_year(s: &[u8], q: usize, year: u16, i: usize) -> Scanned
     ensures { Reads s.now i (field q (Numeric.month year) 2 0) result }
 {
     match two_then(s, i, b'-') {
-        Field::NotGrammar(p) => Scanned::Refused(Refusal::NotGrammar(p)),
+        Field::NotGrammar(p) => Err(Refusal::NotGrammar(p)),
         Field::Got {
             value: month,
             at: k,
         } => match two(s, k) {
-            Field::NotGrammar(p) => Scanned::Refused(Refusal::NotGrammar(p)),
+            Field::NotGrammar(p) => Err(Refusal::NotGrammar(p)),
             Field::Got { value: day, at } => dated(s, q, Date { year, month, day }, at),
         },
     }

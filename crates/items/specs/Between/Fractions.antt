@@ -1,13 +1,11 @@
 -- What the reader of a second's fraction (docs/FORMAT.md, 6) promises. Assumes nothing.
-use Rattle.std.specs.Prelude.{ℕ, ◌≤◌, ◌<◌, List, length}
+use Rattle.std.specs.Prelude.{ℕ, ◌≤◌, ◌<◌, List, length, Err}
 use Rattle.meaning.specs.declared.Refusal.TheVariants.{NotGrammar}
 use Rattle.meaning.specs.Limits as Limits
 use Rattle.machine.specs.Numeric as S
 use Rattle.machine.specs.Numeric.{field}
-use Rattle.items.specs.declared.Scanned.{Scanned}
-use Rattle.items.specs.declared.Scanned.TheVariants.{Refused}
 use Rattle.items.specs.declared.time_value.Fraction.{Fraction}
-use Rattle.items.specs.Between.NumberOrTime.{Reads, Zoned}
+use Rattle.items.specs.Between.NumberOrTime.{Reads, Scanned, Zoned}
 
 -- from a second's digits at `at` the clock has n nanoseconds, and the scanner goes on from the place `next`
 pub record Fractioned (s : List ℕ) (at n next : ℕ) : Type 0 where
@@ -20,4 +18,4 @@ pub record Fractioned (s : List ℕ) (at n next : ℕ) : Type 0 where
 abbrev pub FractionSays : List ℕ → ℕ → Fraction → Type 0
 FractionSays s at (Fraction.Got n next) = Fractioned s at n next
 FractionSays s at (Fraction.NotGrammar p) =
-    (q : ℕ) (w : S.When) (h m c : ℕ) → Reads s at (field q (S.second w h m) 0 c) (Refused (NotGrammar p))
+    (q : ℕ) (w : S.When) (h m c : ℕ) → Reads s at (field q (S.second w h m) 0 c) (Err (NotGrammar p))

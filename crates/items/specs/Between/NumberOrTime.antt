@@ -1,7 +1,7 @@
 -- What the readers of a number or a time value (docs/FORMAT.md, 5 and 6) promise: how the machine's scanner goes on
 -- from the place and the state that each stands for. Assumes nothing.
 use Rattle.std.specs.Prelude.{ℕ, zero, suc, ◌+◌, ◌*◌, ◌-◌, ◌≤◌, ◌<◌, ◌%◌, ◌^◌, ◌≡◌, Bool, true, false, cond, ◌⊎◌, List}
-use Rattle.std.specs.Prelude.{eqb, ltb, length, get_or, drop}
+use Rattle.std.specs.Prelude.{eqb, ltb, length, get_or, drop, Result, Ok, Err}
 use Rattle.rules.specs.Rfc3629.{In}
 use Rattle.meaning.specs.declared.Number.{Number}
 use Rattle.meaning.specs.declared.Time.{Time}
@@ -24,8 +24,7 @@ use Rattle.items.specs.declared.number.Power.{Power}
 use Rattle.items.specs.declared.number.Hex.{Hex}
 use Rattle.items.specs.declared.Item as ItemOf
 use Rattle.items.specs.declared.Item.TheVariants as Item
-use Rattle.items.specs.declared.Scanned.{Scanned}
-use Rattle.items.specs.declared.Scanned.TheVariants.{Item, Refused}
+use Rattle.items.specs.declared.Taken.{Taken}
 use Rattle.items.specs.declared.number_or_time.Few.{Few}
 use Rattle.items.specs.declared.number_or_time.Lead as LeadOf
 use Rattle.items.specs.declared.number_or_time.Lead.TheVariants as Lead
@@ -40,6 +39,14 @@ use Rattle.items.specs.declared.time_value.Nanos.{Nanos}
 use Rattle.items.specs.Between.Places.{byte_at}
 
 -- ---- the promise of the whole
+
+-- a value and the place after it
+abbrev pub taken : {A : Type 0} → A → ℕ → Taken A
+taken v at = record { value = v; end = at }
+
+-- an item and the place after it, or a refusal
+abbrev pub Scanned : Type 0
+Scanned = Result (Taken ItemOf.Item) Refusal
 
 -- what an item that puts no store bytes means
 pub data Means : ItemOf.Item → Meaning → Type 0 where
@@ -57,15 +64,15 @@ pub record Took (text : List ℕ) (p : ℕ) (i : ItemOf.Item) (q : ℕ) : Type 0
   pub within : q ≤ length text
 
 abbrev pub NumericSays : List ℕ → ℕ → Scanned → Type 0
-NumericSays text p (Item i q) = Took text p i q
-NumericSays text p (Refused why) = ran scan p S.begin (drop p text) ≡ broke why
+NumericSays text p (Ok t) = Took text p t.value t.end
+NumericSays text p (Err why) = ran scan p S.begin (drop p text) ≡ broke why
 
 -- ---- from a state on
 
 -- an answer says what a run comes to
 pub data Tells : Ran Meaning → Scanned → Type 0 where
-  item : {x : ItemOf.Item} {m : Meaning} {at : ℕ} → Means x m → Tells (ended m at) (Item x at)
-  refused : {r : Refusal} → Tells (broke r) (Refused r)
+  item : {x : ItemOf.Item} {m : Meaning} {at : ℕ} → Means x m → Tells (ended m at) (Ok (taken x at))
+  refused : {r : Refusal} → Tells (broke r) (Err r)
 
 -- from the state st, at the place i of the text s, the scanner comes to what the answer says
 pub record Reads (s : List ℕ) (i : ℕ) (st : St) (r : Scanned) : Type 0 where
@@ -244,7 +251,7 @@ LeadSays s q (Lead.Number a at) = Ready s a 0 at × ((m : ℕ) × Holds m a × O
 LeadSays s q (Lead.Hex at) = (at ≤ length s) × Onto s q S.begin at (S.hex_mark q false)
 LeadSays s q (Lead.Hour v at) = (at ≤ length s) × (v < 100) × Onto s q S.begin at (field q (S.minute S.alone v) 2 0)
 LeadSays s q (Lead.Year v at) = (at ≤ length s) × (v < 10000) × Onto s q S.begin at (field q (S.month v) 2 0)
-LeadSays s q (Lead.NotGrammar at) = Reads s q S.begin (Refused (NotGrammar at))
+LeadSays s q (Lead.NotGrammar at) = Reads s q S.begin (Err (NotGrammar at))
 
 -- what the byte b after n digits, the first of which is d, makes of them
 pub data Marks (n d b : ℕ) : MarkOf.Mark → Type 0 where
@@ -264,7 +271,7 @@ pub data Plainly (d n : ℕ) (x : Acc) (at : ℕ) : LeadOf.Lead → Type 0 where
 -- two digits, whatever the field
 abbrev pub TwoSays : List ℕ → ℕ → Field → Type 0
 TwoSays s i (Got v j) = (j ≤ length s) × (v < 100) × ((q : ℕ) (l : Slot) → Onto s i (field q l 2 0) j (field q l 0 v))
-TwoSays s i (Field.NotGrammar p) = (q : ℕ) (l : Slot) → Reads s i (field q l 2 0) (Refused (NotGrammar p))
+TwoSays s i (Field.NotGrammar p) = (q : ℕ) (l : Slot) → Reads s i (field q l 2 0) (Err (NotGrammar p))
 
 -- after the field l the byte `mark` must come, and then the field that `to` says
 abbrev pub Leads : Slot → ℕ → (ℕ → Slot) → Type 0
@@ -274,7 +281,7 @@ abbrev pub ThenSays : List ℕ → ℕ → ℕ → Field → Type 0
 ThenSays s i mark (Got v j) = (j ≤ length s) × (v < 100) × ((q : ℕ) (l : Slot) (to : ℕ → Slot) → Leads l mark to
     → Onto s i (field q l 2 0) j (field q (to v) 2 0))
 ThenSays s i mark (Field.NotGrammar p) = (q : ℕ) (l : Slot) (to : ℕ → Slot) → Leads l mark to
-    → Reads s i (field q l 2 0) (Refused (NotGrammar p))
+    → Reads s i (field q l 2 0) (Err (NotGrammar p))
 
 -- what stands before a time of day, as the scanner has it
 abbrev pub when_of : When → S.When
