@@ -4,6 +4,7 @@ use mathlib.Core.Bool.{Bool, true, false}
 use mathlib.Core.List.{List, [], ◌∷◌, ◌++◌, append_assoc, append-nil}
 use Prim.Native.Nat.{ℕ, ◌+◌, ◌-◌, ◌≤◌, ◌<◌, ◌^◌}
 use native.Mathlib.Omega.{arith}
+use Rattle.std.specs.Prelude.{Some, None}
 use lib.ListN.{length, get_or, drop, set, length-set}
 use Rattle.meaning.specs.declared.Record.{Record}
 use Rattle.meaning.specs.Limits.{depth_limit, record_limit, store_limit}
@@ -20,7 +21,6 @@ use Rattle.meaning.proofs.Text.{canonical_below}
 use Rattle.tape.specs.Between.Standing.{RecordIs}
 use Rattle.tape.specs.Between.Turns.{bytes_end}
 use Rattle.writer.specs.declared.Effect.{Effect}
-use Rattle.writer.specs.declared.Formless.{Formless}
 use Rattle.writer.specs.Between.Laid.{PutAt}
 use Rattle.writer.specs.Between.Walk.{printed, comma_text, effect_of, share, TextFits, TextLength, TextPut, at, nowhere, FirstFormless}
 use Rattle.writer.proofs.LaidLaws.{put_as, put_whole, Writing, begin, writing_as, writing_put, writing_room, writing_length, finish}
@@ -121,10 +121,10 @@ module _ (tape store : List ℕ) where
       pub search_on : json_form r ≡ true → Searching tape store (i + 1)
       search_on e = record { so_far = λ w. s.so_far w ∙ json_on (records_in w) i (omega (arith, whole_is tape store w)) (form w e) }
 
-      pub search_stop : json_form r ≡ false → FirstFormless tape store (Formless.At i)
+      pub search_stop : json_form r ≡ false → FirstFormless tape store (Some i)
       search_stop e = record { is = λ w. at (s.so_far w ∙ json_stop (records_in w) i (omega (arith, whole_is tape store w)) (form w e)) }
 
-    pub search_end : whole_records tape ≤ i → FirstFormless tape store Formless.Nowhere
+    pub search_end : whole_records tape ≤ i → FirstFormless tape store None
     search_end h = record { is = λ w. nowhere (s.so_far w ∙ json_end (records_in w) i (omega (arith, whole_is tape store w))) }
 
 -- ---- the text

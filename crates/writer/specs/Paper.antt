@@ -1,10 +1,9 @@
 -- What the writers answer, in the terms of docs/FORMAT.md, 10.1: the length of the text, or a refusal. Assumes nothing.
-use Rattle.std.specs.Prelude.{ℕ}
+use Rattle.std.specs.Prelude.{ℕ, Result, Ok, Err}
 use Rattle.rules.specs.Paper.{Said, done}
+use Rattle.meaning.specs.declared.Refusal.{Refusal}
 use Rattle.meaning.specs.Paper.{refusal_said}
-use Rattle.writer.specs.declared.Written.{Written}
-use Rattle.writer.specs.declared.Written.TheVariants.{Wrote, Refused}
 
-abbrev pub write_said : Written → Said ℕ
-write_said (Wrote size) = done size
-write_said (Refused why) = refusal_said why
+abbrev pub write_said : Result ℕ Refusal → Said ℕ
+write_said (Ok size) = done size
+write_said (Err why) = refusal_said why

@@ -46,54 +46,41 @@ enum Effect {
     Open { closer: u8, end: usize },
 }
 
-// The first record with no JSON form.
-#[derive(Clone, Copy)]
-enum Formless {
-    At(usize),
-    Nowhere,
-}
-
-// What the writers answer: so many bytes from the start of the output, or a refusal that leaves it as it was.
-#[derive(Clone, Copy)]
-pub enum Written {
-    Wrote(usize),
-    Refused(Refusal),
-}
-
 // 13 with the length, then 12 with the bytes needed; else the text.
-fn write_text(tape: &[u8], store: &[u8], out: &mut [u8]) -> Written
+fn write_text(tape: &[u8], store: &[u8], out: &mut [u8]) -> Result<usize, Refusal>
     requires { WellFormed tape.now store.now }
     ensures { WritesText tape.now store.now out.old result out.new }
 {
     let needed = walk::text_len(tape, store);
     if needed > TEXT_LIMIT {
-        return Written::Refused(Refusal::WrittenTooLong(needed));
+        return Err(Refusal::WrittenTooLong(needed));
     }
     if out.len() < needed {
-        return Written::Refused(Refusal::OutputTooShort(needed));
+        return Err(Refusal::OutputTooShort(needed));
     }
-    Written::Wrote(walk::write_records(out, tape, store))
+    Ok(walk::write_records(out, tape, store))
 }
 
-// The canonical text of a tape and its store, each exactly as long as used.
-pub fn write_jaxn(tape: &[u8], store: &[u8], out: &mut [u8]) -> Written
+// The canonical text of a tape and its store, each exactly as long as used. The answer is so many bytes from the start of the output, or a
+// refusal that leaves it as it was.
+pub fn write_jaxn(tape: &[u8], store: &[u8], out: &mut [u8]) -> Result<usize, Refusal>
     ensures { WritesJaxn tape.now store.now out.old result out.new }
 {
-    match tape::judge(tape, store) {
-        Judged::Ill => Written::Refused(Refusal::NotWellFormed(0)),
-        Judged::Well => write_text(tape, store, out),
+    if let Judged::Ill = tape::judge(tape, store) {
+        return Err(Refusal::NotWellFormed(0));
     }
+    write_text(tape, store, out)
 }
 
 // The same text, where every record has a JSON form.
-pub fn write_json(tape: &[u8], store: &[u8], out: &mut [u8]) -> Written
+pub fn write_json(tape: &[u8], store: &[u8], out: &mut [u8]) -> Result<usize, Refusal>
     ensures { WritesJson tape.now store.now out.old result out.new }
 {
-    match tape::judge(tape, store) {
-        Judged::Ill => Written::Refused(Refusal::NotWellFormed(0)),
-        Judged::Well => match walk::first_formless(tape, store) {
-            Formless::At(index) => Written::Refused(Refusal::NoJsonForm(index)),
-            Formless::Nowhere => write_text(tape, store, out),
-        },
+    if let Judged::Ill = tape::judge(tape, store) {
+        return Err(Refusal::NotWellFormed(0));
     }
+    if let Some(index) = walk::first_formless(tape, store) {
+        return Err(Refusal::NoJsonForm(index));
+    }
+    write_text(tape, store, out)
 }

@@ -3,7 +3,7 @@ ghost use Rattle.std.specs.Prelude.{length};
 ghost use Rattle.meaning.specs.Tape.{WellFormed};
 ghost use Rattle.writer.specs.Between.Walk.{TextFits, TextLength, TextPut, FirstFormless};
 
-use crate::{Effect, Formless, byte_or_digit, one_record};
+use crate::{Effect, byte_or_digit, one_record};
 use meaning::{DEPTH_LIMIT, RECORD_SIZE};
 
 // The shares of all records are the text's length and one more.
@@ -66,7 +66,7 @@ pub fn write_records(out: &mut [u8], tape: &[u8], store: &[u8]) -> usize
 }
 
 // The index of the first record that has no JSON form, if there is one.
-pub fn first_formless(tape: &[u8], store: &[u8]) -> Formless
+pub fn first_formless(tape: &[u8], store: &[u8]) -> Option<usize>
     ensures { FirstFormless tape.now store.now result }
 {
     let n = tape.len() / RECORD_SIZE;
@@ -76,8 +76,8 @@ pub fn first_formless(tape: &[u8], store: &[u8]) -> Formless
         if one_record::json_form(r) {
             i += 1;
         } else {
-            return Formless::At(i);
+            return Some(i);
         }
     }
-    Formless::Nowhere
+    None
 }

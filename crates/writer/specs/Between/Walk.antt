@@ -1,15 +1,15 @@
 -- What each record of a tape prints where it stands, and its share of the length (docs/FORMAT.md, 12). Assumes nothing.
 use Rattle.std.specs.Prelude.{◌≡◌, Bool, true, false, cond, List, [], ◌++◌, ℕ, ◌+◌, ◌≤◌, eqb, length, take, drop}
+use Rattle.std.specs.Prelude.{Option, Some, None, Result}
 use Rattle.std.proofs.Math.Option.{none, some}
 use Rattle.meaning.specs.declared.Record.{Record}
+use Rattle.meaning.specs.declared.Refusal.{Refusal}
 use Rattle.meaning.specs.Letters.{letters, ch}
 use Rattle.meaning.specs.Meaning.{Meaning}
 use Rattle.meaning.specs.Tape.{WellFormed}
 use Rattle.meaning.specs.Canonical.{number_text, quoted, binary_text, time_text, canonical}
 use Rattle.meaning.specs.Json.{no_json}
 use Rattle.writer.specs.declared.Effect.{Effect}
-use Rattle.writer.specs.declared.Formless.{Formless}
-use Rattle.writer.specs.declared.Written.{Written}
 use Rattle.writer.specs.Between.Laid.{Put}
 use Rattle.writer.specs.Written.{Writes}
 
@@ -80,13 +80,13 @@ pub record TextPut (tape store o out : List ℕ) (n : ℕ) : Type 0 where
   pub is : (w : WellFormed tape store) → Put (canonical w.meaning) o out n
 
 -- 13, 12, or the text
-pub record WritesText (tape store o : List ℕ) (answer : Written) (out : List ℕ) : Type 0 where
+pub record WritesText (tape store o : List ℕ) (answer : Result ℕ Refusal) (out : List ℕ) : Type 0 where
   pub is : (w : WellFormed tape store) → Writes (canonical w.meaning) o answer out
 
 -- the first record with no JSON form
-pub data Finds (m : Meaning) : Formless → Type 0 where
-  at : {index : ℕ} → no_json m ≡ some index → Finds m (Formless.At index)
-  nowhere : no_json m ≡ none → Finds m Formless.Nowhere
+pub data Finds (m : Meaning) : Option ℕ → Type 0 where
+  at : {index : ℕ} → no_json m ≡ some index → Finds m (Some index)
+  nowhere : no_json m ≡ none → Finds m None
 
-pub record FirstFormless (tape store : List ℕ) (found : Formless) : Type 0 where
+pub record FirstFormless (tape store : List ℕ) (found : Option ℕ) : Type 0 where
   pub is : (w : WellFormed tape store) → Finds w.meaning found
