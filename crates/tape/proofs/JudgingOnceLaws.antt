@@ -1,8 +1,9 @@
 -- Well formed is formed, with no repeated key. Assumes nothing.
 use mathlib.Core.Path.{◌≡◌, refl, sym, ap, ◌∙◌, subst}
-use mathlib.Core.Bool.{true, false}
+use mathlib.Core.Bool.{Bool, true, false}
 use mathlib.Core.List.{List, []}
 use mathlib.Core.Option.{Option, none, some}
+use Rattle.std.proofs.Common.{Ok, Err}
 use Prim.Native.Nat.{ℕ, ◌+◌, ◌*◌}
 use native.Mathlib.Omega.{arith}
 use lib.ListN.{length}
@@ -16,8 +17,10 @@ use Rattle.meaning.proofs.Look.{well_formed_record}
 use Rattle.meaning.proofs.Events.{none_once, some_twice}
 use Rattle.once.specs.Windows.{num}
 use Rattle.once.proofs.WindowsLaws.{first_past}
-use Rattle.tape.specs.declared.Judged.{Judged}
-use Rattle.tape.specs.Between.Judging.{Judges, well, ill, Formed, Forms, formed, unformed}
+use Rattle.rules.specs.Between.Tests.{Decides}
+use Rattle.rules.proofs.TestsLaws.{failed}
+use Rattle.meaning.specs.declared.Refusal.{Refusal}
+use Rattle.tape.specs.Between.Judging.{Judges, well, ill, Formed}
 use Rattle.tape.specs.Between.Key.{events_in, events_below, first_of, Shallow, Standing}
 use Rattle.tape.specs.Between.Standing.{records_from}
 use Rattle.tape.proofs.JudgingMachineLaws.{nay}
@@ -98,18 +101,13 @@ module _ {tape store : List ℕ} where
 
   -- ---- what is answered
 
-  pub told_formed : {a : Judged} → Forms tape store a → a ≡ Judged.Well → Formed tape store
-  told_formed (formed f) e = f
-  told_formed (unformed n) e = let z : ◌≡◌ {A = ℕ} 0 1 = cc in absurd (omega arith)
+  pub judged_unformed : {b : Bool} → Decides (Formed tape store) b → b ≡ false → Judges tape store (Err (Refusal.NotWellFormed 0))
+  judged_unformed d e = ill (λ w. failed d e (well_is_formed w))
 
-  pub judged_unformed : {a : Judged} → Forms tape store a → a ≡ Judged.Ill → Judges tape store Judged.Ill
-  judged_unformed (formed f) e = let z : ◌≡◌ {A = ℕ} 0 1 = cc in absurd (omega arith)
-  judged_unformed (unformed n) e = ill (λ w. n (well_is_formed w))
-
-  pub judged_once : Formed tape store → {r : ℕ} → r ≡ first_of tape store (whole_records tape) → r ≡ 0 → Judges tape store Judged.Well
+  pub judged_once : Formed tape store → {r : ℕ} → r ≡ first_of tape store (whole_records tape) → r ≡ 0 → Judges tape store (Ok tt)
   judged_once f e z = well (formed_well f (none_repeats f (sym e ∙ z)))
 
-  pub judged_twice : Formed tape store → {r : ℕ} → r ≡ first_of tape store (whole_records tape) → (r ≡ 0 → ⊥) → Judges tape store Judged.Ill
+  pub judged_twice : Formed tape store → {r : ℕ} → r ≡ first_of tape store (whole_records tape) → (r ≡ 0 → ⊥) → Judges tape store (Err (Refusal.NotWellFormed 0))
   unfolding well_is_formed
   judged_twice f e n =
       ill

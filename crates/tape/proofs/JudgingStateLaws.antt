@@ -16,8 +16,8 @@ use Rattle.meaning.specs.Meaning.{Meaning, null, bool, number, string, binary, t
 use Rattle.meaning.specs.Tape.{elements_count, members_count}
 use Rattle.meaning.specs.Look.{whole_records, RecordAt}
 use Rattle.tape.specs.declared.judging.Turn.{Turn}
-use Rattle.tape.specs.declared.Judged.{Judged}
-use Rattle.tape.specs.Between.Judging.{Forms, formed, unformed, Sized, ended_of}
+use Rattle.rules.specs.Between.Tests.{Decides, holds, fails}
+use Rattle.tape.specs.Between.Judging.{Formed, Sized, ended_of}
 use Rattle.tape.specs.Between.Standing.{read_at, records_from}
 use Rattle.tape.specs.Between.Turns.{none, value_due, key_due, counted, pass_of, open_of, leaf_of, if_due, turn_of, TurnIs, stands, no}
 use Rattle.tape.proofs.JudgingMachineLaws.{Stated, Frame, root, in_array, in_object, Conf, nothing, whole, elements, members, keyed, broken, says, nay}
@@ -651,17 +651,17 @@ module _ {tape store : List ℕ} where
 
 module _ {tape store : List ℕ} {ends rests : List ℕ} {depth end rest at i : ℕ} (v : State tape store ends rests depth end rest at i) (z : Sized tape store)
   where
-    pub answer_ill : verdict (whole_records tape) tape store ≡ nay → Forms tape store Judged.Ill
-    answer_ill e = unformed (nay_unformed tape store (whole_records tape) z.whole e)
+    pub answer_ill : verdict (whole_records tape) tape store ≡ nay → Decides (Formed tape store) false
+    answer_ill e = fails (nay_unformed tape store (whole_records tape) z.whole e)
 
     -- no record stands there, or none that may
-    pub answer_no : (i ≡ end → ⊥) → {t : Turn} → TurnIs tape store i rest at depth t → t ≡ Turn.No → Forms tape store Judged.Ill
+    pub answer_no : (i ≡ end → ⊥) → {t : Turn} → TurnIs tape store i rest at depth t → t ≡ Turn.No → Decides (Formed tape store) false
     answer_no q (stands r a f) e = answer_ill (state_no v q r a (sym f ∙ e))
     answer_no q (no g) e = by_index (dec_lt i (whole_records tape))
       where
-        by_index : Dec (i < whole_records tape) → Forms tape store Judged.Ill
+        by_index : Dec (i < whole_records tape) → Decides (Formed tape store) false
         by_index (Dec.yes l) =
-            unformed
+            fails
             (λ w.
             let a = w.each i (omega (arith, formed_length tape store w)) in
             nay_unformed tape store (whole_records tape) z.whole (state_no v q _ a (g _ a)) w)
@@ -669,25 +669,25 @@ module _ {tape store : List ℕ} {ends rests : List ℕ} {depth end rest at i : 
 
     -- all records are passed
     pub answer_ended : ((j : ℕ) → get_or tape j 0 < 256) → ((j : ℕ) → get_or store j 0 < 256) → i ≡ end → depth ≡ 0
-        → Forms tape store (ended_of rest at (length store))
-    unfolding ended_of finish frames_of
+        → Decides (Formed tape store) (ended_of rest at (length store))
+    unfolding finish frames_of
     answer_ended tape_bytes_lem store_Bytes e d =
         let f = state_ended v e d in
         by_conf v.c v.is_rest f.0 f.1 (sym v.is_depth ∙ d)
       where
         by_store : (m : Meaning) (b : Bool) → i ≡ whole_records tape → verdict (whole_records tape) tape store ≡ cond b (says m) nay
-            → Forms tape store (cond b Judged.Well Judged.Ill)
+            → Decides (Formed tape store) b
         by_store m true l f =
-            formed (says_formed tape store (whole_records tape) z.whole tape_bytes_lem store_Bytes z.few z.short (λ k q. v.each k (omega arith)) m f)
+            holds (says_formed tape store (whole_records tape) z.whole tape_bytes_lem store_Bytes z.few z.short (λ k q. v.each k (omega arith)) m f)
         by_store m false l f = answer_ill f
 
         by_conf : (c : Conf) → Rests i c rest → i ≡ whole_records tape → verdict (whole_records tape) tape store ≡ finish store at c
-            → length (frames_of c) ≡ 0 → Forms tape store (cond (eqb rest 0) (cond (eqb at (length store)) Judged.Well Judged.Ill) Judged.Ill)
+            → length (frames_of c) ≡ 0 → Decides (Formed tape store) (cond (eqb rest 0) (eqb at (length store)) false)
         by_conf nothing a l f q =
-            subst (λ (b : Bool). Forms tape store (cond b (cond (eqb at (length store)) Judged.Well Judged.Ill) Judged.Ill))
+            subst (λ (b : Bool). Decides (Formed tape store) (cond b (eqb at (length store)) false))
             (sym (ne_eqb rest 0 (λ x. omega arith))) (answer_ill f)
         by_conf (whole m) a l f q =
-            subst (λ (b : Bool). Forms tape store (cond b (cond (eqb at (length store)) Judged.Well Judged.Ill) Judged.Ill)) (sym (eq-eqb rest 0 a))
+            subst (λ (b : Bool). Decides (Formed tape store) (cond b (eqb at (length store)) false)) (sym (eq-eqb rest 0 a))
             (by_store m (eqb at (length store)) l f)
         by_conf (elements s ms []) a l f q = absurd a.2
         by_conf (elements s ms (g ∷ fs)) a l f q = absurd (omega arith)
@@ -698,9 +698,9 @@ module _ {tape store : List ℕ} {ends rests : List ℕ} {depth end rest at i : 
         by_conf broken a l f q = absurd a
 
 -- sizes over their limits
-pub answer_sizes : {tape store : List ℕ} → (Sized tape store → ⊥) → Forms tape store Judged.Ill
+pub answer_sizes : {tape store : List ℕ} → (Sized tape store → ⊥) → Decides (Formed tape store) false
 answer_sizes {tape} {store} h =
-    unformed
+    fails
     (λ w. h
     (record {
       whole = omega (arith, formed_length tape store w);

@@ -1,7 +1,8 @@
 -- The record at an index, by its four numbers. Assumes nothing.
 use mathlib.Core.Path.{◌≡◌, refl, sym, ap, ◌∙◌, subst}
-use mathlib.Core.Bool.{Bool, true, false}
+use mathlib.Core.Bool.{true, false}
 use mathlib.Core.List.{List, ◌++◌}
+use Rattle.std.proofs.Common.{Option, Some, None, Result, Ok, Err}
 use Prim.Native.Nat.{ℕ, ◌+◌, ◌*◌, ◌<◌}
 use native.Mathlib.Omega.{arith}
 use lib.ListN.{get_or, take, drop, take-append-drop}
@@ -16,8 +17,6 @@ use Rattle.meaning.proofs.Paper.{same_refusal}
 use Rattle.meaning.proofs.Bytes.{get_lt}
 use Rattle.meaning.proofs.Records.{record_length, Stands, stands, stands_drop}
 use Rattle.tape.specs.declared.Words.{Words}
-use Rattle.tape.specs.declared.Shape.{Shape}
-use Rattle.tape.specs.declared.Looked.{Looked}
 use Rattle.tape.specs.Between.Shapes.{Worded, Loaded, only_record, Shaped, shaped, junk, words_at}
 use Rattle.rules.specs.Between.Tests.{Decides}
 use Rattle.tape.specs.Paper.{look_said}
@@ -38,16 +37,14 @@ loaded s p h = record {
 pub loaded_as : {w : Words} (s : List ℕ) (p : ℕ) → w ≡ words_at s p → ((j : ℕ) → get_or s j 0 < 256) → Loaded w
 loaded_as s p e h = subst Loaded (sym e) (loaded s p h)
 
-pub shaped_as : {w v : Words} {x : Shape} → w ≡ v → Shaped w x → Shaped v x
+pub shaped_as : {w v : Words} {x : Option Record} → w ≡ v → Shaped w x → Shaped v x
 shaped_as {x = x} e h = subst (λ (y : Words). Shaped y x) e h
 
-shape_record : {w : Words} {s : Shape} {r : Record} → Shaped w s → s ≡ Shape.Record r → Fit r × Worded r w
-shape_record {w} {r = r} (shaped {r = x} f e) q = let z : x ≡ r = cc in subst (λ (y : Record). Fit y × Worded y w) z (f, e)
-shape_record (junk n) q = let z : ◌≡◌ {A = ℕ} 0 1 = cc in absurd (omega arith)
+shape_record : {w : Words} {r : Record} → Shaped w (Some r) → Fit r × Worded r w
+shape_record (shaped f e) = (f, e)
 
-shape_junk : {w : Words} {s : Shape} → Shaped w s → s ≡ Shape.Junk → (r : Record) → Fit r → Worded r w → ⊥
-shape_junk (shaped f e) q = let z : ◌≡◌ {A = ℕ} 0 1 = cc in absurd (omega arith)
-shape_junk (junk n) q = n
+shape_none : {w : Words} → Shaped w None → (r : Record) → Fit r → Worded r w → ⊥
+shape_none (junk n) = n
 
 -- ---- the record at an index
 
@@ -78,40 +75,38 @@ module _ (tape store : List ℕ) (index : ℕ) where
           own = o;
         }
 
-    module _ {s : Shape} (d : Shaped (words_at tape (index * 16)) s) where
-      pub look_junk : s ≡ Shape.Junk → Looks tape store index (Looked.Refused (Refusal.NotWellFormed index))
-      look_junk e = not_one within (λ r a. shape_junk d e r a.fits (record_numbers r a)) refl
+    pub look_none : Shaped (words_at tape (index * 16)) None → Looks tape store index (Err (Refusal.NotWellFormed index))
+    look_none d = not_one within (λ r a. shape_none d r a.fits (record_numbers r a)) refl
 
-      module _ (r : Record) (e : s ≡ Shape.Record r) {b : Bool} (own : Decides (OwnFields r index (whole_records tape) store) b) where
-        pub look_found : b ≡ true → Looks tape store index (Looked.Record r)
-        look_found t = let q = shape_record d e in found (record_there r q.0 q.1 (held own t)) refl
+    module _ {r : Record} (d : Shaped (words_at tape (index * 16)) (Some r)) where
+      pub look_found : Decides (OwnFields r index (whole_records tape) store) true → Looks tape store index (Ok r)
+      look_found own = let q = shape_record d in found (record_there r q.0 q.1 (held own refl)) refl
 
-        pub look_fault : b ≡ false → Looks tape store index (Looked.Refused (Refusal.NotWellFormed index))
-        look_fault t =
-            let q = shape_record d e in
-            let w = words_at tape (index * 16) in
-            not_one within
-            (λ x a.
-            let z : x ≡ r = sym (record_only x a) ∙ only w r q.0 q.1 in
-            failed own t (subst (λ (y : Record). OwnFields y index (whole_records tape) store) z a.own))
-            refl
+      pub look_fault : Decides (OwnFields r index (whole_records tape) store) false → Looks tape store index (Err (Refusal.NotWellFormed index))
+      look_fault own =
+          let q = shape_record d in
+          let w = words_at tape (index * 16) in
+          not_one within
+          (λ x a.
+          let z : x ≡ r = sym (record_only x a) ∙ only w r q.0 q.1 in
+          failed own refl (subst (λ (y : Record). OwnFields y index (whole_records tape) store) z a.own))
+          refl
 
 -- ---- what `look` answered
 
 -- what is said tells the answer
-pub same_looked : (a b : Looked) → look_said a ≡ look_said b → a ≡ b
-same_looked (Looked.Record r) (Looked.Record s) e = cc
-same_looked (Looked.Record r) (Looked.Refused w) e = absurd (done_apart e)
-same_looked (Looked.Refused v) (Looked.Record s) e = absurd (done_apart (sym e))
-same_looked (Looked.Refused v) (Looked.Refused w) e = ap Looked.Refused (same_refusal v w e)
+pub same_looked : (a b : Result Record Refusal) → look_said a ≡ look_said b → a ≡ b
+same_looked (Ok r) (Ok s) e = cc
+same_looked (Ok r) (Err w) e = absurd (done_apart e)
+same_looked (Err v) (Ok s) e = absurd (done_apart (sym e))
+same_looked (Err v) (Err w) e = ap Err (same_refusal v w e)
 
-pub looked_record : {tape store : List ℕ} {index : ℕ} {a : Looked} {r : Record} → Looks tape store index a → a ≡ Looked.Record r → RecordAt tape store index r
-looked_record {tape} {store} {index} {r = r} (found {r = x} g s) e = let z : x ≡ r = cc in subst (RecordAt tape store index) z g
-looked_record (past_end h s) e = absurd (done_apart (sym (ap look_said e) ∙ s))
-looked_record (not_one h n s) e = absurd (done_apart (sym (ap look_said e) ∙ s))
+pub looked_record : {tape store : List ℕ} {index : ℕ} {r : Record} → Looks tape store index (Ok r) → RecordAt tape store index r
+looked_record {tape} {store} {index} {r} (found {r = x} g s) = let z : x ≡ r = cc in subst (RecordAt tape store index) z g
+looked_record (past_end h s) = absurd (done_apart s)
+looked_record (not_one h n s) = absurd (done_apart s)
 
-pub refused : {tape store : List ℕ} {index : ℕ} {a : Looked} {why : Refusal} → Looks tape store index a → a ≡ Looked.Refused why
-    → (r : Record) → RecordAt tape store index r → ⊥
-refused (found g s) e r t = done_apart (sym s ∙ ap look_said e)
-refused (past_end h s) e r t = omega (arith, t.within)
-refused (not_one h n s) e r t = n r t
+pub refused : {tape store : List ℕ} {index : ℕ} {why : Refusal} → Looks tape store index (Err why) → (r : Record) → RecordAt tape store index r → ⊥
+refused (found g s) r t = done_apart (sym s)
+refused (past_end h s) r t = omega (arith, t.within)
+refused (not_one h n s) r t = n r t

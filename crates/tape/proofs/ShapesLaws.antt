@@ -1,6 +1,7 @@
 -- A record's four numbers: they make its bytes, and they are of no other record. Assumes nothing.
 use mathlib.Core.Path.{◌≡◌, refl, sym, ap, ap₂, ◌∙◌, subst}
 use mathlib.Core.Bool.{Bool, true, false, cond}
+use Rattle.std.proofs.Common.{Some, None}
 use Prim.Native.Nat.{ℕ, ◌+◌, ◌*◌, ◌/◌, ◌%◌, ◌^◌, ◌≤◌, ◌<◌}
 use native.Mathlib.Decide.{dec_le}
 use native.Mathlib.Omega.{arith}
@@ -20,7 +21,6 @@ use Rattle.meaning.specs.Tape.{record_bytes}
 use Rattle.meaning.specs.Between.Words.{mark, mark_of, low_of, mid_of, high_of, month_day, four_words, FitDate, Fit}
 use Rattle.meaning.proofs.Records.{record_words}
 use Rattle.tape.specs.declared.Words.{Words}
-use Rattle.tape.specs.declared.Shape.{Shape}
 use Rattle.tape.specs.Between.Shapes.{Worded, Holds, Loaded, Written, not_finite, date_of, record_of, only_record, Common, Shaped, shaped, junk}
 
 pub flag_small : (b : Bool) → flag b ≤ 1
@@ -181,19 +181,19 @@ module _ (w : Words) where
 
 -- so where that one has other numbers, there is none
 module _ (w v : Words) (r : Record) (is : r ≡ record_of w.mark w.low w.mid w.high) (g : Worded r v) where
-  junk_by : ((s : Record) → Fit s → Worded s w → Worded s v → ⊥) → Shaped w Shape.Junk
+  junk_by : ((s : Record) → Fit s → Worded s w → Worded s v → ⊥) → Shaped w None
   junk_by n = junk (λ s f e. let q : r ≡ s = is ∙ only w s f e in n s f e (rw q at g))
 
-  pub other_mark : (v.mark ≡ w.mark → ⊥) → Shaped w Shape.Junk
+  pub other_mark : (v.mark ≡ w.mark → ⊥) → Shaped w None
   other_mark n = junk_by (λ s f e h. n (h.mark_is ∙ sym e.mark_is))
 
-  pub other_low : (v.low ≡ w.low → ⊥) → Shaped w Shape.Junk
+  pub other_low : (v.low ≡ w.low → ⊥) → Shaped w None
   other_low n = junk_by (λ s f e h. n (h.low_is ∙ sym e.low_is))
 
-  pub other_mid : (v.mid ≡ w.mid → ⊥) → Shaped w Shape.Junk
+  pub other_mid : (v.mid ≡ w.mid → ⊥) → Shaped w None
   other_mid n = junk_by (λ s f e h. n (h.mid_is ∙ sym e.mid_is))
 
-  pub other_high : (v.high ≡ w.high → ⊥) → Shaped w Shape.Junk
+  pub other_high : (v.high ≡ w.high → ⊥) → Shaped w None
   other_high n = junk_by (λ s f e h. n (h.high_is ∙ sym e.high_is))
 
 -- ---- the record that may have these numbers fits its places
@@ -228,10 +228,10 @@ record_of_fits w l =
 
 -- the numbers agree: there is a record
 pub same_words : (w v : Words) (r : Record) → Loaded w → r ≡ record_of w.mark w.low w.mid w.high → Worded r v
-    → v.mark ≡ w.mark → v.low ≡ w.low → v.mid ≡ w.mid → v.high ≡ w.high → Shaped w (Shape.Record r)
+    → v.mark ≡ w.mark → v.low ≡ w.low → v.mid ≡ w.mid → v.high ≡ w.high → Shaped w (Some r)
 same_words w v r l is g a b c d =
     shaped (subst Fit (sym is) (record_of_fits w l))
     (record { mark_is = sym a ∙ g.mark_is; low_is = sym b ∙ g.low_is; mid_is = sym c ∙ g.mid_is; high_is = sym d ∙ g.high_is })
 
-pub common_shape : (w : Words) (r : Record) {b : Bool} → Loaded w → Common w b → b ≡ true → r ≡ only_record w → Shaped w (Shape.Record r)
+pub common_shape : (w : Words) (r : Record) {b : Bool} → Loaded w → Common w b → b ≡ true → r ≡ only_record w → Shaped w (Some r)
 common_shape w r l c t e = shaped (subst Fit (sym e) (record_of_fits w l)) (subst (λ (x : Record). Worded x w) (sym e) (c.worded t))

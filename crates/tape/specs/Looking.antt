@@ -1,12 +1,12 @@
 -- What `look` may answer (docs/FORMAT.md, 11.4): 14, then 10. Assumes nothing.
-use Rattle.std.specs.Prelude.{◌≡◌, List, ℕ, ◌≤◌, ◌<◌}
+use Rattle.std.specs.Prelude.{◌≡◌, List, ℕ, ◌≤◌, ◌<◌, Result}
 use Rattle.rules.specs.Paper.{done, refused}
 use Rattle.meaning.specs.declared.Record.{Record}
 use Rattle.meaning.specs.Look.{whole_records, RecordAt}
-use Rattle.tape.specs.declared.Looked.{Looked}
+use Rattle.meaning.specs.declared.Refusal.{Refusal}
 use Rattle.tape.specs.Paper.{look_said}
 
-pub data Looks (tape store : List ℕ) (index : ℕ) (a : Looked) : Type 0 where
+pub data Looks (tape store : List ℕ) (index : ℕ) (a : Result Record Refusal) : Type 0 where
   -- that record with its fields
   found : {r : Record} → RecordAt tape store index r → look_said a ≡ done r → Looks tape store index a
   -- 14: index not below the number of whole records

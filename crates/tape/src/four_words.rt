@@ -5,7 +5,7 @@ ghost use Rattle.meaning.specs.Between.Words.{month_day, four_words, FitDate};
 ghost use Rattle.tape.specs.Between.Shapes.{Written, Holds, Loaded, not_finite, date_of, container_of, time_of, bytes_of};
 ghost use Rattle.tape.specs.Between.Shapes.{only_record, Common, Shaped, words_at};
 
-use crate::{Shape, Words, little_endian};
+use crate::{Words, little_endian};
 use meaning::{Date, Number, Record, Time};
 
 // The marks, two letters each.
@@ -325,25 +325,25 @@ fn common_record(w: Words) -> Record
 }
 
 // The record with these four numbers, or none: a record's own numbers are these, or no record has them.
-fn any_shape(w: Words) -> Shape
+fn any_shape(w: Words) -> Option<Record>
     requires { Loaded w }
     ensures { Shaped w result }
 {
     let r = record_of(w);
     let own = words_of(r);
     if own.mark != w.mark {
-        return Shape::Junk;
+        return None;
     }
     if own.low != w.low {
-        return Shape::Junk;
+        return None;
     }
     if own.mid != w.mid {
-        return Shape::Junk;
+        return None;
     }
     if own.high != w.high {
-        return Shape::Junk;
+        return None;
     }
-    Shape::Record(r)
+    Some(r)
 }
 
 // Whether these are the numbers of a key, a string, a number or a container: their unnamed bytes are zero.
@@ -377,12 +377,12 @@ fn common(w: Words) -> bool
 }
 
 // The same as of any record, the common ones first.
-fn shape_of(w: Words) -> Shape
+fn shape_of(w: Words) -> Option<Record>
     requires { Loaded w }
     ensures { Shaped w result }
 {
     if common(w) {
-        return Shape::Record(common_record(w));
+        return Some(common_record(w));
     }
     let s = any_shape(w);
     s
@@ -406,7 +406,7 @@ pub fn words_at(tape: &[u8], at: usize) -> Words
 }
 
 // What stands in the sixteen bytes from the place `at`.
-pub fn shape_at(tape: &[u8], at: usize) -> Shape
+pub fn shape_at(tape: &[u8], at: usize) -> Option<Record>
     requires { at + 16 ≤ length tape.now }
     ensures { Shaped (words_at tape.now at) result }
 {

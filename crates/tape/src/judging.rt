@@ -9,12 +9,12 @@ ghost use Rattle.meaning.specs.Limits.{store_limit};
 ghost use Rattle.meaning.specs.Good.{GoodFinite};
 ghost use Rattle.meaning.specs.Look.{whole_records, Utf8Inside, Ends};
 ghost use Rattle.tape.specs.declared.judging.Turn.{Turn};
-ghost use Rattle.tape.specs.Between.Judging.{Sized, ended_of, Forms, Judges};
+ghost use Rattle.tape.specs.Between.Judging.{Formed, Sized, ended_of, Judges};
 ghost use Rattle.tape.specs.Between.Shapes.{Loaded};
 ghost use Rattle.tape.specs.Between.Turns.{value_due, key_due, counted, pass_of, open_of, leaf_of, bytes_end, Tested, LeafIs, TurnIs};
 
-use crate::{Judged, Looked, Words, fields, four_words, key, little_endian};
-use meaning::{DEPTH_LIMIT, RECORD_LIMIT, RECORD_SIZE, Record, STORE_LIMIT};
+use crate::{Words, fields, four_words, key, little_endian};
+use meaning::{DEPTH_LIMIT, RECORD_LIMIT, RECORD_SIZE, Record, Refusal, STORE_LIMIT};
 
 // What is still to come in what is open is one number, `rest`: twice the records that are still to stand in it, not counting
 // those inside others, and one more in an object. In a container it is counted from NONE up, so that it can fall below where more
@@ -98,8 +98,8 @@ fn any_leaf(tape: &[u8], store: &[u8], index: usize, at: usize) -> Turn
     ensures { LeafIs tape.now store.now index at result }
 {
     match crate::look(tape, store, index) {
-        Looked::Refused(_) => Turn::No,
-        Looked::Record(r) => leaf(r, at),
+        Ok(r) => leaf(r, at),
+        Err(_) => Turn::No,
     }
 }
 
@@ -205,24 +205,18 @@ fn sized(tape: &[u8], store: &[u8]) -> bool
 }
 
 // After the last record: the root is there, and no byte of the store is left over.
-fn ended(rest: usize, at: usize, room: usize) -> Judged
+fn ended(rest: usize, at: usize, room: usize) -> bool
     ensures { result ≡ ended_of rest at room }
 {
-    if rest != 0 {
-        return Judged::Ill;
-    }
-    if at == room {
-        return Judged::Well;
-    }
-    Judged::Ill
+    rest == 0 && at == room
 }
 
 // One loop over the records, with the ends of the open containers and what is to come in them after the value at hand; those of
 // the innermost in `end` and `rest`, at first the end of all. It stops at the first fault, so each byte of the store is passed at
 // most twice.
-fn records(tape: &[u8], store: &[u8], mut end: usize) -> Judged
+fn records(tape: &[u8], store: &[u8], mut end: usize) -> bool
     requires { Sized tape.now store.now × (end ≡ whole_records tape.now) }
-    ensures { Forms tape.now store.now result }
+    ensures { Decides (Formed tape.now store.now) result }
 {
     let mut ends: [usize; DEPTH_LIMIT] = [0; DEPTH_LIMIT];
     let mut rests: [usize; DEPTH_LIMIT] = [0; DEPTH_LIMIT];
@@ -233,7 +227,7 @@ fn records(tape: &[u8], store: &[u8], mut end: usize) -> Judged
     loop {
         if i != end {
             match turn_at(tape, store, i, rest, at, depth) {
-                Turn::No => return Judged::Ill,
+                Turn::No => return false,
                 Turn::Pass(a) => {
                     at = a;
                     rest -= 2;
@@ -255,32 +249,24 @@ fn records(tape: &[u8], store: &[u8], mut end: usize) -> Judged
             end = ends[depth];
             rest = rests[depth];
         } else {
-            return Judged::Ill;
+            return false;
         }
     }
 }
 
 // Whether a tape and its store are well formed but for keys that repeat an earlier one.
-fn formed(tape: &[u8], store: &[u8]) -> Judged
-    ensures { Forms tape.now store.now result }
+fn formed(tape: &[u8], store: &[u8]) -> bool
+    ensures { Decides (Formed tape.now store.now) result }
 {
-    if sized(tape, store) {
-        return records(tape, store, tape.len() / RECORD_SIZE);
-    }
-    Judged::Ill
+    sized(tape, store) && records(tape, store, tape.len() / RECORD_SIZE)
 }
 
-// Whether a tape and its store are well formed.
-pub fn judge(tape: &[u8], store: &[u8]) -> Judged
+// Whether a tape and its store are well formed; else refusal 10 at 0.
+pub fn judge(tape: &[u8], store: &[u8]) -> Result<(), Refusal>
     ensures { Judges tape.now store.now result }
 {
-    match formed(tape, store) {
-        Judged::Ill => Judged::Ill,
-        Judged::Well => {
-            if key::first_repeat(tape, store, tape.len() / RECORD_SIZE) == 0 {
-                return Judged::Well;
-            }
-            Judged::Ill
-        }
+    if formed(tape, store) && key::first_repeat(tape, store, tape.len() / RECORD_SIZE) == 0 {
+        return Ok(());
     }
+    Err(Refusal::NotWellFormed(0))
 }

@@ -25,27 +25,6 @@ struct Words {
     high: u64,
 }
 
-// What stands in sixteen bytes: a record, whatever its fields hold, or none.
-#[derive(Clone, Copy)]
-enum Shape {
-    Record(Record),
-    Junk,
-}
-
-// What `look` answers.
-#[derive(Clone, Copy)]
-pub enum Looked {
-    Record(Record),
-    Refused(Refusal),
-}
-
-// What `judge` answers: refusal 10 at 0 where the tape and store are not well formed.
-#[derive(Clone, Copy)]
-pub enum Judged {
-    Well,
-    Ill,
-}
-
 // Put the record at this index, where the tape has sixteen bytes for it; else nothing is written, so that measuring is the
 // same walk over empty buffers.
 pub fn put_record(tape: &mut [u8], index: usize, r: Record)
@@ -60,21 +39,16 @@ pub fn put_record(tape: &mut [u8], index: usize, r: Record)
 }
 
 // Look at one record: 14, then 10 at the index. Any index, any bytes, any lengths.
-pub fn look(tape: &[u8], store: &[u8], index: usize) -> Looked
+pub fn look(tape: &[u8], store: &[u8], index: usize) -> Result<Record, Refusal>
     ensures { Looks tape.now store.now index result }
 {
     let whole = tape.len() / RECORD_SIZE;
     if index >= whole {
-        return Looked::Refused(Refusal::NoSuchRecord(index));
+        return Err(Refusal::NoSuchRecord(index));
     }
     match four_words::shape_at(tape, index * RECORD_SIZE) {
-        Shape::Junk => Looked::Refused(Refusal::NotWellFormed(index)),
-        Shape::Record(r) => {
-            if fields::own_fields(r, index, whole, store) {
-                return Looked::Record(r);
-            }
-            Looked::Refused(Refusal::NotWellFormed(index))
-        }
+        Some(r) if fields::own_fields(r, index, whole, store) => Ok(r),
+        _ => Err(Refusal::NotWellFormed(index)),
     }
 }
 

@@ -7,7 +7,6 @@ ghost use Rattle.std.specs.Prelude.{◌≤◌, ◌<◌, ◌^◌};
 
 use meaning::{Date, Number, Record, Time};
 use std::io;
-use tape::{Judged, Looked};
 
 // ---- the decoder
 
@@ -357,16 +356,8 @@ fn put_again(t: &[u8], index: usize, r: Record) -> Outcome {
 // The record at this index, looked at and put again.
 fn taken(t: &[u8], s: &[u8], index: usize) -> Outcome {
     match tape::look(t, s, index) {
-        Looked::Refused(_) => Outcome::Refused,
-        Looked::Record(r) => put_again(t, index, r),
-    }
-}
-
-// Whether `judge` finds the tape well formed.
-fn is_well(t: &[u8], s: &[u8]) -> bool {
-    match tape::judge(t, s) {
-        Judged::Well => true,
-        Judged::Ill => false,
+        Ok(r) => put_again(t, index, r),
+        Err(_) => Outcome::Refused,
     }
 }
 
@@ -403,7 +394,7 @@ fn tried(t: &[u8], s: &[u8], index: usize) -> Tally
     let stands = decoder(t, index, 9);
     Tally {
         faults: fault(stands, taken(t, s, index)),
-        well: count(is_well(t, s)),
+        well: count(tape::judge(t, s).is_ok()),
         good: count(stands),
     }
 }

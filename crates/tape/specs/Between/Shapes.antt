@@ -1,5 +1,5 @@
 -- What the functions between sixteen bytes and a record (docs/FORMAT.md, 11.1) promise their callers. Assumes nothing.
-use Rattle.std.specs.Prelude.{◌≡◌, Bool, true, false, cond, List, ℕ, ◌+◌, ◌/◌, ◌%◌, ◌<◌, ◌^◌, eqb}
+use Rattle.std.specs.Prelude.{◌≡◌, Bool, true, false, cond, Option, Some, None, List, ℕ, ◌+◌, ◌/◌, ◌%◌, ◌<◌, ◌^◌, eqb}
 use Rattle.std.specs.Int.{w16, w32}
 use Rattle.std.proofs.Common.{to_z}
 use Rattle.meaning.specs.declared.Number.{Number}
@@ -11,7 +11,6 @@ use Rattle.meaning.specs.Between.Words.{get}
 use Rattle.meaning.specs.Tape.{record_bytes}
 use Rattle.meaning.specs.Between.Words.{mark, mark_of, low_of, mid_of, high_of, four_words, Fit}
 use Rattle.tape.specs.declared.Words.{Words}
-use Rattle.tape.specs.declared.Shape.{Shape}
 
 -- these are the four numbers of r
 pub record Worded (r : Record) (w : Words) : Type 0 where
@@ -83,9 +82,9 @@ pub record Common (w : Words) (b : Bool) : Type 0 where
   pub worded : b ≡ true → Worded (only_record w) w
 
 -- a record whose numbers are these, or no record has them
-pub data Shaped (w : Words) : Shape → Type 0 where
-  shaped : {r : Record} → Fit r → Worded r w → Shaped w (Shape.Record r)
-  junk : ((r : Record) → Fit r → Worded r w → ⊥) → Shaped w Shape.Junk
+pub data Shaped (w : Words) : Option Record → Type 0 where
+  shaped : {r : Record} → Fit r → Worded r w → Shaped w (Some r)
+  junk : ((r : Record) → Fit r → Worded r w → ⊥) → Shaped w None
 
 -- the four numbers in the sixteen bytes from the place p
 abbrev pub words_at : List ℕ → ℕ → Words

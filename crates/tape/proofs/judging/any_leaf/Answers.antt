@@ -6,14 +6,10 @@ use Rattle.tape.proofs.JudgingWholeLaws.{record_inside}
 use Rattle.tape.proofs.judging.any_leaf.Goals as goal
 
 pub leaf-requires : goal.leaf-requires
-leaf-requires c = omega (
-  arith,
-  record_inside (looked_record c.look.ensures c.in-Record.is),
-  c.requires,
-)
+leaf-requires c = omega (arith, record_inside (looked_record c.in-Ok.ensures), c.requires)
 
-pub returns-in-Refused : goal.returns-in-Refused
-returns-in-Refused c = none_there (refused c.look.ensures c.in-Refused.is)
+pub returns-in-Ok : goal.returns-in-Ok
+returns-in-Ok c = leaf _ (looked_record c.in-Ok.ensures) c.leaf.ensures
 
-pub returns-in-Record : goal.returns-in-Record
-returns-in-Record c = leaf _ (looked_record c.look.ensures c.in-Record.is) c.leaf.ensures
+pub returns-in-Err : goal.returns-in-Err
+returns-in-Err c = none_there (refused c.in-Err.ensures)
