@@ -6,14 +6,6 @@ ghost use Rattle.meaning.specs.Look.{Inside, Utf8Inside, Ends, OwnFields};
 ghost use Rattle.rules.specs.Between.Tests.{Decides};
 
 use meaning::{DAY, Date, Number, OFFSET_LIMIT, POWER_LIMIT, Record, Time};
-use rules::{DateAnswer, Utf8Answer};
-
-// The powers' bounds, and those of the offsets.
-const GREATEST_POWER: i32 = POWER_LIMIT as i32;
-
-const LEAST_POWER: i32 = -GREATEST_POWER;
-
-const LEAST_OFFSET: i16 = -OFFSET_LIMIT;
 
 // Zero has power 0; any other coefficient does not end in the digit 0, and its power lies from -9,999 to 9,999.
 pub fn good_finite(coefficient: u64, power: i32) -> bool
@@ -22,13 +14,7 @@ pub fn good_finite(coefficient: u64, power: i32) -> bool
     if coefficient == 0 {
         return power == 0;
     }
-    if coefficient % 10 == 0 {
-        return false;
-    }
-    if power < LEAST_POWER {
-        return false;
-    }
-    power <= GREATEST_POWER
+    coefficient % 10 != 0 && power.unsigned_abs() as usize <= POWER_LIMIT
 }
 
 // Only a finite number has a rule.
@@ -37,12 +23,11 @@ fn good_number(n: Number) -> bool
 {
     match n {
         Number::Finite {
-            minus: _,
             coefficient,
             power,
+            ..
         } => good_finite(coefficient, power),
-        Number::NotANumber => true,
-        Number::Infinite { minus: _ } => true,
+        Number::NotANumber | Number::Infinite { .. } => true,
     }
 }
 
@@ -50,10 +35,7 @@ fn good_number(n: Number) -> bool
 fn good_date(d: Date) -> bool
     ensures { Decides (GoodDate d) result }
 {
-    match rules::date(d.year as u64, d.month as u64, d.day as u64) {
-        DateAnswer::Done => true,
-        DateAnswer::NoDate => false,
-    }
+    rules::date(u64::from(d.year), u64::from(d.month), u64::from(d.day)).is_ok()
 }
 
 // A time of day is less than a whole day.
@@ -67,10 +49,7 @@ fn good_clock(clock: u64) -> bool
 fn good_offset(offset: i16) -> bool
     ensures { Decides (nat_abs offset ≤ offset_limit) result }
 {
-    if offset < LEAST_OFFSET {
-        return false;
-    }
-    offset <= OFFSET_LIMIT
+    offset.unsigned_abs() <= OFFSET_LIMIT as u16
 }
 
 // Each part that the time type has is good.
@@ -93,36 +72,21 @@ fn good_time(t: Time) -> bool
 fn inside(length: usize, start: usize, store: &[u8]) -> bool
     ensures { Decides (Inside length start store.now) result }
 {
-    let room = store.len();
-    if start <= room {
-        return length <= room - start;
-    }
-    false
+    start <= store.len() && length <= store.len() - start
 }
 
 // Inside the store, and UTF-8.
 pub fn utf8_inside(length: usize, start: usize, store: &[u8]) -> bool
     ensures { Decides (Utf8Inside length start store.now) result }
 {
-    if inside(length, start, store) {
-        let end = start + length;
-        match rules::utf8(&store[start..end]) {
-            Utf8Answer::Done => true,
-            Utf8Answer::IllFormed(_) => false,
-        }
-    } else {
-        false
-    }
+    inside(length, start, store) && rules::utf8(&store[start..start + length]).is_ok()
 }
 
 // A container's end is past its own index and not above the number of whole records.
 pub fn ends(end: usize, index: usize, whole: usize) -> bool
     ensures { Decides (Ends end index whole) result }
 {
-    if index < end {
-        return end <= whole;
-    }
-    false
+    index < end && end <= whole
 }
 
 // The fields of the record at this index, among so many whole records, beside this store.
@@ -130,14 +94,13 @@ pub fn own_fields(r: Record, index: usize, whole: usize, store: &[u8]) -> bool
     ensures { Decides (OwnFields r index whole store.now) result }
 {
     match r {
-        Record::Null => true,
-        Record::Bool(_) => true,
+        Record::Null | Record::Bool(_) => true,
         Record::Number(n) => good_number(n),
-        Record::Str { length, start } => utf8_inside(length, start, store),
-        Record::Key { length, start } => utf8_inside(length, start, store),
+        Record::Str { length, start } | Record::Key { length, start } => utf8_inside(
+            length, start, store,
+        ),
         Record::Bin { length, start } => inside(length, start, store),
         Record::Time(t) => good_time(t),
-        Record::Array { count: _, end } => ends(end, index, whole),
-        Record::Object { count: _, end } => ends(end, index, whole),
+        Record::Array { end, .. } | Record::Object { end, .. } => ends(end, index, whole),
     }
 }

@@ -10,12 +10,6 @@ use Rattle.rules.proofs.TestsLaws.{held, decides_as, fails_too, both_test}
 use Rattle.tape.proofs.fields.good_time.Goals as goal
 use Rattle.tape.proofs.fields.good_time.Goals.{then-good_clock-2, else-good_clock-2}
 
-pub returns-in-LocalDate : goal.returns-in-LocalDate
-returns-in-LocalDate c = rw c.in-LocalDate.is c.good_date.ensures
-
-pub returns-in-LocalTime : goal.returns-in-LocalTime
-returns-in-LocalTime c = rw c.in-LocalTime.is c.good_clock.ensures
-
 pub returns-then-good_clock : goal.returns-then-good_clock
 returns-then-good_clock c = let q = held c.good_clock-in-LocalDateTime.ensures c.if-good_clock.true in
     rw c.in-LocalDateTime.is (decides_as (λ p. (p, q)) (λ p. p.0) c.good_date-then-good_clock.ensures)
