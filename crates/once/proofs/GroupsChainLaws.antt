@@ -8,8 +8,9 @@ use native.Mathlib.Nat.{mod-lt}
 use lib.Dec.{eqb}
 use lib.ListN.{length, get_or, length-append}
 use borrow.Author.Tests.{eqb-true, eqb-false}
+use Rattle.std.specs.Prelude.{Option, Some, None}
 use Rattle.once.specs.Table.{Slot, room, newest_of, Table}
-use Rattle.once.specs.Groups.{flat, base_of, State, Holds, Sane, Owns, own, At, Next, Newest, Stands, Earlier, Placed, Tagged}
+use Rattle.once.specs.Groups.{flat, base_of, State, Holds, Sane, Owns, own, AboveMark, At, Next, Newest, Stands, Earlier, Placed, Tagged}
 use Rattle.once.proofs.GroupsLaws.{slot_at, table_fits, held, Owned, owned_is, no_table}
 
 pub head_of : {x y : Slot} {a b : List Slot} → x ∷ a ≡ y ∷ b → x ≡ y
@@ -105,34 +106,41 @@ sat s o a x b r e f l =
     let w : suc (base_of s.groups + length h.0) ≡ r = omega (arith, z, n) in
     subst (λ (q : ℕ). At s q x) w (At.key a h.0 o.groups o.level h.1.0)
 
--- an answer: the link where it is past the mark, else 0
-pub data Picked (base i : ℕ) : ℕ → Type 0 where
-  it : base < i → Picked base i i
-  none : i ≤ base → Picked base i 0
+none_is : (P : ℕ → Type 0) (i : ℕ) → None ≡ Some i → P i
+none_is P i e = absurd (cc)
 
-pub next_newest : (s : State) (o : Owned s) (n tag i r : ℕ) → 0 < n → i ≡ newest_of n (tag % n) (flat s.groups) → Picked (base_of s.groups) i r
+some_is : (P : ℕ → Type 0) (i j : ℕ) → P i → Some i ≡ Some j → P j
+some_is P i j p e = let z : i ≡ j = cc in subst P z p
+
+pub next_newest : (s : State) (o : Owned s) (n tag i : ℕ) (r : Option ℕ) → 0 < n → i ≡ newest_of n (tag % n) (flat s.groups) → AboveMark (base_of s.groups) i r
     → Next s n (tag % n) (length (flat s.groups)) r
-next_newest s o n tag i r p e (Picked.it l) = go (subst (λ (q : ℕ). Chain n (tag % n) (flat s.groups) q) (sym e) (chain n (tag % n) (flat s.groups)))
+next_newest s o n tag i r p e (AboveMark.inside l) = go (subst (λ (q : ℕ). Chain n (tag % n) (flat s.groups) q) (sym e) (chain n (tag % n) (flat s.groups)))
   where
-    go : Chain n (tag % n) (flat s.groups) i → Next s n (tag % n) (length (flat s.groups)) i
+    go : Chain n (tag % n) (flat s.groups) i → Next s n (tag % n) (length (flat s.groups)) (Some i)
     go c = record {
       below = c.below;
-      is = λ q. ((c.is q).1.0, (sat s o (c.is q).0 (c.is q).1.0 (c.is q).1.1.0 i (c.is q).1.1.1.0 (c.is q).1.1.1.1 l, (c.is q).1.1.1.2));
+      is = λ j e.
+          some_is (λ (k : ℕ). (x : Slot) × (At s k x × (x.1 % n ≡ tag % n))) i j
+          (let y = c.is (omega arith) in (y.1.0, (sat s o y.0 y.1.0 y.1.1.0 i y.1.1.1.0 y.1.1.1.1 l, y.1.1.1.2))) e;
       none = λ j x a u v w. let h = sits s j x a in omega (arith, c.none h.above x h.under h.split w, h.size);
     }
-next_newest s o n tag i r p e (Picked.none l) = go (subst (λ (q : ℕ). Chain n (tag % n) (flat s.groups) q) (sym e) (chain n (tag % n) (flat s.groups)))
+next_newest s o n tag i r p e (AboveMark.outside l) = go (subst (λ (q : ℕ). Chain n (tag % n) (flat s.groups) q) (sym e) (chain n (tag % n) (flat s.groups)))
   where
-    go : Chain n (tag % n) (flat s.groups) i → Next s n (tag % n) (length (flat s.groups)) 0
+    go : Chain n (tag % n) (flat s.groups) i → Next s n (tag % n) (length (flat s.groups)) None
     go c = record {
       below = omega arith;
-      is = λ q. absurd (omega arith);
+      is = λ j e. none_is (λ (k : ℕ). (x : Slot) × (At s k x × (x.1 % n ≡ tag % n))) j e;
       none = λ j x a u v w. let h = sits s j x a in omega (arith, c.none h.above x h.under h.split w, h.size, h.past_base);
     }
 
 -- no group: no key
-pub next_none : (s : State) (n h top : ℕ) → own s.depth s.groups ≡ false → Next s n h top 0
+pub next_none : (s : State) (n h top : ℕ) → own s.depth s.groups ≡ false → Next s n h top None
 unfolding own
-next_none s n h top f = record { below = omega arith; is = λ q. absurd (omega arith); none = λ j x a u v w. go j x a }
+next_none s n h top f = record {
+  below = omega arith;
+  is = λ j e. none_is (λ (k : ℕ). (x : Slot) × (At s k x × (x.1 % n ≡ h))) j e;
+  none = λ j x a u v w. go j x a;
+}
   where
     go : (j : ℕ) (x : Slot) → At s j x → ⊥
     go j x (At.key {g = g} {gs = gs} a b e l k) = eqb-false g.level s.depth (sym (ap (own s.depth) e) ∙ f) l
@@ -141,35 +149,38 @@ next_none s n h top f = record { below = omega arith; is = λ q. absurd (omega a
 pub at_owned : (s : State) (j : ℕ) (x : Slot) → At s j x → Owned s
 at_owned s j x (At.key {g = g} {gs = gs} a b e l k) = record { group = g; rest = gs; groups = e; level = l }
 
-pub next_earlier : (s : State) (j : ℕ) (x : Slot) (t : At s j x) (n i r : ℕ) → i ≡ newest_of n (x.1 % n) (sits s j x t).under → Picked (base_of s.groups) i r
+pub next_earlier : (s : State) (j : ℕ) (x : Slot) (t : At s j x) (n i : ℕ) (r : Option ℕ) → i ≡ newest_of n (x.1 % n) (sits s j x t).under
+    → AboveMark (base_of s.groups) i r
     → Next s n (x.1 % n) (j - 1) r
-next_earlier s j x t n i r e (Picked.it l) = go (sits s j x t) (subst (λ (q : ℕ). Chain n (x.1 % n) (sits s j x t).under q) (sym e)
+next_earlier s j x t n i r e (AboveMark.inside l) = go (sits s j x t) (subst (λ (q : ℕ). Chain n (x.1 % n) (sits s j x t).under q) (sym e)
     (chain n (x.1 % n) (sits s j x t).under))
   where
-    go : (h : Sits s j x) → Chain n (x.1 % n) h.under i → Next s n (x.1 % n) (j - 1) i
+    go : (h : Sits s j x) → Chain n (x.1 % n) h.under i → Next s n (x.1 % n) (j - 1) (Some i)
     go h c = record {
       below = omega (arith, c.below, h.size);
-      is = λ q. (
-        (c.is q).1.0,
-        (
-          sat s (at_owned s j x t) (h.above ++ (x ∷ (c.is q).0)) (c.is q).1.0 (c.is q).1.1.0 i
-              (h.split ∙ ap (λ (z : List Slot). h.above ++ (x ∷ z)) (c.is q).1.1.1.0
-              ∙ sym (append_assoc h.above (x ∷ (c.is q).0) ((c.is q).1.0 ∷ (c.is q).1.1.0))) (c.is q).1.1.1.1 l,
-          (c.is q).1.1.1.2,
-        ),
-      );
+      is = λ k e.
+          some_is (λ (m : ℕ). (y : Slot) × (At s m y × (y.1 % n ≡ x.1 % n))) i k
+          (let y = c.is (omega arith) in (
+            y.1.0,
+            (
+              sat s (at_owned s j x t) (h.above ++ (x ∷ y.0)) y.1.0 y.1.1.0 i
+                  (h.split ∙ ap (λ (z : List Slot). h.above ++ (x ∷ z)) y.1.1.1.0
+                  ∙ sym (append_assoc h.above (x ∷ y.0) (y.1.0 ∷ y.1.1.0))) y.1.1.1.1 l,
+              y.1.1.1.2,
+            ),
+          )) e;
       none = λ m y a u v w.
           let g = sits s m y a in
           let d = cut_below h.above x h.under g.above y g.under (sym h.split ∙ g.split) (omega (arith, h.size, g.size)) in
           omega (arith, c.none d.0 y g.under d.1 w, g.size);
     }
-next_earlier s j x t n i r e (Picked.none l) = go (sits s j x t) (subst (λ (q : ℕ). Chain n (x.1 % n) (sits s j x t).under q) (sym e)
+next_earlier s j x t n i r e (AboveMark.outside l) = go (sits s j x t) (subst (λ (q : ℕ). Chain n (x.1 % n) (sits s j x t).under q) (sym e)
     (chain n (x.1 % n) (sits s j x t).under))
   where
-    go : (h : Sits s j x) → Chain n (x.1 % n) h.under i → Next s n (x.1 % n) (j - 1) 0
+    go : (h : Sits s j x) → Chain n (x.1 % n) h.under i → Next s n (x.1 % n) (j - 1) None
     go h c = record {
       below = omega arith;
-      is = λ q. absurd (omega arith);
+      is = λ k e. none_is (λ (m : ℕ). (y : Slot) × (At s m y × (y.1 % n ≡ x.1 % n))) k e;
       none = λ m y a u v w.
           let g = sits s m y a in
           let d = cut_below h.above x h.under g.above y g.under (sym h.split ∙ g.split) (omega (arith, h.size, g.size)) in
@@ -192,49 +203,32 @@ key_slot seen s h j x t =
 
 -- ---- as the code does it
 
-module _ (seen : List ℕ) (tag head n r : ℕ) (e : n ≡ room seen) (f : head ≡ 11 + 4 * (tag % n)) (own_all : Owns seen true) where
-  newest_by : ((s : State) → Holds seen s → Picked (base_of s.groups) (get_or seen head 0) r) → (s : State) → Holds seen s
-      → Next s (room seen) (tag % room seen) (length (flat s.groups)) r
-  newest_by p s h =
-      let o = owned_is s (sym (own_all s h)) in
-      let t = h.table in
-      let z : head ≡ 11 + 4 * (tag % room seen) = f ∙ ap (λ (q : ℕ). 11 + 4 * (tag % q)) e in
-      next_newest s o (room seen) tag (get_or seen head 0) r t.some (ap (λ (q : ℕ). get_or seen q 0) z ∙ t.heads (tag % room seen) (mod-lt tag t.some))
-      (p s h)
-
 pub newest_it : (seen : List ℕ) (tag head n : ℕ) → 12 ≤ length seen → n ≡ room seen → head ≡ 11 + 4 * (tag % n) → Owns seen true
-    → get_or seen 1 0 < get_or seen head 0 → Newest seen tag (get_or seen head 0)
-newest_it seen tag head n m e f o l = (
-  (λ y. absurd (omega arith)),
-  newest_by seen tag head n (get_or seen head 0) e f o
-      (λ s h. Picked.it (omega (arith, l, h.base))),
-)
+    → {r : Option ℕ} → AboveMark (get_or seen 1 0) (get_or seen head 0) r → Newest seen tag r
+newest_it seen tag head n m e f o {r} w = ((λ y. absurd (omega arith)), λ s h. by s h)
+  where
+    by : (s : State) → Holds seen s → Next s (room seen) (tag % room seen) (length (flat s.groups)) r
+    by s h =
+        let t = h.table in
+        let z : head ≡ 11 + 4 * (tag % room seen) = f ∙ ap (λ (q : ℕ). 11 + 4 * (tag % q)) e in
+        next_newest s (owned_is s (sym (o s h))) (room seen) tag (get_or seen head 0) r t.some
+        (ap (λ (q : ℕ). get_or seen q 0) z ∙ t.heads (tag % room seen) (mod-lt tag t.some)) (rw h.base at w)
 
-pub newest_zero : (seen : List ℕ) (tag head n : ℕ) → 12 ≤ length seen → n ≡ room seen → head ≡ 11 + 4 * (tag % n) → Owns seen true
-    → get_or seen head 0 ≤ get_or seen 1 0 → Newest seen tag 0
-newest_zero seen tag head n m e f o l = ((λ y. absurd (omega arith)), newest_by seen tag head n 0 e f o (λ s h. Picked.none (omega (arith, l, h.base))))
-
-pub newest_short : (seen : List ℕ) (tag : ℕ) → length seen < 12 → Newest seen tag 0
+pub newest_short : (seen : List ℕ) (tag : ℕ) → length seen < 12 → Newest seen tag None
 newest_short seen tag l = ((λ y. refl), λ s h. absurd (no_table seen s l h))
 
-pub newest_other : (seen : List ℕ) (tag : ℕ) → Owns seen false → Newest seen tag 0
+pub newest_other : (seen : List ℕ) (tag : ℕ) → Owns seen false → Newest seen tag None
 newest_other seen tag o = ((λ y. refl), λ s h. next_none s (room seen) (tag % room seen) (length (flat s.groups)) (sym (o s h)))
 
 pub set_short : (seen : List ℕ) → 12 ≤ length seen → Sane seen → length seen < 2 ^ 32
 set_short seen l w = (held seen l w).1.table.short
 
-pub earlier_it : (seen : List ℕ) (j here : ℕ) → here ≡ 8 + 4 * (j - 1) → get_or seen 1 0 < get_or seen (here + 2) 0 → Earlier seen j (get_or seen (here + 2) 0)
-earlier_it seen j here e l s h x t =
+pub earlier_it : (seen : List ℕ) (j here : ℕ) → here ≡ 8 + 4 * (j - 1) → {r : Option ℕ} → AboveMark (get_or seen 1 0) (get_or seen (here + 2) 0) r
+    → Earlier seen j r
+earlier_it seen j here e {r} w s h x t =
     let k = key_slot seen s h j x t in
     let i : here + 2 ≡ 10 + 4 * (j - 1) = omega arith in
-    next_earlier s j x t (room seen) (get_or seen (here + 2) 0) (get_or seen (here + 2) 0) (ap (λ (q : ℕ). get_or seen q 0) i ∙ k.2)
-    (Picked.it (omega (arith, l, h.base)))
-
-pub earlier_zero : (seen : List ℕ) (j here : ℕ) → here ≡ 8 + 4 * (j - 1) → get_or seen (here + 2) 0 ≤ get_or seen 1 0 → Earlier seen j 0
-earlier_zero seen j here e l s h x t =
-    let k = key_slot seen s h j x t in
-    let i : here + 2 ≡ 10 + 4 * (j - 1) = omega arith in
-    next_earlier s j x t (room seen) (get_or seen (here + 2) 0) 0 (ap (λ (q : ℕ). get_or seen q 0) i ∙ k.2) (Picked.none (omega (arith, l, h.base)))
+    next_earlier s j x t (room seen) (get_or seen (here + 2) 0) r (ap (λ (q : ℕ). get_or seen q 0) i ∙ k.2) (rw h.base at w)
 
 pub place_is : (seen : List ℕ) (j here : ℕ) → here ≡ 8 + 4 * (j - 1) → Placed seen j (get_or seen here 0)
 place_is seen j here e s h x t = ap (λ (q : ℕ). get_or seen q 0) e ∙ (key_slot seen s h j x t).0
@@ -247,8 +241,8 @@ stands_fits seen j w = let k = key_slot seen w.0 w.1.0 j w.1.1.0 w.1.1.1 in (k.3
 
 -- ---- from one slot of a chain to the next
 
-pub newest_stands : (seen : List ℕ) (tag r : ℕ) → 12 ≤ length seen → Sane seen → Newest seen tag r → 0 < r → Stands seen r
-newest_stands seen tag r l w n p = let h = held seen l w in let q = (n.1 h.0 h.1).is p in (h.0, (h.1, (q.0, q.1.0)))
+pub newest_stands : (seen : List ℕ) (tag : ℕ) (r : Option ℕ) (i : ℕ) → 12 ≤ length seen → Sane seen → Newest seen tag r → r ≡ Some i → Stands seen i
+newest_stands seen tag r i l w n e = let h = held seen l w in let q = (n.1 h.0 h.1).is i e in (h.0, (h.1, (q.0, q.1.0)))
 
-pub earlier_stands : (seen : List ℕ) (j r : ℕ) → Stands seen j → Earlier seen j r → 0 < r → Stands seen r
-earlier_stands seen j r (s, (h, (x, a))) e p = let q = (e s h x a).is p in (s, (h, (q.0, q.1.0)))
+pub earlier_stands : (seen : List ℕ) (j : ℕ) (r : Option ℕ) (i : ℕ) → Stands seen j → Earlier seen j r → r ≡ Some i → Stands seen i
+earlier_stands seen j r i (s, (h, (x, a))) e f = let q = (e s h x a).is i f in (s, (h, (q.0, q.1.0)))

@@ -8,12 +8,13 @@ use native.Mathlib.Omega.{arith}
 use lib.Dec.{leb}
 use lib.ListN.{length, get_or, replicate, length-replicate}
 use borrow.Author.Tests.{leb-true, leb-false}
+use Rattle.std.specs.Prelude.{Option, Some}
 use Rattle.meaning.specs.Between.Events.{Event, begins, ends, named, Spans}
-use Rattle.once.specs.Table.{Slot, room}
+use Rattle.once.specs.Table.{Slot, room, unless_zero}
 use Rattle.once.specs.Groups.{flat, Holds, Sane, Opens, Does, Begun, start, deeper, shallower, need, taken, marked, naming, Names}
 use Rattle.once.specs.Groups.{FromIs, TwiceIs, StopIs}
 use Rattle.once.specs.Objects.{grouped, state_of}
-use Rattle.once.specs.Windows.{Key, hits, all, Kept, nothing, noted, present, Some, Every, Passes, least, onward, SearchedTo, NoneOrLater}
+use Rattle.once.specs.Windows.{Key, hits, all, Kept, nothing, noted, present, AnyKey, Every, Passes, least, onward, SearchedTo, NoneOrLater}
 use Rattle.once.specs.Keeping.{slots_of, all_slots, held_of, Before, Keeps, Goes}
 use Rattle.once.proofs.GroupsTakingLaws.{zeroes_hold}
 use Rattle.once.proofs.ObjectsLaws.{begin_is, open_is, close_is, take_is, stop_is, after_is, notice_is, Bare, first_fits}
@@ -40,11 +41,11 @@ module _ {Is : ℕ → List ℕ → Type 0} {tag : List ℕ → ℕ} {seen : Lis
   unfolding state_of
   keeps_from r g = g.1 (held_of tag f s) h.holds
 
-  pub keeps_twice : (r : ℕ) → TwiceIs seen r → r ≡ s.twice
+  pub keeps_twice : (r : Option ℕ) → TwiceIs seen r → r ≡ unless_zero s.twice
   unfolding state_of
   keeps_twice r g = g.1 (held_of tag f s) h.holds
 
-  pub keeps_stop : (r : ℕ) → StopIs seen r → r ≡ s.stop
+  pub keeps_stop : (r : Option ℕ) → StopIs seen r → r ≡ unless_zero s.stop
   unfolding state_of
   keeps_stop r g = g.1 (held_of tag f s) h.holds
 
@@ -89,25 +90,25 @@ module _ (Is : ℕ → List ℕ → Type 0) (tag : List ℕ → ℕ) where
 -- ---- what a further key needs
 
 -- no key is taken in, or some
-bare_or_some : (tag : List ℕ → ℕ) (ts : List (List Key)) → Bare (all_slots tag ts) ⊎ Some ts
+bare_or_some : (tag : List ℕ → ℕ) (ts : List (List Key)) → Bare (all_slots tag ts) ⊎ AnyKey ts
 bare_or_some tag [] = inl tt
-bare_or_some tag ((x ∷ k) ∷ ts) = inr Some.here
+bare_or_some tag ((x ∷ k) ∷ ts) = inr AnyKey.here
 bare_or_some tag ([] ∷ ts) = go (bare_or_some tag ts)
   where
-    go : Bare (all_slots tag ts) ⊎ Some ts → Bare ([] ∷ all_slots tag ts) ⊎ Some ([] ∷ ts)
+    go : Bare (all_slots tag ts) ⊎ AnyKey ts → Bare ([] ∷ all_slots tag ts) ⊎ AnyKey ([] ∷ ts)
     go (inl b) = inl (refl, b)
-    go (inr y) = inr (Some.around y)
+    go (inr y) = inr (AnyKey.around y)
 
 -- how many slots are taken with it
 wanted : (List ℕ → ℕ) → List (List Key) → ℕ
 wanted tag ts = length (flat (grouped (all_slots tag ts))) + need (length (all_slots tag ts)) (grouped (all_slots tag ts))
 
 -- where it has none, some key is taken in
-some_full : (tag : List ℕ → ℕ) (ts : List (List Key)) (n : ℕ) → 2 ≤ n → n < wanted tag ts → Some ts
+some_full : (tag : List ℕ → ℕ) (ts : List (List Key)) (n : ℕ) → 2 ≤ n → n < wanted tag ts → AnyKey ts
 unfolding wanted
 some_full tag ts n l m = go (bare_or_some tag ts)
   where
-    go : Bare (all_slots tag ts) ⊎ Some ts → Some ts
+    go : Bare (all_slots tag ts) ⊎ AnyKey ts → AnyKey ts
     go (inl b) = absurd (let y = first_fits n (all_slots tag ts) b l in omega arith)
     go (inr y) = y
 
@@ -220,14 +221,14 @@ module _ {Is : ℕ → List ℕ → Type 0} {tag : List ℕ → ℕ} {seen : Lis
 
 -- after the first
 pub searched_first : {Is : ℕ → List ℕ → Type 0} {tag : List ℕ → ℕ} {seen : List ℕ} {at b : ℕ} {es : List Event} → Goes Is tag seen at 0 nothing es
-    → Spans 1 b es → (t p : ℕ) → TwiceIs seen t → StopIs seen p → SearchedTo b es t (onward t p)
+    → Spans 1 b es → (t p : Option ℕ) → TwiceIs seen t → StopIs seen p → SearchedTo b es t (onward t p)
 searched_first g w t p i j = rw (keeps_twice g.keeps t i, keeps_stop g.keeps p j) (search_onward (search_begins g.next g.passes w))
 
 -- after each next one
-pub searched_next : {Is : ℕ → List ℕ → Type 0} {tag : List ℕ → ℕ} {seen : List ℕ} {at b f best : ℕ} {es : List Event} → Goes Is tag seen at f nothing es
-    → SearchedTo b es best f → (f ≡ 0 → ⊥) → (t p : ℕ) → TwiceIs seen t → StopIs seen p
+pub searched_next : {Is : ℕ → List ℕ → Type 0} {tag : List ℕ → ℕ} {seen : List ℕ} {at b f : ℕ} {best : Option ℕ} {es : List Event}
+    → Goes Is tag seen at f nothing es → SearchedTo b es best (Some f) → (t p : Option ℕ) → TwiceIs seen t → StopIs seen p
     → SearchedTo b es (least best t) (onward (least best t) p) × NoneOrLater f (onward (least best t) p)
-searched_next {f = f} {best = best} g h n t p i j =
+searched_next {f = f} {best = best} g h t p i j =
     rw (keeps_twice g.keeps t i, keeps_stop g.keeps p j)
-    (let x = search_goes_on h n g.next g.passes in
-    (search_onward x.0, onward_later f (least best g.next.twice) g.next.stop x.1))
+    (let x = search_goes_on h g.next g.passes in
+    (search_onward x.0, onward_later f (least best (unless_zero g.next.twice)) (unless_zero g.next.stop) x.1))

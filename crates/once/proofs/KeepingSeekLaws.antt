@@ -7,6 +7,7 @@ use native.Mathlib.Omega.{arith}
 use native.Mathlib.Decide.{dec_lt}
 use lib.Dec.{eqb}
 use lib.ListN.{length, length-append}
+use Rattle.std.specs.Prelude.{Option, Some, None, unwrap_or}
 use borrow.Author.Tests.{eqb-true, eq-eqb}
 use Rattle.meaning.specs.Once.{same}
 use Rattle.once.specs.Table.{Slot, room}
@@ -126,11 +127,11 @@ each_present : (P : Key → Type 0) (ts : List (List Key)) → Every P ts → Ea
 each_present P [] h = tt
 each_present P (k ∷ ts) h = h.0
 
--- ---- the search at the slot i
+-- ---- the search at the slot i, or at its end
 
-pub record Sought (Is : ℕ → List ℕ → Type 0) (tag : List ℕ → ℕ) (seen : List ℕ) (at f : ℕ) (u : List ℕ) (i : ℕ) : Type 0 where
-  pub is : (s : Kept) → Keeps Is tag seen at f s → 0 < i → (x : Slot) × (At (held_of tag f s) i x × (x.1 % room seen ≡ tag u % room seen))
-  pub none : (s : Kept) → Keeps Is tag seen at f s → (j : ℕ) (k : Key) → At (held_of tag f s) j (k.0, tag k.1) → i < j → Is k.0 k.1 → same u k.1
+pub record Sought (Is : ℕ → List ℕ → Type 0) (tag : List ℕ → ℕ) (seen : List ℕ) (at f : ℕ) (u : List ℕ) (i : Option ℕ) : Type 0 where
+  pub is : (s : Kept) → Keeps Is tag seen at f s → (j : ℕ) → i ≡ Some j → (x : Slot) × (At (held_of tag f s) j x × (x.1 % room seen ≡ tag u % room seen))
+  pub none : (s : Kept) → Keeps Is tag seen at f s → (j : ℕ) (k : Key) → At (held_of tag f s) j (k.0, tag k.1) → unwrap_or i 0 < j → Is k.0 k.1 → same u k.1
       ≡ false
 
 at_most : (s : State) (j : ℕ) (x : Slot) → At s j x → j ≤ length (flat s.groups)
@@ -138,75 +139,80 @@ at_most s j x a = let y = sits s j x a in omega (arith, y.size, ap length y.spli
 
 module _ {Is : ℕ → List ℕ → Type 0} {tag : List ℕ → ℕ} {seen : List ℕ} {at f : ℕ} {u : List ℕ} where
   -- at first
-  pub seek_begins : (c i : ℕ) → c ≡ tag u → Newest seen c i → Sought Is tag seen at f u i
+  pub seek_begins : (c : ℕ) (i : Option ℕ) → c ≡ tag u → Newest seen c i → Sought Is tag seen at f u i
   seek_begins c i z n = record {
-    is = λ s h p.
-        let y = (n.1 (held_of tag f s) h.holds).is p in
+    is = λ s h j p.
+        let y = (n.1 (held_of tag f s) h.holds).is j p in
         (y.0, (y.1.0, y.1.1 ∙ ap (λ (x : ℕ). x % room seen) z));
     none = λ s h j k a l g.
         let y = (n.1 (held_of tag f s) h.holds).none j (k.0, tag k.1) a l (at_most (held_of tag f s) j (k.0, tag k.1) a) in
         apart u k.1 (λ e. y (ap (λ (x : ℕ). x % room seen) (ap tag (sym e) ∙ sym z)));
   }
 
-  module _ {i : ℕ} (w : Sought Is tag seen at f u i) where
+  -- none is left
+  pub seek_ends : Sought Is tag seen at f u None → (s : Kept) → Keeps Is tag seen at f s → hits all u (present s.keys) ≡ false
+  seek_ends w s h =
+      hits_none (Before Is at) u (present s.keys) (each_present (Before Is at) s.keys h.are)
+      (λ a k b e g. let y = of_at f s.twice s.stop tag s.keys a k b e in w.none s h y.0 k y.1.0 (omega (arith, y.1.1)) g.0)
+
+  module _ {i : ℕ} (w : Sought Is tag seen at f u (Some i)) where
     -- a slot that is there, and its key
-    pub seek_stands : {s : Kept} → Keeps Is tag seen at f s → 0 < i → Stands seen i
-    seek_stands {s} h p = (held_of tag f s, (h.holds, ((w.is s h p).0, (w.is s h p).1.0)))
+    pub seek_stands : {s : Kept} → Keeps Is tag seen at f s → Stands seen i
+    seek_stands {s} h = let y = w.is s h i refl in (held_of tag f s, (h.holds, (y.0, y.1.0)))
 
-    slot_key : (s : Kept) (h : Keeps Is tag seen at f s) (p : 0 < i) → KeyOf (Before Is at) tag (present s.keys) (w.is s h p).0
-    slot_key s h p = at_of f s.twice s.stop tag (Before Is at) s.keys i (w.is s h p).0 (w.is s h p).1.0 h.are
+    slot_key : (s : Kept) (h : Keeps Is tag seen at f s) → KeyOf (Before Is at) tag (present s.keys) (w.is s h i refl).0
+    slot_key s h = at_of f s.twice s.stop tag (Before Is at) s.keys i (w.is s h i refl).0 (w.is s h i refl).1.0 h.are
 
-    placed_key : (s : Kept) (h : Keeps Is tag seen at f s) (p : 0 < i) (r : ℕ) → Placed seen i r → (slot_key s h p).key.0 ≡ r
-    placed_key s h p r g = sym (g (held_of tag f s) h.holds (w.is s h p).0 (w.is s h p).1.0 ∙ ap (λ (x : Slot). x.0) (slot_key s h p).slot)
+    placed_key : (s : Kept) (h : Keeps Is tag seen at f s) (r : ℕ) → Placed seen i r → (slot_key s h).key.0 ≡ r
+    placed_key s h r g =
+        sym (g (held_of tag f s) h.holds (w.is s h i refl).0 (w.is s h i refl).1.0 ∙ ap (λ (x : Slot). x.0) (slot_key s h).slot)
 
-    pub seek_key : {s : Kept} → Keeps Is tag seen at f s → 0 < i → (r : ℕ) → Placed seen i r → (v : List ℕ) × (Is r v × (r < at))
-    seek_key {s} h p r g =
-        let y = slot_key s h p in
-        let e = placed_key s h p r g in
+    pub seek_key : {s : Kept} → Keeps Is tag seen at f s → (r : ℕ) → Placed seen i r → (v : List ℕ) × (Is r v × (r < at))
+    seek_key {s} h r g =
+        let y = slot_key s h in
+        let e = placed_key s h r g in
         (y.key.1, (subst (λ (q : ℕ). Is q y.key.1) e y.is.0, omega (arith, y.is.1)))
 
     -- it is the one sought
-    pub seek_finds : 0 < i → (r : ℕ) → Placed seen i r → ((v : List ℕ) → Is r v → same u v ≡ true) → (s : Kept) → Keeps Is tag seen at f s
+    pub seek_finds : (r : ℕ) → Placed seen i r → ((v : List ℕ) → Is r v → same u v ≡ true) → (s : Kept) → Keeps Is tag seen at f s
         → hits all u (present s.keys) ≡ true
-    seek_finds p r g e s h =
-        let y = slot_key s h p in
-        y.hit u (e y.key.1 (subst (λ (q : ℕ). Is q y.key.1) (placed_key s h p r g) y.is.0))
+    seek_finds r g e s h =
+        let y = slot_key s h in
+        y.hit u (e y.key.1 (subst (λ (q : ℕ). Is q y.key.1) (placed_key s h r g) y.is.0))
 
     -- or not: by its tag, or by its bytes
-    pub seek_falls : {s : Kept} → Keeps Is tag seen at f s → 0 < i → (r : ℕ) → Earlier seen i r → r < i
-    seek_falls {s} h p r g = let y = (g (held_of tag f s) h.holds (w.is s h p).0 (w.is s h p).1.0).below in omega arith
+    pub seek_falls : {s : Kept} → Keeps Is tag seen at f s → (r : Option ℕ) → Earlier seen i r → unwrap_or r 0 < i
+    seek_falls {s} h r g =
+        let x = w.is s h i refl in
+        let y = (g (held_of tag f s) h.holds x.0 x.1.0).below in
+        let z = sits (held_of tag f s) i x.0 x.1.0 in
+        omega (arith, z.size)
 
-    onward : 0 < i → (r : ℕ) → Earlier seen i r → ((s : Kept) → Keeps Is tag seen at f s → (k : Key) → At (held_of tag f s) i (k.0, tag k.1)
+    onward : (r : Option ℕ) → Earlier seen i r → ((s : Kept) → Keeps Is tag seen at f s → (k : Key) → At (held_of tag f s) i (k.0, tag k.1)
         → Is k.0 k.1 → same u k.1 ≡ false) → Sought Is tag seen at f u r
-    onward p r g d = record {
-      is = λ s h z.
-          let y = w.is s h p in
-          let b = (g (held_of tag f s) h.holds y.0 y.1.0).is z in
+    onward r g d = record {
+      is = λ s h j z.
+          let y = w.is s h i refl in
+          let b = (g (held_of tag f s) h.holds y.0 y.1.0).is j z in
           (b.0, (b.1.0, b.1.1 ∙ y.1.1));
       none = λ s h j k a l c. by s h j k a l c (dec_lt i j) (dec_lt j i);
     }
       where
-        by : (s : Kept) (h : Keeps Is tag seen at f s) (j : ℕ) (k : Key) → At (held_of tag f s) j (k.0, tag k.1) → r < j → Is k.0 k.1 → Dec (i < j)
-            → Dec (j < i) → same u k.1 ≡ false
+        by : (s : Kept) (h : Keeps Is tag seen at f s) (j : ℕ) (k : Key) → At (held_of tag f s) j (k.0, tag k.1) → unwrap_or r 0 < j → Is k.0 k.1
+            → Dec (i < j) → Dec (j < i) → same u k.1 ≡ false
         by s h j k a l c (Dec.yes m) z = w.none s h j k a m c
         by s h j k a l c (Dec.no m) (Dec.yes z) =
-            let y = w.is s h p in
+            let y = w.is s h i refl in
             apart u k.1 (λ e. (g (held_of tag f s) h.holds y.0 y.1.0).none j (k.0, tag k.1) a l (omega arith)
             (ap (λ (v : List ℕ). tag v % room seen) (sym e) ∙ sym y.1.1))
         by s h j k a l c (Dec.no m) (Dec.no z) =
             let e : j ≡ i = omega arith in
             d s h k (subst (λ (y : ℕ). At (held_of tag f s) y (k.0, tag k.1)) e a) c
 
-    pub seek_past_tag : 0 < i → (c t : ℕ) → c ≡ tag u → Tagged seen i t → (t ≡ c → ⊥) → (r : ℕ) → Earlier seen i r → Sought Is tag seen at f u r
-    seek_past_tag p c t z g n r b =
-        onward p r b (λ s h k a y. apart u k.1 (λ e. n (g (held_of tag f s) h.holds (k.0, tag k.1) a ∙ ap tag (sym e) ∙ sym z)))
+    pub seek_past_tag : (c t : ℕ) → c ≡ tag u → Tagged seen i t → (t ≡ c → ⊥) → (r : Option ℕ) → Earlier seen i r → Sought Is tag seen at f u r
+    seek_past_tag c t z g n r b =
+        onward r b (λ s h k a y. apart u k.1 (λ e. n (g (held_of tag f s) h.holds (k.0, tag k.1) a ∙ ap tag (sym e) ∙ sym z)))
 
-    pub seek_past : 0 < i → (q : ℕ) → Placed seen i q → ((v : List ℕ) → Is q v → same u v ≡ false) → (r : ℕ) → Earlier seen i r → Sought Is tag seen at f u r
-    seek_past p q g n r b =
-        onward p r b (λ s h k a c. n k.1 (subst (λ (x : ℕ). Is x k.1) (sym (g (held_of tag f s) h.holds (k.0, tag k.1) a)) c))
-
-    -- none is left
-    pub seek_ends : i ≤ 0 → (s : Kept) → Keeps Is tag seen at f s → hits all u (present s.keys) ≡ false
-    seek_ends l s h =
-        hits_none (Before Is at) u (present s.keys) (each_present (Before Is at) s.keys h.are)
-        (λ a k b e g. let y = of_at f s.twice s.stop tag s.keys a k b e in w.none s h y.0 k y.1.0 (omega (arith, y.1.1)) g.0)
+    pub seek_past : (q : ℕ) → Placed seen i q → ((v : List ℕ) → Is q v → same u v ≡ false) → (r : Option ℕ) → Earlier seen i r → Sought Is tag seen at f u r
+    seek_past q g n r b =
+        onward r b (λ s h k a c. n k.1 (subst (λ (x : ℕ). Is x k.1) (sym (g (held_of tag f s) h.holds (k.0, tag k.1) a)) c))

@@ -1,18 +1,19 @@
 -- A pass finds the first key that repeats one of its window; windows one after the other find the first repeated key of all, and each begins after the one
 -- before. Assumes nothing.
-use Prim.Native.Nat.{ℕ, suc, ◌-◌, ◌≤◌, ◌<◌}
+use Prim.Native.Nat.{ℕ, zero, suc, ◌-◌, ◌≤◌, ◌<◌}
 use mathlib.Core.Path.{◌≡◌, refl, sym, ap, ap₂, ◌∙◌}
 use mathlib.Core.Bool.{Bool, true, false, cond, ◌&&◌, ◌||◌}
 use mathlib.Core.Logic.{◌⊎◌, inl, inr}
-use mathlib.Core.Option.{Option, some}
+use mathlib.Core.Option as maybe
 use mathlib.Core.List.{List, [], ◌∷◌, ◌++◌}
 use native.Mathlib.Omega.{arith}
-use native.Mathlib.Decide.{dec_lt}
 use lib.Dec.{eqb, leb, ltb}
 use borrow.Author.Tests.{eqb-true, eqb-false, leb-true, leb-false, le-leb, ltb-true, ltb-false, ne_eqb, lt-leb, lt-ltb, le-ltb}
 use Rattle.meaning.specs.Once.{same}
 use Rattle.meaning.specs.Between.Events.{Event, begins, ends, named, among, first_repeat, Spans}
-use Rattle.once.specs.Windows.{Key, hits, all, repeat_in, window, least, onward, num, Kept, nothing, noted, Some, Passes, Each, Every}
+use Rattle.std.specs.Prelude.{Option, Some, None, IfSome}
+use Rattle.once.specs.Table.{unless_zero}
+use Rattle.once.specs.Windows.{Key, hits, all, repeat_in, window, least, onward, given, Kept, nothing, noted, AnyKey, Passes, Each, Every}
 use Rattle.once.specs.Windows.{SearchedTo, NoneOrLater}
 
 -- ---- one pass after the other
@@ -38,21 +39,30 @@ kept (Passes.takes l x) n = absurd (n refl)
 kept (Passes.stops l m x) n = absurd (n refl)
 
 -- none, or from a place on
-abbrev From : ℕ → ℕ → Type 0
-From a p = (p ≡ 0) ⊎ (a ≤ p)
+abbrev From : ℕ → Option ℕ → Type 0
+From a p = IfSome p (λ q. a ≤ q)
 
-from_less : (a b : ℕ) {p : ℕ} → b ≤ a → From a p → From b p
-from_less a b l (inl h) = inl h
-from_less a b l (inr h) = inr (omega arith)
+from_less : (a b : ℕ) (p : Option ℕ) → b ≤ a → From a p → From b p
+from_less a b None l h = tt
+from_less a b (Some q) l h = omega arith
 
-later : {f : ℕ} {s s' : Kept} {es : List Event} (a b : ℕ) → Passes f s es s' → 0 < a → Spans a b es → s.stop ≡ 0 → From a s'.stop
-later a b Passes.done z w e = inl e
+from_none : (a : ℕ) (p : ℕ) → p ≡ 0 → From a (unless_zero p)
+from_none a p e = rw e tt
+
+from_some : (a : ℕ) (p : ℕ) → (p ≡ 0 → ⊥) → a ≤ p → From a (unless_zero p)
+from_some a zero n l = absurd (n refl)
+from_some a (suc p) n l = l
+
+later : {f : ℕ} {s s' : Kept} {es : List Event} (a b : ℕ) → Passes f s es s' → 0 < a → Spans a b es → s.stop ≡ 0 → From a (unless_zero s'.stop)
+later a b Passes.done z w e = from_none a _ e
 later a b (Passes.opens x) z w e = later a b x z w e
 later a b (Passes.closes x) z w e = later a b x z w e
-later a b (Passes.before {q = q} l x) z w e = from_less (suc q) a (omega (arith, w.0)) (later (suc q) b x (omega arith) w.1 e)
+later a b (Passes.before {q = q} l x) z w e = from_less (suc q) a _ (omega (arith, w.0)) (later (suc q) b x (omega arith) w.1 e)
 later a b (Passes.after l m x) z w e = absurd (m e)
-later a b (Passes.takes {q = q} l x) z w e = from_less (suc q) a (omega (arith, w.0)) (later (suc q) b x (omega arith) w.1 refl)
-later a b (Passes.stops {q = q} l m x) z w e = let h = kept x (λ y. omega (arith, w.0)) in inr (omega (arith, w.0))
+later a b (Passes.takes {q = q} l x) z w e = from_less (suc q) a _ (omega (arith, w.0)) (later (suc q) b x (omega arith) w.1 refl)
+later a b (Passes.stops {q = q} l m x) z w e =
+    let h = kept x (λ y. omega (arith, w.0)) in
+    from_some a _ (λ y. omega (arith, w.0)) (omega (arith, w.0))
 
 -- ---- keys of which something is true
 
@@ -66,9 +76,9 @@ module _ (P Q : Key → Type 0) (f : (k : Key) → P k → Q k) where
   every_map (o ∷ os) h = (each_map o h.0, every_map os h.1)
 
 -- some key is taken in: it is one of which it is true
-some_of : (P : Key → Type 0) (ts : List (List Key)) → Some ts → Every P ts → (k : Key) × P k
-some_of P (o ∷ ts) (Some.here {x = x}) h = (x, h.0.0)
-some_of P (o ∷ ts) (Some.around y) h = some_of P ts y h.1
+some_of : (P : Key → Type 0) (ts : List (List Key)) → AnyKey ts → Every P ts → (k : Key) × P k
+some_of P (o ∷ ts) (AnyKey.here {x = x}) h = (x, h.0.0)
+some_of P (o ∷ ts) (AnyKey.around y) h = some_of P ts y h.1
 some_of P [] s h = elim s [ ]
 
 -- ---- windows move on
@@ -131,15 +141,17 @@ Like W [] (k ∷ ts) = ⊥
 Like W (o ∷ os) [] = ⊥
 Like W (o ∷ os) (k ∷ ts) = ((u : List ℕ) → hits W u o ≡ hits all u k) × Like W os ts
 
-inside_is : (f p e : ℕ) → f ≤ e → From (suc e) p → window f p e ≡ true
-inside_is f p e l (inl z) = rw (le-leb f e l, z)
-inside_is f p e l (inr z) = rw (le-leb f e l, ne_eqb p 0 (λ y. omega arith), lt-ltb e p z)
+inside_is : (f : ℕ) (p : Option ℕ) (e : ℕ) → f ≤ e → From (suc e) p → window f p e ≡ true
+inside_is f None e l h = le-leb f e l
+inside_is f (Some p) e l h = rw (le-leb f e l, lt-ltb e p h)
 
-outside_early : (f p e : ℕ) → e < f → window f p e ≡ false
-outside_early f p e l = rw (lt-leb f e l)
+outside_early : (f : ℕ) (p : Option ℕ) (e : ℕ) → e < f → window f p e ≡ false
+outside_early f None e l = lt-leb f e l
+outside_early f (Some p) e l = rw (lt-leb f e l)
 
-outside_late : (f p e : ℕ) → (p ≡ 0 → ⊥) → p ≤ e → window f p e ≡ false
-outside_late f p e n l = rw (ne_eqb p 0 n, le-ltb e p l) (go (leb f e))
+outside_late : (f p e : ℕ) → (p ≡ 0 → ⊥) → p ≤ e → window f (unless_zero p) e ≡ false
+outside_late f zero e n l = absurd (n refl)
+outside_late f (suc p) e n l = rw (le-ltb e (suc p) l) (go (leb f e))
   where
     go : (x : Bool) → x && false ≡ false
     go true = refl
@@ -158,33 +170,30 @@ hits_nil : (W : ℕ → Bool) (u : List ℕ) → hits W u [] ≡ hits all u []
 unfolding hits
 hits_nil W u = refl
 
-none_before : (f p a : ℕ) (u : List ℕ) (o : List Key) → Each (Past a) o → a ≤ f → hits (window f p) u o ≡ false
+none_before : (f : ℕ) (p : Option ℕ) (a : ℕ) (u : List ℕ) (o : List Key) → Each (Past a) o → a ≤ f → hits (window f p) u o ≡ false
 unfolding hits
 none_before f p a u [] h l = refl
 none_before f p a u (k ∷ o) h l = rw (outside_early f p k.0 (omega (arith, h.0)), none_before f p a u o h.1 l)
 
 -- the first of the two that is there
-abbrev first : ℕ → ℕ → ℕ
-first t r = cond (eqb t 0) r t
+abbrev first : ℕ → Option ℕ → Option ℕ
+first zero r = r
+first (suc t) r = Some (suc t)
 
-notice_first : (t q r : ℕ) (b : Bool) → (q ≡ 0 → ⊥) → first (noted t q b) r ≡ first t (cond b q r)
+notice_first : (t q : ℕ) (r : Option ℕ) (b : Bool) → (q ≡ 0 → ⊥) → first (noted t q b) r ≡ first t (cond b (Some q) r)
 notice_first t q r false n = refl
-notice_first t q r true n = go (eqb t 0) refl
-  where
-    go : (x : Bool) → eqb t 0 ≡ x → cond (eqb (cond x q t) 0) r (cond x q t) ≡ cond x q t
-    go true w = rw (ne_eqb q 0 n)
-    go false w = rw w
+notice_first zero zero r true n = absurd (n refl)
+notice_first zero (suc q) r true n = refl
+notice_first (suc t) q r true n = rw (ne_eqb (suc t) 0 (λ e. omega arith))
 
-first_none : (t : ℕ) → t ≡ first t 0
-first_none t = go (eqb t 0) refl
-  where
-    go : (x : Bool) → eqb t 0 ≡ x → t ≡ cond x 0 t
-    go true w = eqb-true t 0 w
-    go false w = refl
+first_none : (t : ℕ) → unless_zero t ≡ first t None
+first_none zero = refl
+first_none (suc t) = refl
 
 -- one key, however it is taken
-keyed : (W : ℕ → Bool) (o : List Key) (os : List (List Key)) (k : List Key) (t q : ℕ) (u : List ℕ) (es : List Event) (t' : ℕ) → (q ≡ 0 → ⊥) → hits W u o
-    ≡ hits all u k → t' ≡ first (noted t q (hits all u k)) (repeat_in W (((q, u) ∷ o) ∷ os) es) → t' ≡ first t (repeat_in W (o ∷ os) (named q u ∷ es))
+keyed : (W : ℕ → Bool) (o : List Key) (os : List (List Key)) (k : List Key) (t q : ℕ) (u : List ℕ) (es : List Event) (t' : Option ℕ) → (q ≡ 0 → ⊥)
+    → hits W u o ≡ hits all u k → t' ≡ first (noted t q (hits all u k)) (repeat_in W (((q, u) ∷ o) ∷ os) es) → t'
+    ≡ first t (repeat_in W (o ∷ os) (named q u ∷ es))
 unfolding repeat_in
 keyed W o os k t q u es t' n h e =
     e ∙ ap (λ (b : Bool). first (noted t q b) (repeat_in W (((q, u) ∷ o) ∷ os) es)) (sym h)
@@ -203,70 +212,76 @@ stopped_past a n (inl y) = absurd (n y)
 stopped_past a n (inr y) = y
 
 finds : {f : ℕ} {s s' : Kept} {es : List Event} (a b : ℕ) (os : List (List Key)) → Passes f s es s' → 0 < a → Spans a b es → Every (Past a) os
-    → Stopped a s.stop → Like (window f s'.stop) os s.keys → s'.twice ≡ first s.twice (repeat_in (window f s'.stop) os es)
+    → Stopped a s.stop → Like (window f (unless_zero s'.stop)) os s.keys
+    → unless_zero s'.twice ≡ first s.twice (repeat_in (window f (unless_zero s'.stop)) os es)
 unfolding repeat_in
 finds {s = s} a b os Passes.done z w g y l = first_none s.twice
-finds {f = f} {s' = s'} a b os (Passes.opens x) z w g y l = finds a b ([] ∷ os) x z w (tt, g) y ((λ u. hits_nil (window f s'.stop) u), l)
+finds {f = f} {s' = s'} a b os (Passes.opens x) z w g y l = finds a b ([] ∷ os) x z w (tt, g) y ((λ u. hits_nil (window f (unless_zero s'.stop)) u), l)
 finds a b [] (Passes.closes x) z w g y l = absurd l
 finds a b (o ∷ os) (Passes.closes x) z w g y l = finds a b os x z w g.1 y l.1
 finds a b [] (Passes.before m x) z w g y l = absurd l
 finds {f = f} {s' = s'} a b (o ∷ os) (Passes.before {q = q} {u = u} m x) z w g y l =
-    rw (none_before f s'.stop a u o g.0 (omega (arith, w.0)))
+    rw (none_before f (unless_zero s'.stop) a u o g.0 (omega (arith, w.0)))
     (finds (suc q) b (((q, u) ∷ o) ∷ os) x (omega arith) w.1 (past_more a q u o os w.0 g) (stopped_on a (suc q) (omega (arith, w.0)) y)
-    ((λ v. hits_less (window f s'.stop) v q u o (outside_early f s'.stop q m) ∙ l.0 v), l.1))
+    ((λ v. hits_less (window f (unless_zero s'.stop)) v q u o (outside_early f (unless_zero s'.stop) q m) ∙ l.0 v), l.1))
 finds a b [] (Passes.after m n x) z w g y l = absurd l
 finds {f = f} {s' = s'} a b (o ∷ os) (Passes.after {k = k} {t = t} {q = q} {u = u} {es = es} m n x) z w g y l =
     let e = kept x n in
     let p = stopped_past a n y in
-    keyed (window f s'.stop) o os k t q u es s'.twice (λ i. omega (arith, w.0)) (l.0 u)
+    keyed (window f (unless_zero s'.stop)) o os k t q u es (unless_zero s'.twice) (λ i. omega (arith, w.0)) (l.0 u)
     (finds (suc q) b (((q, u) ∷ o) ∷ os) x (omega arith) w.1 (past_more a q u o os w.0 g) (stopped_on a (suc q) (omega (arith, w.0)) y)
-    ((λ v. hits_less (window f s'.stop) v q u o (outside_late f s'.stop q (λ i. n (sym e ∙ i)) (omega (arith, w.0))) ∙ l.0 v), l.1))
+    ((λ v. hits_less (window f (unless_zero s'.stop)) v q u o (outside_late f s'.stop q (λ i. n (sym e ∙ i)) (omega (arith, w.0))) ∙ l.0 v), l.1))
 finds a b [] (Passes.takes m x) z w g y l = absurd l
 finds {f = f} {s' = s'} a b (o ∷ os) (Passes.takes {k = k} {t = t} {q = q} {u = u} {es = es} m x) z w g y l =
-    keyed (window f s'.stop) o os k t q u es s'.twice (λ i. omega (arith, w.0)) (l.0 u)
-    (finds (suc q) b (((q, u) ∷ o) ∷ os) x (omega arith) w.1 (past_more a q u o os w.0 g) (inl refl)
-    ((λ v. hits_more (window f s'.stop) v q u o k (inside_is f s'.stop q m (later (suc q) b x (omega arith) w.1 refl)) (l.0 v)), l.1))
+    keyed (window f (unless_zero s'.stop)) o os k t q u es (unless_zero s'.twice) (λ i. omega (arith, w.0)) (l.0 u)
+    (finds (suc q) b (((q, u) ∷ o) ∷ os) x (omega arith) w.1 (past_more a q u o os w.0 g) (inl refl) (
+      (λ v. hits_more (window f (unless_zero s'.stop)) v q u o k (inside_is f (unless_zero s'.stop) q m (later (suc q) b x (omega arith) w.1 refl)) (l.0 v)),
+      l.1,
+    ))
 finds a b [] (Passes.stops m n x) z w g y l = absurd l
 finds {f = f} {s' = s'} a b (o ∷ os) (Passes.stops {k = k} {t = t} {q = q} {u = u} {es = es} m n x) z w g y l =
     let i : q ≡ 0 → ⊥ = λ j. omega (arith, w.0) in
     let e = kept x i in
-    keyed (window f s'.stop) o os k t q u es s'.twice i (l.0 u)
+    keyed (window f (unless_zero s'.stop)) o os k t q u es (unless_zero s'.twice) i (l.0 u)
     (finds (suc q) b (((q, u) ∷ o) ∷ os) x (omega arith) w.1 (past_more a q u o os w.0 g) (inr (omega arith))
-    ((λ v. hits_less (window f s'.stop) v q u o (outside_late f s'.stop q (λ j. i (sym e ∙ j)) (omega arith)) ∙ l.0 v), l.1))
+    ((λ v. hits_less (window f (unless_zero s'.stop)) v q u o (outside_late f s'.stop q (λ j. i (sym e ∙ j)) (omega arith)) ∙ l.0 v), l.1))
 
 -- a pass finds the first key that repeats one of its window
-pass_finds : (f b : ℕ) (es : List Event) (s : Kept) → Passes f nothing es s → Spans 1 b es → s.twice ≡ repeat_in (window f s.stop) [] es
+pass_finds : (f b : ℕ) (es : List Event) (s : Kept) → Passes f nothing es s → Spans 1 b es → unless_zero s.twice
+    ≡ repeat_in (window f (unless_zero s.stop)) [] es
 pass_finds f b es s x w = finds 1 b [] x (omega arith) w tt (inl refl) tt
 
 -- ---- windows one after the other
 
-least_first : (q r : ℕ) → (q ≡ 0 → ⊥) → From (suc q) r → least q r ≡ q
-least_first q r n (inl e) = rw (ne_eqb q 0 n, e)
-least_first q r n (inr l) = rw (ne_eqb q 0 n, ne_eqb r 0 (λ y. omega arith), le-leb q r (omega arith))
+least_first : (q : ℕ) (r : Option ℕ) → From (suc q) r → least (Some q) r ≡ Some q
+least_first q None h = refl
+least_first q (Some r) h = ap (λ (x : ℕ). Some x) (omega arith)
 
-least_second : (q r : ℕ) → (q ≡ 0 → ⊥) → From (suc q) r → least r q ≡ q
-least_second q r n (inl e) = rw e
-least_second q r n (inr l) = rw (ne_eqb q 0 n, ne_eqb r 0 (λ y. omega arith), lt-leb r q l)
+least_second : (q : ℕ) (r : Option ℕ) → From (suc q) r → least r (Some q) ≡ Some q
+least_second q None h = refl
+least_second q (Some r) h = ap (λ (x : ℕ). Some x) (omega arith)
 
-least_same : (q : ℕ) → (q ≡ 0 → ⊥) → least q q ≡ q
-least_same q n = rw (ne_eqb q 0 n, le-leb q q (omega arith))
+least_same : (q : ℕ) → least (Some q) (Some q) ≡ Some q
+least_same q = ap (λ (x : ℕ). Some x) (omega arith)
 
 -- a repeated key is no earlier than the events
 repeat_past : (W : ℕ → Bool) (es : List Event) (os : List (List Key)) (a b : ℕ) → Spans a b es → From a (repeat_in W os es)
 unfolding repeat_in
-repeat_past W [] os a b s = inl refl
+repeat_past W [] os a b s = tt
 repeat_past W (begins ∷ es) os a b s = repeat_past W es ([] ∷ os) a b s
 repeat_past W (ends ∷ es) [] a b s = repeat_past W es [] a b s
 repeat_past W (ends ∷ es) (o ∷ os) a b s = repeat_past W es os a b s
-repeat_past W (named q u ∷ es) [] a b s = from_less (suc q) a (omega (arith, s.0)) (repeat_past W es [] (suc q) b s.1)
-repeat_past W (named q u ∷ es) (o ∷ os) a b s = go (hits W u o) (repeat_past W es (((q, u) ∷ o) ∷ os) (suc q) b s.1)
+repeat_past W (named q u ∷ es) [] a b s =
+    from_less (suc q) a (repeat_in W [] es) (omega (arith, s.0)) (repeat_past W es [] (suc q) b s.1)
+repeat_past W (named q u ∷ es) (o ∷ os) a b s =
+    go (hits W u o) (repeat_in W (((q, u) ∷ o) ∷ os) es) (repeat_past W es (((q, u) ∷ o) ∷ os) (suc q) b s.1)
   where
-    go : {n : ℕ} (x : Bool) → From (suc q) n → From a (cond x q n)
-    go true h = inr s.0
-    go false h = from_less (suc q) a (omega (arith, s.0)) h
+    go : (x : Bool) (n : Option ℕ) → From (suc q) n → From a (cond x (Some q) n)
+    go true n h = s.0
+    go false n h = from_less (suc q) a n (omega (arith, s.0)) h
 
 -- nor is the first of all
-pub first_past : (es : List Event) (os : List (List (List ℕ))) (a b q : ℕ) → Spans a b es → first_repeat os es ≡ some q → a ≤ q
+pub first_past : (es : List Event) (os : List (List (List ℕ))) (a b q : ℕ) → Spans a b es → first_repeat os es ≡ maybe.some q → a ≤ q
 unfolding first_repeat
 first_past [] os a b q h e = absurd (let z : ◌≡◌ {A = ℕ} 0 1 = cc in omega arith)
 first_past (begins ∷ es) os a b q h e = first_past es ([] ∷ os) a b q h e
@@ -275,7 +290,8 @@ first_past (ends ∷ es) (o ∷ os) a b q h e = first_past es os a b q h e
 first_past (named p u ∷ es) [] a b q h e = let z = first_past es [] (suc p) b q h.1 e in omega (arith, h.0)
 first_past (named p u ∷ es) (o ∷ os) a b q h e = go (among u o) (λ f. first_past es ((u ∷ o) ∷ os) (suc p) b q h.1 f) e
   where
-    go : (t : Bool) → (first_repeat ((u ∷ o) ∷ os) es ≡ some q → suc p ≤ q) → cond t (some p) (first_repeat ((u ∷ o) ∷ os) es) ≡ some q → a ≤ q
+    go : (t : Bool) → (first_repeat ((u ∷ o) ∷ os) es ≡ maybe.some q → suc p ≤ q) → cond t (maybe.some p) (first_repeat ((u ∷ o) ∷ os) es) ≡ maybe.some q
+        → a ≤ q
     go true f g = let z : p ≡ q = cc in omega (arith, h.0)
     go false f g = let z = f g in omega (arith, h.0)
 
@@ -307,17 +323,16 @@ repeat_either W X (ends ∷ es) (o ∷ os) a b z s = repeat_either W X es os a b
 repeat_either W X (named q u ∷ es) [] a b z s = repeat_either W X es [] (suc q) b (omega arith) s.1
 repeat_either W X (named q u ∷ es) (o ∷ os) a b z s =
     rw (hits_either W X u o)
-    (go (hits W u o) (hits X u o) (repeat_past W es (((q, u) ∷ o) ∷ os) (suc q) b s.1) (repeat_past X es (((q, u) ∷ o) ∷ os) (suc q) b s.1)
+    (go (repeat_in W (((q, u) ∷ o) ∷ os) es) (repeat_in X (((q, u) ∷ o) ∷ os) es) (hits W u o) (hits X u o) (repeat_past W es (((q, u) ∷ o) ∷ os) (suc q) b s.1)
+    (repeat_past X es (((q, u) ∷ o) ∷ os) (suc q) b s.1)
     (repeat_either W X es (((q, u) ∷ o) ∷ os) (suc q) b (omega arith) s.1))
   where
-    n : q ≡ 0 → ⊥
-    n e = omega (arith, s.0)
-
-    go : {c d e : ℕ} (x y : Bool) → From (suc q) c → From (suc q) d → least c d ≡ e → least (cond x q c) (cond y q d) ≡ cond (x || y) q e
-    go {c} {d} true true h k w = least_same q n
-    go {c} {d} true false h k w = least_first q d n k
-    go {c} {d} false true h k w = least_second q c n h
-    go {c} {d} false false h k w = w
+    go : {e : Option ℕ} (c d : Option ℕ) (x y : Bool) → From (suc q) c → From (suc q) d → least c d ≡ e
+        → least (cond x (Some q) c) (cond y (Some q) d) ≡ cond (x || y) (Some q) e
+    go c d true true h k w = least_same q
+    go c d true false h k w = least_first q d k
+    go c d false true h k w = least_second q c h
+    go c d false false h k w = w
 
 module _ (W X : ℕ → Bool) (f : (e : ℕ) → W e ≡ X e) where
   hits_cong : (u : List ℕ) (o : List Key) → hits W u o ≡ hits X u o
@@ -335,34 +350,36 @@ module _ (W X : ℕ → Bool) (f : (e : ℕ) → W e ≡ X e) where
   repeat_cong (named q u ∷ es) (o ∷ os) = rw (hits_cong u o, repeat_cong es (((q, u) ∷ o) ∷ os))
 
 -- a window and the next are one
-joined : (f p : ℕ) → (f ≡ 0 → ⊥) → From f p → (e : ℕ) → either (window 0 f) (window f p) e ≡ window 0 p e
-joined f p n w e = rw (ne_eqb f 0 n, le-leb 0 e (omega arith)) (go (ltb e f) refl (leb f e) refl (eqb p 0) refl (ltb e p) refl)
+joined : (f : ℕ) (p : Option ℕ) → From f p → (e : ℕ) → either (window 0 (Some f)) (window f p) e ≡ window 0 p e
+joined f None w e = rw (le-leb 0 e (omega arith)) (go (ltb e f) refl (leb f e) refl)
   where
-    over : eqb p 0 ≡ false → ltb e f ≡ true → ltb e p ≡ false → From f p → ⊥
-    over c a d (inl h) = eqb-false p 0 c h
-    over c a d (inr h) = omega (arith, ltb-true e f a, ltb-false e p d)
+    go : (x : Bool) → ltb e f ≡ x → (y : Bool) → leb f e ≡ y → x || y ≡ true
+    go true a y b = refl
+    go false a true b = refl
+    go false a false b = absurd (omega (arith, ltb-false e f a, leb-false f e b))
+joined f (Some p) w e = rw (le-leb 0 e (omega arith)) (go (ltb e f) refl (leb f e) refl (ltb e p) refl)
+  where
+    go : (x : Bool) → ltb e f ≡ x → (y : Bool) → leb f e ≡ y → (v : Bool) → ltb e p ≡ v → x || (y && v) ≡ v
+    go true a y b true d = refl
+    go true a y b false d = absurd (omega (arith, ltb-true e f a, ltb-false e p d))
+    go false a true b v d = refl
+    go false a false b v d = absurd (omega (arith, ltb-false e f a, leb-false f e b))
 
-    go : (x : Bool) → ltb e f ≡ x → (y : Bool) → leb f e ≡ y → (z : Bool) → eqb p 0 ≡ z → (v : Bool) → ltb e p ≡ v → x || (y && (z || v)) ≡ z || v
-    go true a y b true c v d = refl
-    go true a y b false c true d = refl
-    go true a y b false c false d = absurd (over c a d w)
-    go false a true b z c v d = refl
-    go false a false b z c v d = absurd (omega (arith, ltb-false e f a, leb-false f e b))
-
-stop_from : (f b : ℕ) (es : List Event) (s : Kept) → Passes f nothing es s → Spans 1 b es → From f s.stop
+stop_from : (f b : ℕ) (es : List Event) (s : Kept) → Passes f nothing es s → Spans 1 b es → From f (unless_zero s.stop)
 stop_from f b es s x w = go (eqb s.stop 0) refl
   where
-    go : (e : Bool) → eqb s.stop 0 ≡ e → From f s.stop
-    go true e = inl (eqb-true s.stop 0 e)
-    go false e = let h = moves_on f 1 b es s x w (λ z. eqb-false s.stop 0 e z) in inr (omega arith)
+    go : (e : Bool) → eqb s.stop 0 ≡ e → From f (unless_zero s.stop)
+    go true e = from_none f _ (eqb-true s.stop 0 e)
+    go false e = let h = moves_on f 1 b es s x w (eqb-false s.stop 0 e) in from_some f _ (eqb-false s.stop 0 e) (omega arith)
 
 -- a window after others
-window_next : (best f b : ℕ) (es : List Event) (s : Kept) → (f ≡ 0 → ⊥) → best ≡ repeat_in (window 0 f) [] es → Passes f nothing es s → Spans 1 b es
-    → least best s.twice ≡ repeat_in (window 0 s.stop) [] es
-window_next best f b es s n e x w =
+window_next : (best : Option ℕ) (f b : ℕ) (es : List Event) (s : Kept) → best ≡ repeat_in (window 0 (Some f)) [] es → Passes f nothing es s
+    → Spans 1 b es → least best (unless_zero s.twice) ≡ repeat_in (window 0 (unless_zero s.stop)) [] es
+window_next best f b es s e x w =
     ap₂ least e (pass_finds f b es s x w)
-    ∙ repeat_either (window 0 f) (window f s.stop) es [] 1 b (omega arith) w
-    ∙ repeat_cong (either (window 0 f) (window f s.stop)) (window 0 s.stop) (joined f s.stop n (stop_from f b es s x w)) es []
+    ∙ repeat_either (window 0 (Some f)) (window f (unless_zero s.stop)) es [] 1 b (omega arith) w
+    ∙ repeat_cong (either (window 0 (Some f)) (window f (unless_zero s.stop))) (window 0 (unless_zero s.stop))
+    (joined f (unless_zero s.stop) (stop_from f b es s x w)) es []
 
 keys_only : List Key → List (List ℕ)
 keys_only [] = []
@@ -377,7 +394,7 @@ unfolding hits among keys_only
 hits_among u [] = refl
 hits_among u (k ∷ o) = ap (cond (same u k.1) true) (hits_among u o)
 
-repeat_first : (es : List Event) (os : List (List Key)) → repeat_in all os es ≡ num (first_repeat (all_keys os) es)
+repeat_first : (es : List Event) (os : List (List Key)) → repeat_in all os es ≡ given (first_repeat (all_keys os) es)
 unfolding repeat_in first_repeat all_keys keys_only
 repeat_first [] os = refl
 repeat_first (begins ∷ es) os = repeat_first es ([] ∷ os)
@@ -387,113 +404,104 @@ repeat_first (named q u ∷ es) [] = repeat_first es []
 repeat_first (named q u ∷ es) (o ∷ os) =
     go (first_repeat ((u ∷ keys_only o) ∷ all_keys os) es) (hits all u o) (hits_among u o) (repeat_first es (((q, u) ∷ o) ∷ os))
   where
-    go : {n : ℕ} (m : Option ℕ) (x : Bool) {y : Bool} → x ≡ y → n ≡ num m → cond x q n ≡ num (cond y (some q) m)
+    go : {n : Option ℕ} (m : maybe.Option ℕ) (x : Bool) {y : Bool} → x ≡ y → n ≡ given m → cond x (Some q) n ≡ given (cond y (maybe.some q) m)
     go m true e h = rw (sym e)
     go m false e h = rw (sym e) h
 
 -- with no end left, it is the first repeated key of all
-window_last : (es : List Event) → repeat_in (window 0 0) [] es ≡ num (first_repeat [] es)
+window_last : (es : List Event) → repeat_in (window 0 None) [] es ≡ given (first_repeat [] es)
 unfolding all_keys
-window_last es = repeat_cong (window 0 0) all (λ e. rw (le-leb 0 e (omega arith))) es [] ∙ repeat_first es []
+window_last es = repeat_cong (window 0 None) all (λ e. rw (le-leb 0 e (omega arith))) es [] ∙ repeat_first es []
 
 -- ---- where no further window is needed
 
 -- a key that repeats one of the keys from f on comes after f
-repeat_after : (f p : ℕ) (es : List Event) (os : List (List Key)) (a b : ℕ) → Spans a b es → Every (Past a) os → From (suc f) (repeat_in (window f p) os es)
+repeat_after : (f : ℕ) (p : Option ℕ) (es : List Event) (os : List (List Key)) (a b : ℕ) → Spans a b es → Every (Past a) os
+    → From (suc f) (repeat_in (window f p) os es)
 unfolding repeat_in
-repeat_after f p [] os a b s g = inl refl
+repeat_after f p [] os a b s g = tt
 repeat_after f p (begins ∷ es) os a b s g = repeat_after f p es ([] ∷ os) a b s (tt, g)
 repeat_after f p (ends ∷ es) [] a b s g = repeat_after f p es [] a b s tt
 repeat_after f p (ends ∷ es) (o ∷ os) a b s g = repeat_after f p es os a b s g.1
 repeat_after f p (named q u ∷ es) [] a b s g = repeat_after f p es [] (suc q) b s.1 tt
 repeat_after f p (named q u ∷ es) (o ∷ os) a b s g =
-    go (leb q f) refl (hits (window f p) u o) (λ l. none_before f p a u o g.0 l)
+    go (repeat_in (window f p) (((q, u) ∷ o) ∷ os) es) (leb q f) refl (hits (window f p) u o) (λ l. none_before f p a u o g.0 l)
     (repeat_after f p es (((q, u) ∷ o) ∷ os) (suc q) b s.1 (past_more a q u o os s.0 g))
   where
-    go : {n : ℕ} (x : Bool) → leb q f ≡ x → (y : Bool) → (a ≤ f → y ≡ false) → From (suc f) n → From (suc f) (cond y q n)
-    go true e y h r = rw (h (omega (arith, leb-true q f e, s.0))) r
-    go false e true h r = inr (omega (arith, leb-false q f e))
-    go false e false h r = r
+    go : (n : Option ℕ) (x : Bool) → leb q f ≡ x → (y : Bool) → (a ≤ f → y ≡ false) → From (suc f) n → From (suc f) (cond y (Some q) n)
+    go n true e y h r = rw (h (omega (arith, leb-true q f e, s.0))) r
+    go n false e true h r = omega (arith, leb-false q f e)
+    go n false e false h r = r
 
 -- so the first so far is the first of all where it stands no later
-enough : (best p b : ℕ) (es : List Event) → Spans 1 b es → best ≡ repeat_in (window 0 p) [] es → (best ≡ 0 → ⊥) → best ≤ p
-    → best ≡ repeat_in (window 0 0) [] es
-enough best p b es s e n l =
-    sym (least_first best (repeat_in (window p 0) [] es) n (from_less (suc p) (suc best) (omega arith) (repeat_after p 0 es [] 1 b s tt)))
-    ∙ ap (λ (r : ℕ). least r (repeat_in (window p 0) [] es)) e
-    ∙ repeat_either (window 0 p) (window p 0) es [] 1 b (omega arith) s
-    ∙ repeat_cong (either (window 0 p) (window p 0)) (window 0 0) (joined p 0 (λ z. n (let y : best ≡ 0 = omega arith in y)) (inl refl)) es []
-
--- the next window may begin there
-window_onward : (best p b : ℕ) (es : List Event) → Spans 1 b es → best ≡ repeat_in (window 0 p) [] es → best
-    ≡ repeat_in (window 0 (onward best p)) [] es
-window_onward best p b es s e = go (eqb best 0) refl (leb best p) refl
-  where
-    go : (x : Bool) → eqb best 0 ≡ x → (y : Bool) → leb best p ≡ y → best ≡ repeat_in (window 0 (cond x p (cond y 0 p))) [] es
-    go true i y j = e
-    go false i true j = enough best p b es s e (eqb-false best 0 i) (leb-true best p j)
-    go false i false j = e
-
--- it begins where the last one stopped, or nowhere
-onward_is : (best p : ℕ) → (onward best p ≡ 0) ⊎ (onward best p ≡ p)
-onward_is best p = go (eqb best 0) (leb best p)
-  where
-    go : (x y : Bool) → (cond x p (cond y 0 p) ≡ 0) ⊎ (cond x p (cond y 0 p) ≡ p)
-    go true y = inr refl
-    go false true = inl refl
-    go false false = inr refl
+enough : (best p b : ℕ) (es : List Event) → Spans 1 b es → Some best ≡ repeat_in (window 0 (Some p)) [] es → best ≤ p
+    → Some best ≡ repeat_in (window 0 None) [] es
+enough best p b es s e l =
+    sym (least_first best (repeat_in (window p None) [] es)
+    (from_less (suc p) (suc best) (repeat_in (window p None) [] es) (omega arith) (repeat_after p None es [] 1 b s tt)))
+    ∙ ap (λ (r : Option ℕ). least r (repeat_in (window p None) [] es)) e
+    ∙ repeat_either (window 0 (Some p)) (window p None) es [] 1 b (omega arith) s
+    ∙ repeat_cong (either (window 0 (Some p)) (window p None)) (window 0 None) (joined p None tt) es []
 
 -- ---- the search, window after window
 
 -- where a window stops is below the events' end
-stop_below : (f b : ℕ) (es : List Event) (s : Kept) → Passes f nothing es s → Spans 1 b es → s.stop < b
-stop_below f b es s x w = by (dec_lt 0 s.stop)
+stop_below : (f b : ℕ) (es : List Event) (s : Kept) → Passes f nothing es s → Spans 1 b es → IfSome (unless_zero s.stop) (λ p. p < b)
+stop_below f b es s x w = by s.stop (moves_on f 1 b es s x w)
   where
-    by : Dec (0 < s.stop) → s.stop < b
-    by (Dec.yes l) = (moves_on f 1 b es s x w (λ z. omega arith)).1
-    by (Dec.no l) = omega (arith, spans_order 1 b es w)
+    by : (p : ℕ) → ((p ≡ 0 → ⊥) → (f < p) × (p < b)) → IfSome (unless_zero p) (λ p. p < b)
+    by zero h = tt
+    by (suc p) h = (h (λ z. omega arith)).1
+
+stop_later : (f b : ℕ) (es : List Event) (s : Kept) → Passes f nothing es s → Spans 1 b es → NoneOrLater f (unless_zero s.stop)
+stop_later f b es s x w = by s.stop (moves_on f 1 b es s x w)
+  where
+    by : (p : ℕ) → ((p ≡ 0 → ⊥) → (f < p) × (p < b)) → NoneOrLater f (unless_zero p)
+    by zero h = tt
+    by (suc p) h = (h (λ z. omega arith)).0
 
 module _ {b : ℕ} {es : List Event} where
   -- after the first pass
-  pub search_begins : (s : Kept) → Passes 0 nothing es s → Spans 1 b es → SearchedTo b es s.twice s.stop
+  pub search_begins : (s : Kept) → Passes 0 nothing es s → Spans 1 b es → SearchedTo b es (unless_zero s.twice) (unless_zero s.stop)
   search_begins s x w = record { spans = w; found = pass_finds 0 b es s x w; inside = stop_below 0 b es s x w }
 
   -- after each next one, which stops later than it begins
-  pub search_goes_on : {best f : ℕ} → SearchedTo b es best f → (f ≡ 0 → ⊥) → (s : Kept) → Passes f nothing es s
-      → SearchedTo b es (least best s.twice) s.stop × NoneOrLater f s.stop
-  search_goes_on {best} {f} h n s x = (
-    record { spans = h.spans; found = window_next best f b es s n h.found x h.spans; inside = stop_below f b es s x h.spans },
-    λ o. (moves_on f 1 b es s x h.spans o).0,
+  pub search_goes_on : {best : Option ℕ} {f : ℕ} → SearchedTo b es best (Some f) → (s : Kept) → Passes f nothing es s
+      → SearchedTo b es (least best (unless_zero s.twice)) (unless_zero s.stop) × NoneOrLater f (unless_zero s.stop)
+  search_goes_on {best} {f} h s x = (
+    record { spans = h.spans; found = window_next best f b es s h.found x h.spans; inside = stop_below f b es s x h.spans },
+    stop_later f b es s x h.spans,
   )
 
   -- and where the next may begin
-  pub search_onward : {best p : ℕ} → SearchedTo b es best p → SearchedTo b es best (onward best p)
-  search_onward {best} {p} h =
-      record { spans = h.spans; found = window_onward best p b es h.spans h.found; inside = by (onward_is best p) }
+  pub search_onward : {best p : Option ℕ} → SearchedTo b es best p → SearchedTo b es best (onward best p)
+  search_onward {best = None} {p = p} h = h
+  search_onward {best = Some q} {p = None} h = h
+  search_onward {best = Some q} {p = Some p} h = by (leb q p) refl
     where
-      by : (onward best p ≡ 0) ⊎ (onward best p ≡ p) → onward best p < b
-      by (inl e) = omega (arith, h.inside)
-      by (inr e) = omega (arith, h.inside)
+      by : (x : Bool) → leb q p ≡ x → SearchedTo b es (Some q) (cond x None (Some p))
+      by true e = record { spans = h.spans; found = enough q p b es h.spans h.found (leb-true q p e); inside = tt }
+      by false e = h
 
   -- where none is left, the first repeated key of all is found
-  pub search_ends : {best from : ℕ} → SearchedTo b es best from → from ≡ 0 → best ≡ num (first_repeat [] es)
-  search_ends h e = h.found ∙ ap (λ (p : ℕ). repeat_in (window 0 p) [] es) e ∙ window_last es
+  pub search_ends : {best : Option ℕ} → SearchedTo b es best None → best ≡ given (first_repeat [] es)
+  search_ends h = h.found ∙ window_last es
 
-pub onward_later : (f best p : ℕ) → NoneOrLater f p → NoneOrLater f (onward best p)
-onward_later f best p h n = by (onward_is best p)
+pub onward_later : (f : ℕ) (best p : Option ℕ) → NoneOrLater f p → NoneOrLater f (onward best p)
+onward_later f None p h = h
+onward_later f (Some q) None h = tt
+onward_later f (Some q) (Some p) h = by (leb q p)
   where
-    by : (onward best p ≡ 0) ⊎ (onward best p ≡ p) → f < onward best p
-    by (inl e) = absurd (n e)
-    by (inr e) = let y = h (λ z. n (e ∙ z)) in omega arith
+    by : (x : Bool) → NoneOrLater f (cond x None (Some p))
+    by true = tt
+    by false = h
 
 -- how many windows are left, at most
-abbrev pub windows_left : ℕ → ℕ → ℕ
-windows_left b from = cond (eqb from 0) 0 (b - from)
+abbrev pub windows_left : ℕ → Option ℕ → ℕ
+windows_left b None = 0
+windows_left b (Some p) = b - p
 
-pub fewer_left : {b best from next : ℕ} {es : List Event} → SearchedTo b es best from → (from ≡ 0 → ⊥) → NoneOrLater from next
-    → windows_left b next < windows_left b from
-fewer_left {b} {from = from} {next = next} h n w = rw (ne_eqb from 0 n) (by (eqb next 0) refl)
-  where
-    by : (x : Bool) → eqb next 0 ≡ x → cond x 0 (b - next) < b - from
-    by true e = omega (arith, h.inside)
-    by false e = let g = w (eqb-false next 0 e) in omega (arith, h.inside)
+pub fewer_left : {b from : ℕ} {best : Option ℕ} {es : List Event} → SearchedTo b es best (Some from) → (next : Option ℕ) → NoneOrLater from next
+    → windows_left b next < windows_left b (Some from)
+fewer_left h None w = omega (arith, h.inside)
+fewer_left h (Some p) w = omega (arith, h.inside)

@@ -1,8 +1,8 @@
 -- The keys of the open objects in a table (docs/FORMAT.md, 7.2): each object that has a key in it is a group, begun by
 -- a mark. Assumes nothing.
 use Rattle.std.specs.Prelude.{◌≡◌, Bool, true, false, cond, ◌⊎◌, List, [], ◌∷◌, ◌++◌, ℕ, suc, ◌+◌, ◌-◌, ◌%◌, ◌<◌, ◌≤◌}
-use Rattle.std.specs.Prelude.{eqb, leb, length, get_or}
-use Rattle.once.specs.Table.{Slot, room, Table}
+use Rattle.std.specs.Prelude.{Option, Some, None, eqb, leb, length, get_or, unwrap_or}
+use Rattle.once.specs.Table.{Slot, room, Table, unless_zero}
 
 -- an object's depth, and its keys that are taken in, the newest first
 pub record Group : Type 0 where
@@ -121,25 +121,30 @@ pub data At (s : State) : ℕ → Slot → Type 0 where
   key : {g : Group} {gs : List Group} (a b : List Slot) {x : Slot} → s.groups ≡ g ∷ gs → g.level ≡ s.depth → g.keys
       ≡ a ++ (x ∷ b) → At s (suc (base_of s.groups + length b)) x
 
--- r: the newest slot of the present object in bucket h of n, at most `top`; 0 where there is none
-pub record Next (s : State) (n h top r : ℕ) : Type 0 where
-  pub below : r ≤ top
-  pub is : 0 < r → (x : Slot) × (At s r x × (x.1 % n ≡ h))
-  pub none : (j : ℕ) (x : Slot) → At s j x → r < j → j ≤ top → x.1 % n ≡ h → ⊥
+-- r: the newest slot of the present object in bucket h of n, at most `top`
+pub record Next (s : State) (n h top : ℕ) (r : Option ℕ) : Type 0 where
+  pub below : unwrap_or r 0 ≤ top
+  pub is : (i : ℕ) → r ≡ Some i → (x : Slot) × (At s i x × (x.1 % n ≡ h))
+  pub none : (j : ℕ) (x : Slot) → At s j x → unwrap_or r 0 < j → j ≤ top → x.1 % n ≡ h → ⊥
+
+-- an answer: the link i of a chain, where it leads above the mark, to a slot of the present object
+pub data AboveMark (base i : ℕ) : Option ℕ → Type 0 where
+  inside : base < i → AboveMark base i (Some i)
+  outside : i ≤ base → AboveMark base i None
 
 -- of a table: the present object has a group
 abbrev pub Owns : List ℕ → Bool → Type 0
 Owns seen r = (s : State) → Holds seen s → r ≡ own s.depth s.groups
 
-abbrev pub Newest : List ℕ → ℕ → ℕ → Type 0
-Newest seen tag r = (length seen < 12 → r ≡ 0) × ((s : State) → Holds seen s
+abbrev pub Newest : List ℕ → ℕ → Option ℕ → Type 0
+Newest seen tag r = (length seen < 12 → r ≡ None) × ((s : State) → Holds seen s
     → Next s (room seen) (tag % room seen) (length (flat s.groups)) r)
 
 -- a key of the present object stands there
 abbrev pub Stands : List ℕ → ℕ → Type 0
 Stands seen j = (s : State) × (Holds seen s × ((x : Slot) × At s j x))
 
-abbrev pub Earlier : List ℕ → ℕ → ℕ → Type 0
+abbrev pub Earlier : List ℕ → ℕ → Option ℕ → Type 0
 Earlier seen j r = (s : State) → Holds seen s → (x : Slot) → At s j x → Next s (room seen) (x.1 % room seen) (j - 1) r
 
 abbrev pub Placed : List ℕ → ℕ → ℕ → Type 0
@@ -174,14 +179,15 @@ Names again x before after = (n : ℕ) × (((n ≡ room before) ⊎ (n ≡ 2)) �
 
 -- ---- the header as it is read
 
-abbrev pub Read : (State → ℕ) → List ℕ → ℕ → Type 0
-Read f seen r = (length seen < 12 → r ≡ 0) × ((s : State) → Holds seen s → r ≡ f s)
+-- of a table what its state says; `otherwise` where there is no table
+abbrev pub Read : (A : Type 0) → A → (State → A) → List ℕ → A → Type 0
+Read A otherwise f seen r = (length seen < 12 → r ≡ otherwise) × ((s : State) → Holds seen s → r ≡ f s)
 
 abbrev pub FromIs : List ℕ → ℕ → Type 0
-FromIs seen r = Read (λ s. s.from) seen r
+FromIs seen r = Read ℕ 0 (λ s. s.from) seen r
 
-abbrev pub TwiceIs : List ℕ → ℕ → Type 0
-TwiceIs seen r = Read (λ s. s.twice) seen r
+abbrev pub TwiceIs : List ℕ → Option ℕ → Type 0
+TwiceIs seen r = Read (Option ℕ) None (λ s. unless_zero s.twice) seen r
 
-abbrev pub StopIs : List ℕ → ℕ → Type 0
-StopIs seen r = Read (λ s. s.stop) seen r
+abbrev pub StopIs : List ℕ → Option ℕ → Type 0
+StopIs seen r = Read (Option ℕ) None (λ s. unless_zero s.stop) seen r

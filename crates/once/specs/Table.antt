@@ -1,11 +1,16 @@
 -- A stack of slots kept in lent numbers, for keys (docs/FORMAT.md, 7.2): a slot is a place and a tag; the slots whose
 -- tags are alike modulo how many slots there are stand in one chain, the newest first. Assumes nothing.
-use Rattle.std.specs.Prelude.{◌≡◌, cond, List, [], ◌∷◌, ◌++◌, ℕ, suc, ◌+◌, ◌*◌, ◌-◌, ◌/◌, ◌%◌, ◌<◌, ◌≤◌, ◌^◌, eqb}
-use Rattle.std.specs.Prelude.{length, get_or}
+use Rattle.std.specs.Prelude.{◌≡◌, cond, List, [], ◌∷◌, ◌++◌, ℕ, zero, suc, ◌+◌, ◌*◌, ◌-◌, ◌/◌, ◌%◌, ◌<◌, ◌≤◌, ◌^◌, eqb}
+use Rattle.std.specs.Prelude.{Option, Some, None, length, get_or}
 
 -- a place and a tag
 abbrev pub Slot : Type 0
 Slot = ℕ × ℕ
+
+-- a number of the table, 0 for none
+abbrev pub unless_zero : ℕ → Option ℕ
+unless_zero zero = None
+unless_zero (suc n) = Some (suc n)
 
 -- the first eight numbers are a header; four numbers for each slot
 abbrev pub room : List ℕ → ℕ

@@ -1,9 +1,9 @@
 -- Keys (docs/FORMAT.md, 7.2) taken in from a place on, while there is room, are a window: a pass over the events finds
 -- the first key that repeats one of them. Windows one after the other find the first repeated key of all. Assumes
 -- nothing.
-use Rattle.std.specs.Prelude.{◌≡◌, Bool, true, false, cond, ◌&&◌, ◌||◌, List, [], ◌∷◌, ℕ, zero, suc, ◌≤◌, ◌<◌, eqb, leb}
-use Rattle.std.specs.Prelude.{ltb}
-use Rattle.std.proofs.Math.Option.{Option, none, some}
+use Rattle.std.specs.Prelude.{◌≡◌, Bool, true, false, cond, ◌&&◌, List, [], ◌∷◌, ℕ, zero, suc, ◌≤◌, ◌<◌, eqb, leb}
+use Rattle.std.specs.Prelude.{ltb, min, Option, Some, None, IfSome}
+use Rattle.std.proofs.Math.Option as maybe
 use Rattle.meaning.specs.Once.{same}
 use Rattle.meaning.specs.Between.Events.{Event, begins, ends, named, Spans}
 
@@ -19,32 +19,36 @@ hits W u (k ∷ o) = cond (W k.0 && same u k.1) true (hits W u o)
 abbrev pub all : ℕ → Bool
 all e = true
 
--- the place of the first key that repeats one that W keeps; 0 for none
-unfoldable pub repeat_in : (ℕ → Bool) → List (List Key) → List Event → ℕ
-repeat_in W os [] = 0
+-- the place of the first key that repeats one that W keeps
+unfoldable pub repeat_in : (ℕ → Bool) → List (List Key) → List Event → Option ℕ
+repeat_in W os [] = None
 repeat_in W os (begins ∷ es) = repeat_in W ([] ∷ os) es
 repeat_in W [] (ends ∷ es) = repeat_in W [] es
 repeat_in W (o ∷ os) (ends ∷ es) = repeat_in W os es
 repeat_in W [] (named q u ∷ es) = repeat_in W [] es
-repeat_in W (o ∷ os) (named q u ∷ es) = cond (hits W u o) q (repeat_in W (((q, u) ∷ o) ∷ os) es)
+repeat_in W (o ∷ os) (named q u ∷ es) = cond (hits W u o) (Some q) (repeat_in W (((q, u) ∷ o) ∷ os) es)
 
--- from f on, before p; p is 0 for no end
-abbrev pub window : ℕ → ℕ → ℕ → Bool
-window f p e = leb f e && (eqb p 0 || ltb e p)
+-- from f on, before p where there is one
+abbrev pub window : ℕ → Option ℕ → ℕ → Bool
+window f None e = leb f e
+window f (Some p) e = leb f e && ltb e p
 
--- the lesser of two places, 0 for none
-abbrev pub least : ℕ → ℕ → ℕ
-least a b = cond (eqb a 0) b (cond (eqb b 0) a (cond (leb a b) a b))
+-- the lesser of two places
+abbrev pub least : Option ℕ → Option ℕ → Option ℕ
+least None b = b
+least (Some p) None = Some p
+least (Some p) (Some q) = Some (min p q)
 
--- where the next window begins, 0 for none, after those before p: none is needed where a repeated key stands at p or
--- before it
-abbrev pub onward : ℕ → ℕ → ℕ
-onward best p = cond (eqb best 0) p (cond (leb best p) 0 p)
+-- where the next window begins, after those before p: none is needed where a repeated key stands at p or before it
+abbrev pub onward : Option ℕ → Option ℕ → Option ℕ
+onward None p = p
+onward (Some b) None = None
+onward (Some b) (Some p) = cond (leb b p) None (Some p)
 
--- a place, 0 for none
-abbrev pub num : Option ℕ → ℕ
-num none = 0
-num (some q) = q
+-- a place, as code answers it
+abbrev pub given : maybe.Option ℕ → Option ℕ
+given maybe.none = None
+given (maybe.some q) = Some q
 
 -- ---- a pass
 
@@ -77,9 +81,9 @@ Every P [] = Unit {0}
 Every P (o ∷ os) = Each P o × Every P os
 
 -- some key is taken in
-pub data Some : List (List Key) → Type 0 where
-  here : {x : Key} {k : List Key} {ts : List (List Key)} → Some ((x ∷ k) ∷ ts)
-  around : {k : List Key} {ts : List (List Key)} → Some ts → Some (k ∷ ts)
+pub data AnyKey : List (List Key) → Type 0 where
+  here : {x : Key} {k : List Key} {ts : List (List Key)} → AnyKey ((x ∷ k) ∷ ts)
+  around : {k : List Key} {ts : List (List Key)} → AnyKey ts → AnyKey (k ∷ ts)
 
 -- from one state to another over events, with the keys from f on: each of them is looked for among those taken in, and
 -- is then taken in or, where some are, the first that is not; after that no more are
@@ -104,22 +108,22 @@ pub data Passes (f : ℕ) : Kept → List Event → Kept → Type 0 where
       → Passes f (record { keys = ((q, u) ∷ k) ∷ ts; twice = noted t q (hits all u k); stop = 0 }) es s
       → Passes f (record { keys = k ∷ ts; twice = t; stop = 0 }) (named q u ∷ es) s
   stops : {k : List Key} {ts : List (List Key)} {t q : ℕ} {u : List ℕ} {es : List Event} {s : Kept}
-      → f ≤ q → Some (k ∷ ts)
+      → f ≤ q → AnyKey (k ∷ ts)
       → Passes f (record { keys = k ∷ ts; twice = noted t q (hits all u k); stop = q }) es s
       → Passes f (record { keys = k ∷ ts; twice = t; stop = 0 }) (named q u ∷ es) s
 
 -- ---- windows one after the other
 
--- of the events, whose places are below b, the keys before `from` have been taken in, all where it is 0: `best` is the
--- first key that repeats one of them, 0 for none
-pub record SearchedTo (b : ℕ) (es : List Event) (best from : ℕ) : Type 0 where
+-- of the events, whose places are below b, the keys before `from` have been taken in, all where there is none: `best` is
+-- the first key that repeats one of them
+pub record SearchedTo (b : ℕ) (es : List Event) (best from : Option ℕ) : Type 0 where
   pub spans : Spans 1 b es
   pub found : best ≡ repeat_in (window 0 from) [] es
-  pub inside : from < b
+  pub inside : IfSome from (λ p. p < b)
 
 -- a window from `next` on comes after one from `from` on, or is none
-abbrev pub NoneOrLater : ℕ → ℕ → Type 0
-NoneOrLater from next = (next ≡ 0 → ⊥) → from < next
+abbrev pub NoneOrLater : ℕ → Option ℕ → Type 0
+NoneOrLater from next = IfSome next (λ p. from < p)
 
 -- ---- how deep
 

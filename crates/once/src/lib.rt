@@ -8,9 +8,9 @@
 #![tactic(auto)]
 
 ghost use Rattle.std.specs.Prelude.{◌≡◌, ◌+◌, ◌*◌, ◌-◌, ◌/◌, ◌%◌, ◌^◌, ◌<◌, ◌≤◌, length, get_or};
-ghost use Rattle.once.specs.Table.{room, Roomy, Pushes, Filled, Pops, Above, Drops};
+ghost use Rattle.once.specs.Table.{room, unless_zero, Roomy, Pushes, Filled, Pops, Above, Drops};
 ghost use Rattle.once.specs.Groups.{Sane, Set, Does, without, Begun, Opens, deeper, shallower, taken, noticed, Owns};
-ghost use Rattle.once.specs.Groups.{Newest, Stands, Earlier, Placed, Tagged, marked, Crowds, Names, FromIs, TwiceIs, StopIs};
+ghost use Rattle.once.specs.Groups.{AboveMark, Newest, Stands, Earlier, Placed, Tagged, marked, Crowds, Names, FromIs, TwiceIs, StopIs};
 ghost use Rattle.once.specs.Hash.{stirred, seed, mix, finish};
 ghost use Rattle.once.specs.Windows.{least as lesser, onward};
 
@@ -163,38 +163,40 @@ pub fn closed(seen: &mut [u32])
     }
 }
 
-// The newest slot of the present object in the tag's bucket, or 0.
-pub fn newest(seen: &[u32], tag: u32) -> u32
+// Where a link leads, if to a slot of the present object.
+fn above_mark(seen: &[u32], link: u32) -> Option<u32>
+    requires { 12 ≤ length seen.now }
+    ensures { AboveMark (get_or seen.now 1 0) link result }
+{
+    if link > seen[1] {
+        return Some(link);
+    }
+    None
+}
+
+// The newest slot of the present object in the tag's bucket.
+pub fn newest(seen: &[u32], tag: u32) -> Option<u32>
     requires { Sane seen.now }
     ensures { Newest seen.now tag result }
 {
     let len = seen.len();
     if len < 12 {
-        return 0;
+        return None;
     }
     if !owned(seen) {
-        return 0;
+        return None;
     }
-    let n = slots(len);
-    let head = bucket(tag, n);
-    let i = seen[head];
-    if i > seen[1] {
-        return i;
-    }
-    0
+    let head = bucket(tag, slots(len));
+    above_mark(seen, seen[head])
 }
 
-// The next of them, or 0.
-pub fn earlier(seen: &[u32], at: u32) -> u32
+// The next of them.
+pub fn earlier(seen: &[u32], at: u32) -> Option<u32>
     requires { Stands seen.now at }
     ensures { Earlier seen.now at result }
 {
     let here = slot(at - 1);
-    let i = seen[here + 2];
-    if i > seen[1] {
-        return i;
-    }
-    0
+    above_mark(seen, seen[here + 2])
 }
 
 // Where the key of a slot stands.
@@ -287,12 +289,12 @@ fn crowded(seen: &[u32], tag: u32) -> bool
         return false;
     }
     let mut at = newest(seen, tag);
-    while at > 0 {
+    while let Some(i) = at {
         left -= 1;
         if left == 0 {
             return true;
         }
-        at = earlier(seen, at);
+        at = earlier(seen, i);
     }
     false
 }
@@ -311,54 +313,55 @@ pub fn named(seen: &mut [u32], tag: u32, place: u32, again: bool)
     take_in(seen, tag, place);
 }
 
-// The first key that repeats an earlier one; 0 for none.
-pub fn first_twice(seen: &[u32]) -> usize
+// A number of the header: 0 stands for none.
+fn unless_zero(n: u32) -> Option<usize>
+    ensures { result ≡ unless_zero n }
+{
+    if n == 0 {
+        return None;
+    }
+    Some(n as usize)
+}
+
+// The first key that repeats an earlier one.
+pub fn first_twice(seen: &[u32]) -> Option<usize>
     ensures { TwiceIs seen.now result }
 {
     if seen.len() < 12 {
-        return 0;
+        return None;
     }
-    seen[4] as usize
+    unless_zero(seen[4])
 }
 
-// The first key that was not taken in; 0 for none.
-pub fn stopped(seen: &[u32]) -> usize
+// The first key that was not taken in.
+pub fn stopped(seen: &[u32]) -> Option<usize>
     ensures { StopIs seen.now result }
 {
     if seen.len() < 12 {
-        return 0;
+        return None;
     }
-    seen[5] as usize
+    unless_zero(seen[5])
 }
 
-// The lesser of two places, 0 for none.
-pub fn least(a: usize, b: usize) -> usize
+// The lesser of two places.
+pub fn least(a: Option<usize>, b: Option<usize>) -> Option<usize>
     ensures { result ≡ lesser a b }
 {
-    if a == 0 {
-        return b;
+    match (a, b) {
+        (Some(p), Some(q)) => Some(p.min(q)),
+        _ => a.or(b),
     }
-    if b == 0 {
-        return a;
-    }
-    if a <= b {
-        return a;
-    }
-    b
 }
 
-// Where the next window begins, 0 for none, after one that stopped there: a key that repeats one of the keys from there on
-// comes after them, so none is needed where a repeated key stands before.
-pub fn further(best: usize, stop: usize) -> usize
+// Where the next window begins, after one that stopped there: a key that repeats one of the keys from there on comes after
+// them, so none is needed where a repeated key stands before.
+pub fn further(best: Option<usize>, stop: Option<usize>) -> Option<usize>
     ensures { result ≡ onward best stop }
 {
-    if best == 0 {
-        return stop;
+    match (best, stop) {
+        (Some(first), Some(p)) if first <= p => None,
+        _ => stop,
     }
-    if best <= stop {
-        return 0;
-    }
-    stop
 }
 
 // From where keys are taken in. It salts their tags too.
