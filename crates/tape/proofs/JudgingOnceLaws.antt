@@ -2,9 +2,9 @@
 use mathlib.Core.Path.{◌≡◌, refl, sym, ap, ◌∙◌, subst}
 use mathlib.Core.Bool.{Bool, true, false}
 use mathlib.Core.List.{List, []}
-use mathlib.Core.Option.{Option, none, some}
-use Rattle.std.proofs.Common.{Ok, Err}
-use Prim.Native.Nat.{ℕ, ◌+◌, ◌*◌}
+use mathlib.Core.Option as maybe
+use Rattle.std.proofs.Common.{Ok, Err, Option, is_some}
+use Prim.Native.Nat.{ℕ, ◌*◌}
 use native.Mathlib.Omega.{arith}
 use lib.ListN.{length}
 use Rattle.meaning.specs.declared.Record.{Record}
@@ -15,8 +15,7 @@ use Rattle.meaning.specs.Between.Events.{Event, first_repeat, erase, events}
 use Rattle.meaning.proofs.Whole.{injective}
 use Rattle.meaning.proofs.Look.{well_formed_record}
 use Rattle.meaning.proofs.Events.{none_once, some_twice}
-use Rattle.once.specs.Windows.{num}
-use Rattle.once.proofs.WindowsLaws.{first_past}
+use Rattle.once.specs.Windows.{given}
 use Rattle.rules.specs.Between.Tests.{Decides}
 use Rattle.rules.proofs.TestsLaws.{failed}
 use Rattle.meaning.specs.declared.Refusal.{Refusal}
@@ -26,7 +25,6 @@ use Rattle.tape.specs.Between.Standing.{records_from}
 use Rattle.tape.proofs.JudgingMachineLaws.{nay}
 use Rattle.tape.proofs.JudgingWholeLaws.{read_is, verdict, formed_length, formed_records, nay_unformed}
 use Rattle.tape.proofs.KeyEventsLaws.{events_are, records_shallow}
-use Rattle.tape.proofs.KeyWindowLaws.{spans_bound}
 
 module _ {tape store : List ℕ} where
   unfoldable pub well_is_formed : WellFormed tape store → Formed tape store
@@ -78,42 +76,38 @@ module _ {tape store : List ℕ} where
     erased_events =
         ap (λ (l : List Record). erase (events_in store l 0 [])) records_are ∙ events_are store f.meaning f.shallow f.stored
 
-    pub none_repeats : first_of tape store (whole_records tape) ≡ 0 → once f.meaning ≡ true
+    abbrev es : List Event
+    es = events_below tape store (whole_records tape)
+
+    pub none_repeats : is_some (first_of tape store (whole_records tape)) ≡ false → once f.meaning ≡ true
     none_repeats e = go (first_repeat [] es) refl e
       where
-        es : List Event
-        es = events_below tape store (whole_records tape)
+        go : (o : maybe.Option ℕ) → first_repeat [] es ≡ o → is_some (given o) ≡ false → once f.meaning ≡ true
+        go maybe.none q z = none_once es f.meaning erased_events q
+        go (maybe.some p) q z = let y : ◌≡◌ {A = ℕ} 0 1 = cc in absurd (omega arith)
 
-        go : (o : Option ℕ) → first_repeat [] es ≡ o → num o ≡ 0 → once f.meaning ≡ true
-        go none q z = none_once es f.meaning erased_events q
-        go (some p) q z =
-            absurd (omega (arith, z, first_past es [] 1 (whole_records tape + 1) p (spans_bound tape store (whole_records tape)) q))
-
-    pub some_repeats : (first_of tape store (whole_records tape) ≡ 0 → ⊥) → once f.meaning ≡ false
+    pub some_repeats : is_some (first_of tape store (whole_records tape)) ≡ true → once f.meaning ≡ false
     some_repeats n = go (first_repeat [] es) refl n
       where
-        es : List Event
-        es = events_below tape store (whole_records tape)
-
-        go : (o : Option ℕ) → first_repeat [] es ≡ o → (num o ≡ 0 → ⊥) → once f.meaning ≡ false
-        go none q z = absurd (z refl)
-        go (some p) q z = some_twice es f.meaning p erased_events q
+        go : (o : maybe.Option ℕ) → first_repeat [] es ≡ o → is_some (given o) ≡ true → once f.meaning ≡ false
+        go maybe.none q z = let y : ◌≡◌ {A = ℕ} 0 1 = cc in absurd (omega arith)
+        go (maybe.some p) q z = some_twice es f.meaning p erased_events q
 
   -- ---- what is answered
 
   pub judged_unformed : {b : Bool} → Decides (Formed tape store) b → b ≡ false → Judges tape store (Err (Refusal.NotWellFormed 0))
   judged_unformed d e = ill (λ w. failed d e (well_is_formed w))
 
-  pub judged_once : Formed tape store → {r : ℕ} → r ≡ first_of tape store (whole_records tape) → r ≡ 0 → Judges tape store (Ok tt)
-  judged_once f e z = well (formed_well f (none_repeats f (sym e ∙ z)))
+  pub judged_once : Formed tape store → {r : Option ℕ} → r ≡ first_of tape store (whole_records tape) → is_some r ≡ false → Judges tape store (Ok tt)
+  judged_once f e z = well (formed_well f (none_repeats f (ap is_some (sym e) ∙ z)))
 
-  pub judged_twice : Formed tape store → {r : ℕ} → r ≡ first_of tape store (whole_records tape) → (r ≡ 0 → ⊥) → Judges tape store (Err (Refusal.NotWellFormed 0))
+  pub judged_twice : Formed tape store → {r : Option ℕ} → r ≡ first_of tape store (whole_records tape) → is_some r ≡ true → Judges tape store (Err (Refusal.NotWellFormed 0))
   unfolding well_is_formed
   judged_twice f e n =
       ill
       (λ w.
       let s : once f.meaning ≡ true = ap once (one_formed_meaning f (well_is_formed w)) ∙ w.good.single in
-      let t : once f.meaning ≡ false = some_repeats f (λ z. n (e ∙ z)) in
+      let t : once f.meaning ≡ false = some_repeats f (ap is_some (sym e) ∙ n) in
       let z : ◌≡◌ {A = ℕ} 0 1 = cc in omega arith)
 
 -- where the machine says no, nothing is well formed

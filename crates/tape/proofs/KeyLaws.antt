@@ -1,14 +1,15 @@
 -- Keys by their bytes: equal ones, their tags, and the key at an index. Assumes nothing.
-use mathlib.Core.Path.{◌≡◌, refl, sym, ap, ap₂, ◌∙◌, subst}
-use mathlib.Core.Bool.{Bool, true, false}
+use mathlib.Core.Path.{◌≡◌, refl, sym, ap, ap₂, ◌∙◌}
+use mathlib.Core.Bool.{Bool, true, false, cond, ◌&&◌}
 use mathlib.Core.List.{List, [], ◌∷◌}
+use lib.Pointwise.{pointwise}
+use Rattle.std.proofs.Common.{Option, Some, None, unwrap_or}
 use Prim.Native.Nat.{ℕ, ◌+◌, ◌-◌, ◌*◌, ◌%◌, ◌≤◌, ◌<◌}
 use native.Mathlib.Omega.{arith}
-use native.Mathlib.Decide.{dec_lt}
 use native.Mathlib.Numerals.{add-one}
 use lib.Dec.{eqb}
 use lib.ListN.{length, get_or, take, drop}
-use lib.Seq.{ext_get_or, take-suc, take_all}
+use lib.Seq.{take-suc, take_all}
 use borrow.Author.Tests.{eq-eqb, ne_eqb}
 use Rattle.meaning.specs.declared.Record.{Record}
 use Rattle.meaning.specs.Once.{same}
@@ -17,7 +18,7 @@ use Rattle.once.specs.Hash.{seed, mix, finish, mixes, hash_of}
 use Rattle.once.proofs.HashLaws.{mixes_none, mixes_more, hash_done}
 use Rattle.once.specs.Groups.{Newest, Stands, Earlier, Names}
 use Rattle.once.proofs.KeepingLaws.{before_on, names_on}
-use Rattle.once.proofs.KeepingSeekLaws.{same_self, apart, Sought, seek_begins, seek_stands, seek_key, seek_finds, seek_falls, seek_past_tag, seek_past}
+use Rattle.once.proofs.KeepingSeekLaws.{Sought, seek_begins, seek_stands, seek_key, seek_finds, seek_falls, seek_past_tag, seek_past}
 use Rattle.once.proofs.KeepingSeekLaws.{seek_ends}
 use Rattle.tape.specs.declared.Words.{Words}
 use Rattle.tape.specs.Between.Shapes.{words_at}
@@ -26,27 +27,16 @@ use Rattle.tape.proofs.LookingLaws.{record_numbers}
 
 -- ---- equal bytes
 
--- as long as each other, and alike so far
-pub record Alike (a b : List ℕ) (i : ℕ) : Type 0 where
-  pub long : length a ≡ length b
-  pub so : (j : ℕ) → j < i → get_or a j 0 ≡ get_or b j 0
+either : (t p q : Bool) → p ≡ q → t && p ≡ cond t q false
+either true p q e = e
+either false p q e = refl
 
-pub alike_none : {a b : List ℕ} → length a ≡ length b → Alike a b 0
-alike_none e = record { long = e; so = λ j l. absurd (omega arith) }
-
-pub alike_more : {a b : List ℕ} {i : ℕ} → Alike a b i → get_or a i 0 ≡ get_or b i 0 → Alike a b (i + 1)
-alike_more {a} {b} {i} h e = record { long = h.long; so = λ j l. go j l (dec_lt j i) }
-  where
-    go : (j : ℕ) → j < i + 1 → Dec (j < i) → get_or a j 0 ≡ get_or b j 0
-    go j l (Dec.yes m) = h.so j m
-    go j l (Dec.no m) = let z : i ≡ j = omega arith in subst (λ (k : ℕ). get_or a k 0 ≡ get_or b k 0) z e
-
-pub unlike : (a b : List ℕ) (i : ℕ) → (get_or a i 0 ≡ get_or b i 0 → ⊥) → false ≡ same a b
-unlike a b i n = sym (apart a b (λ e. n (ap (λ (l : List ℕ). get_or l i 0) e)))
-
-pub alike_all : {a b : List ℕ} {i : ℕ} → Alike a b i → length a ≤ i → true ≡ same a b
-alike_all {a} {b} h l =
-    sym (ap (same a) (sym (ext_get_or 0 a b h.long (λ j m. h.so j (omega arith)))) ∙ same_self a)
+pub same_bytes : (a b : List ℕ) → pointwise eqb a b ≡ same a b
+unfolding same
+same_bytes [] [] = refl
+same_bytes [] (y ∷ b) = refl
+same_bytes (x ∷ a) [] = refl
+same_bytes (x ∷ a) (y ∷ b) = either (eqb x y) _ _ (same_bytes a b)
 
 -- ---- tags
 
@@ -92,37 +82,37 @@ module _ {tape store : List ℕ} {index : ℕ} where
 -- ---- the search for an earlier key
 
 -- at the slot i, wherever the table stands
-pub record Seeking (tape store key : List ℕ) (tag : ℕ) (seen : List ℕ) (i : ℕ) : Type 0 where
+pub record Seeking (tape store key : List ℕ) (tag : ℕ) (seen : List ℕ) (i : Option ℕ) : Type 0 where
   pub sought : (at from : ℕ) → tag ≡ hash_of from key → Sought (KeyIs tape store) (hash_of from) seen at from key i
 
-pub seek_start : (tape store key : List ℕ) (tag : ℕ) (seen : List ℕ) (i : ℕ) → Newest seen tag i → Seeking tape store key tag seen i
+pub seek_start : (tape store key : List ℕ) (tag : ℕ) (seen : List ℕ) (i : Option ℕ) → Newest seen tag i → Seeking tape store key tag seen i
 seek_start tape store key tag seen i n = record { sought = λ at from e. seek_begins tag i e n }
 
-module _ {tape store key : List ℕ} {tag : ℕ} {seen : List ℕ} {i : ℕ} (w : Seeking tape store key tag seen i) where
-  module _ (p : Seeks tape store key tag seen) (l : 0 < i) where
-    abbrev here : Sought (KeyIs tape store) (hash_of p.1.0) seen p.0 p.1.0 key i
+module _ {tape store key : List ℕ} {tag : ℕ} {seen : List ℕ} {i : ℕ} (w : Seeking tape store key tag seen (Some i)) where
+  module _ (p : Seeks tape store key tag seen) where
+    abbrev here : Sought (KeyIs tape store) (hash_of p.1.0) seen p.0 p.1.0 key (Some i)
     here = w.sought p.0 p.1.0 p.1.1.1.tagged
 
     pub slot_stands : Stands seen i
-    slot_stands = seek_stands here p.1.1.1.keeps l
+    slot_stands = seek_stands here p.1.1.1.keeps
 
     pub slot_holds : SlotHolds tape store seen i
-    slot_holds = (slot_stands, λ r g. let k = seek_key here p.1.1.1.keeps l r g in (k.0, k.1.0))
+    slot_holds = (slot_stands, λ r g. let k = seek_key here p.1.1.1.keeps r g in (k.0, k.1.0))
 
-    pub slot_falls : (r : ℕ) → Earlier seen i r → r < i
-    slot_falls r g = seek_falls here p.1.1.1.keeps l r g
+    pub slot_falls : (r : Option ℕ) → Earlier seen i r → unwrap_or r 0 < i
+    slot_falls r g = seek_falls here p.1.1.1.keeps r g
 
-  pub slot_found : 0 < i → {b : Bool} → SlotIs tape store key tag seen i b → b ≡ true → Repeats tape store key tag seen true
-  slot_found l (other_tag t g n) e = let z : ◌≡◌ {A = ℕ} 0 1 = cc in absurd (omega arith)
-  slot_found l (told r g h) e = λ at from s t. sym (seek_finds (w.sought at from t.tagged) l r g (λ v k. sym (h v k) ∙ e) s t.keeps)
+  pub slot_found : {b : Bool} → SlotIs tape store key tag seen i b → b ≡ true → Repeats tape store key tag seen true
+  slot_found (other_tag t g n) e = let z : ◌≡◌ {A = ℕ} 0 1 = cc in absurd (omega arith)
+  slot_found (told r g h) e = λ at from s t. sym (seek_finds (w.sought at from t.tagged) r g (λ v k. sym (h v k) ∙ e) s t.keeps)
 
-  pub slot_other : 0 < i → {b : Bool} → SlotIs tape store key tag seen i b → b ≡ false → (j : ℕ) → Earlier seen i j → Seeking tape store key tag seen j
-  slot_other l (other_tag t g n) e j m =
-      record { sought = λ at from q. seek_past_tag (w.sought at from q) l tag t q g n j m }
-  slot_other l (told r g h) e j m = record { sought = λ at from q. seek_past (w.sought at from q) l r g (λ v k. sym (h v k) ∙ e) j m }
+  pub slot_other : {b : Bool} → SlotIs tape store key tag seen i b → b ≡ false → (j : Option ℕ) → Earlier seen i j → Seeking tape store key tag seen j
+  slot_other (other_tag t g n) e j m =
+      record { sought = λ at from q. seek_past_tag (w.sought at from q) tag t q g n j m }
+  slot_other (told r g h) e j m = record { sought = λ at from q. seek_past (w.sought at from q) r g (λ v k. sym (h v k) ∙ e) j m }
 
-  pub slots_over : i ≤ 0 → Repeats tape store key tag seen false
-  slots_over l at from s t = sym (seek_ends (w.sought at from t.tagged) l s t.keeps)
+pub slots_over : {tape store key : List ℕ} {tag : ℕ} {seen : List ℕ} → Seeking tape store key tag seen None → Repeats tape store key tag seen false
+slots_over w at from s t = sym (seek_ends (w.sought at from t.tagged) s t.keeps)
 
 -- ---- the innermost open container
 

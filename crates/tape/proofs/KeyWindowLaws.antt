@@ -1,6 +1,8 @@
 -- Windows over the keys of records, one after the other, find the first repeated key. Assumes nothing.
 use mathlib.Core.Path.{◌≡◌, subst}
+use mathlib.Core.Bool.{false}
 use mathlib.Core.List.{List}
+use Rattle.std.proofs.Common.{Option, Some, None, is_some}
 use Prim.Native.Nat.{ℕ, ◌+◌, ◌≤◌, ◌<◌, ◌^◌}
 use native.Mathlib.Omega.{arith}
 use lib.ListN.{length, replicate}
@@ -9,9 +11,9 @@ use Rattle.once.specs.Groups.{Begun, TwiceIs, StopIs}
 use Rattle.once.specs.Hash.{hash_of}
 use Rattle.once.specs.Windows.{least, onward}
 use Rattle.once.proofs.KeepingLaws.{begun_keeps, zeroes_keep, searched_first, searched_next}
-use Rattle.tape.specs.declared.key.Window.{Window}
+use Rattle.once.proofs.WindowsLaws.{search_ends}
 use Rattle.tape.specs.Between.Standing.{records_from}
-use Rattle.tape.specs.Between.Key.{events_below, KeyIs, Passed, Empty, Windowed, Later}
+use Rattle.tape.specs.Between.Key.{events_below, first_of, KeyIs, Passed, Empty, Windowed, Later}
 use Rattle.tape.proofs.JudgingWholeLaws.{from_length}
 use Rattle.tape.proofs.KeyEventsLaws.{spans_below}
 
@@ -30,13 +32,19 @@ spans_bound tape store bound =
     subst (λ (n : ℕ). Spans 1 (n + 1) (events_below tape store bound)) (from_length bound tape 0) (spans_below store (records_from bound tape 0))
 
 module _ {tape store : List ℕ} {bound : ℕ} where
-  pub first_window : {seen : List ℕ} → Passed tape store bound 0 seen → {t f n : ℕ} → TwiceIs seen t → StopIs seen f → n ≡ onward t f
-      → Windowed tape store bound (record { best = t; from = n })
+  pub first_window : {seen : List ℕ} → Passed tape store bound 0 seen → {t f n : Option ℕ} → TwiceIs seen t → StopIs seen f → n ≡ onward t f
+      → Windowed tape store bound t n
   first_window g {t} {f} x y e = rw e (searched_first g (spans_bound tape store bound) t f x y)
 
-  pub later_window : (w : Window) → Windowed tape store bound w → 0 < w.from → {seen : List ℕ} → Passed tape store bound w.from seen
-      → {t f b n : ℕ} → TwiceIs seen t → StopIs seen f → b ≡ least w.best t → n ≡ onward b f
-      → Later tape store bound w (record { best = b; from = n })
-  later_window w h o g {t} {f} x y e i =
-      let z = searched_next g h (λ z. omega arith) t f x y in
+  pub later_window : {best : Option ℕ} {from : ℕ} → Windowed tape store bound best (Some from) → {seen : List ℕ} → Passed tape store bound from seen
+      → {t f b n : Option ℕ} → TwiceIs seen t → StopIs seen f → b ≡ least best t → n ≡ onward b f
+      → Later tape store bound from (record { best = b; from = n })
+  later_window h g {t} {f} x y e i =
+      let z = searched_next g h t f x y in
       rw (i, e) (record { windowed = z.0; later = z.1 })
+
+-- no window is left
+pub searched_all : (tape store : List ℕ) (bound : ℕ) {best from : Option ℕ} → Windowed tape store bound best from → is_some from ≡ false
+    → best ≡ first_of tape store bound
+searched_all tape store bound {from = None} h e = search_ends h
+searched_all tape store bound {from = Some f} h e = let z : ◌≡◌ {A = ℕ} 0 1 = cc in absurd (omega arith)

@@ -265,7 +265,7 @@ fn formed(tape: &[u8], store: &[u8]) -> bool
 pub fn judge(tape: &[u8], store: &[u8]) -> Result<(), Refusal>
     ensures { Judges tape.now store.now result }
 {
-    if formed(tape, store) && key::first_repeat(tape, store, tape.len() / RECORD_SIZE) == 0 {
+    if formed(tape, store) && key::first_repeat(tape, store, tape.len() / RECORD_SIZE).is_none() {
         return Ok(());
     }
     Err(Refusal::NotWellFormed(0))

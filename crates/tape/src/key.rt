@@ -1,7 +1,6 @@
 // The first key of a tape that repeats an earlier one of its object. A pass over the records keeps the keys of the open objects
 // in a table. Where it has no slot left, the next pass takes in the keys from there on: each pass is a window.
 ghost use Rattle.std.specs.Prelude.{◌≡◌, ◌≤◌, ◌<◌, ◌^◌, length};
-ghost use Rattle.meaning.specs.Once.{same};
 ghost use Rattle.once.specs.Hash.{hash_of};
 ghost use Rattle.tape.specs.Between.Key.{first_of, Standing, SomeKey, SameKey, SlotHolds, SlotIs, Seeks, Repeats, Coming, Notes};
 ghost use Rattle.tape.specs.Between.Key.{Innermost, Walking, Closes, Readied, Steps, Passed, Empty, Windowed, Later};
@@ -9,28 +8,11 @@ ghost use Rattle.tape.specs.Between.Key.{Innermost, Walking, Closes, Readied, St
 use crate::four_words;
 use meaning::{DEPTH_LIMIT, RECORD_SIZE};
 
-// What a window leaves to do: the first repeated key so far, and where the next window begins; 0 for none.
+// What a window leaves to do: the first repeated key so far, and where the next window begins.
 #[derive(Clone, Copy)]
 struct Window {
-    best: usize,
-    from: usize,
-}
-
-// Whether two keys are the same bytes.
-fn equal(a: &[u8], b: &[u8]) -> bool
-    ensures { result ≡ same a.now b.now }
-{
-    if a.len() != b.len() {
-        return false;
-    }
-    let mut i = 0;
-    while i < a.len() {
-        if a[i] != b[i] {
-            return false;
-        }
-        i += 1;
-    }
-    true
+    best: Option<usize>,
+    from: Option<usize>,
 }
 
 // The tag of a key.
@@ -38,10 +20,8 @@ fn tag(key: &[u8], salt: u32) -> u32
     ensures { result ≡ hash_of salt key.now }
 {
     let mut h = once::seeded(salt);
-    let mut i = 0;
-    while i < key.len() {
-        h = once::mixed(h, key[i]);
-        i += 1;
+    for b in key {
+        h = once::mixed(h, *b);
     }
     once::finished(h)
 }
@@ -54,7 +34,7 @@ fn key_is(tape: &[u8], store: &[u8], index: usize, key: &[u8]) -> bool
     let w = four_words::words_at(tape, index * RECORD_SIZE);
     let start = w.high as usize;
     let end = start + w.mid as usize;
-    equal(key, &store[start..end])
+    key == &store[start..end]
 }
 
 // Whether the key of a slot is this one.
@@ -62,10 +42,7 @@ fn slot_is(tape: &[u8], store: &[u8], key: &[u8], tag: u32, seen: &[u32], at: u3
     requires { SlotHolds tape.now store.now seen.now at }
     ensures { SlotIs tape.now store.now key.now tag seen.now at result }
 {
-    if once::tag_of(seen, at) != tag {
-        return false;
-    }
-    key_is(tape, store, once::place_of(seen, at) as usize, key)
+    once::tag_of(seen, at) == tag && key_is(tape, store, once::place_of(seen, at) as usize, key)
 }
 
 // Whether the present object has this key already, of those taken in.
@@ -74,11 +51,11 @@ fn repeats(tape: &[u8], store: &[u8], key: &[u8], tag: u32, seen: &[u32]) -> boo
     ensures { Repeats tape.now store.now key.now tag seen.now result }
 {
     let mut at = once::newest(seen, tag);
-    while at > 0 {
-        if slot_is(tape, store, key, tag, seen, at) {
+    while let Some(i) = at {
+        if slot_is(tape, store, key, tag, seen, i) {
             return true;
         }
-        at = once::earlier(seen, at);
+        at = once::earlier(seen, i);
     }
     false
 }
@@ -101,10 +78,7 @@ fn in_object(ends: &[usize], depth: usize) -> bool
     requires { depth ≤ length ends.now }
     ensures { Innermost ends.now depth result }
 {
-    if depth == 0 {
-        return false;
-    }
-    ends[depth - 1] % 2 == 1
+    depth > 0 && ends[depth - 1] % 2 == 1
 }
 
 // Before the record at an index what ends there or before closes, the innermost first. So many are left.
@@ -183,50 +157,56 @@ fn pass(tape: &[u8], store: &[u8], bound: usize, from: usize, seen: &mut [u32])
 }
 
 // One window more.
-fn next_window(tape: &[u8], store: &[u8], bound: usize, w: Window, seen: &mut [u32]) -> Window
-    requires { Standing tape.now store.now bound × Windowed tape.now store.now bound w × (0 < w.from)
+fn next_window(
+    tape: &[u8],
+    store: &[u8],
+    bound: usize,
+    best: Option<usize>,
+    from: usize,
+    seen: &mut [u32],
+) -> Window
+    requires { Standing tape.now store.now bound × Windowed tape.now store.now bound best (Some from)
         × (16 ≤ length seen.old) × (length seen.old < 2 ^ 32) }
-    ensures { Later tape.now store.now bound w result }
+    ensures { Later tape.now store.now bound from result }
 {
-    once::begin(seen, w.from as u32);
-    pass(tape, store, bound, w.from, seen);
-    let best = once::least(w.best, once::first_twice(seen));
+    once::begin(seen, from as u32);
+    pass(tape, store, bound, from, seen);
+    let best = once::least(best, once::first_twice(seen));
     let from = once::further(best, once::stopped(seen));
     Window { best, from }
 }
 
 // Windows of 65,536 slots, until none is left.
-fn widest(tape: &[u8], store: &[u8], bound: usize, first: Window) -> usize
-    requires { Standing tape.now store.now bound × Windowed tape.now store.now bound first }
+fn widest(tape: &[u8], store: &[u8], bound: usize, first: Window) -> Option<usize>
+    requires { Standing tape.now store.now bound × Windowed tape.now store.now bound first.best first.from }
     ensures { result ≡ first_of tape.now store.now bound }
 {
     let mut seen: [u32; 262152] = [0; 262152];
     let mut w = first;
-    while w.from != 0 {
-        w = next_window(tape, store, bound, w, &mut seen);
+    while let Some(from) = w.from {
+        w = next_window(tape, store, bound, w.best, from, &mut seen);
     }
     w.best
 }
 
 // So many windows of 4,096 slots, then the widest. It calls itself, so that its table lies on no other function's stack.
-fn searched(tape: &[u8], store: &[u8], bound: usize, w: Window, rounds: usize) -> usize
-    requires { Standing tape.now store.now bound × Windowed tape.now store.now bound w }
+fn searched(tape: &[u8], store: &[u8], bound: usize, w: Window, rounds: usize) -> Option<usize>
+    requires { Standing tape.now store.now bound × Windowed tape.now store.now bound w.best w.from }
     ensures { result ≡ first_of tape.now store.now bound }
 {
-    if w.from == 0 {
+    let Some(from) = w.from else {
         return w.best;
-    }
+    };
     if rounds == 0 {
         return widest(tape, store, bound, w);
     }
     let mut seen: [u32; 16392] = [0; 16392];
-    let next = next_window(tape, store, bound, w, &mut seen);
+    let next = next_window(tape, store, bound, w.best, from, &mut seen);
     searched(tape, store, bound, next, rounds - 1)
 }
 
-// The least index below the bound of a key that repeats an earlier one of its object; 0 for none. Most tapes need one window,
-// of 128 slots.
-pub fn first_repeat(tape: &[u8], store: &[u8], bound: usize) -> usize
+// The least index below the bound of a key that repeats an earlier one of its object. Most tapes need one window, of 128 slots.
+pub fn first_repeat(tape: &[u8], store: &[u8], bound: usize) -> Option<usize>
     requires { Standing tape.now store.now bound }
     ensures { result ≡ first_of tape.now store.now bound }
 {
@@ -234,7 +214,7 @@ pub fn first_repeat(tape: &[u8], store: &[u8], bound: usize) -> usize
     pass(tape, store, bound, 0, &mut seen);
     let best = once::first_twice(&seen);
     let from = once::further(best, once::stopped(&seen));
-    if from == 0 {
+    if from.is_none() {
         return best;
     }
     searched(tape, store, bound, Window { best, from }, 1)

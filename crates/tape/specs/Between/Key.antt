@@ -1,6 +1,6 @@
 -- The first key among records that repeats an earlier one of its object (docs/FORMAT.md, 7.2 and 11), and what the
 -- functions that look for it promise their callers. Assumes nothing.
-use Rattle.std.specs.Prelude.{◌≡◌, Bool, true, false, cond, List, [], ◌∷◌, ◌++◌, ℕ, suc, ◌+◌, ◌-◌, ◌*◌, ◌/◌, ◌≤◌, ◌<◌}
+use Rattle.std.specs.Prelude.{◌≡◌, Bool, true, false, cond, Option, List, [], ◌∷◌, ◌++◌, ℕ, suc, ◌+◌, ◌-◌, ◌*◌, ◌/◌, ◌≤◌, ◌<◌}
 use Rattle.std.specs.Prelude.{leb, length, get_or, take, drop}
 use Rattle.meaning.specs.declared.Record.{Record}
 use Rattle.meaning.specs.Once.{same}
@@ -9,7 +9,7 @@ use Rattle.meaning.specs.Look.{RecordAt}
 use Rattle.meaning.specs.Between.Events.{Event, begins, ends, named, first_repeat}
 use Rattle.once.specs.Groups.{Stands, Placed, Tagged}
 use Rattle.once.specs.Hash.{hash_of}
-use Rattle.once.specs.Windows.{hits, all, num, Kept, nothing, present, level, SearchedTo, NoneOrLater}
+use Rattle.once.specs.Windows.{hits, all, given, Kept, nothing, present, level, SearchedTo, NoneOrLater}
 use Rattle.once.specs.Keeping.{Keeps, Goes}
 use Rattle.tape.specs.declared.key.Window.{Window}
 use Rattle.tape.specs.Between.Standing.{read_at, records_from}
@@ -85,9 +85,9 @@ Shallow (r ∷ rs) i os = (length (open_after r (left i os)) ≤ depth_limit)
 abbrev pub events_below : List ℕ → List ℕ → ℕ → List Event
 events_below tape store bound = events_in store (records_from bound tape 0) 0 []
 
--- the least index below the bound of a key that repeats an earlier one of its object; 0 for none
-abbrev pub first_of : List ℕ → List ℕ → ℕ → ℕ
-first_of tape store bound = num (first_repeat [] (events_below tape store bound))
+-- the least index below the bound of a key that repeats an earlier one of its object
+abbrev pub first_of : List ℕ → List ℕ → ℕ → Option ℕ
+first_of tape store bound = given (first_repeat [] (events_below tape store bound))
 
 -- each record below the bound stands by itself
 pub record Standing (tape store : List ℕ) (bound : ℕ) : Type 0 where
@@ -225,10 +225,10 @@ abbrev pub Empty : List ℕ → List ℕ → ℕ → List ℕ → Type 0
 Empty tape store from seen = Keeps (KeyIs tape store) (hash_of from) seen 0 from nothing
 
 -- all windows so far
-abbrev pub Windowed : List ℕ → List ℕ → ℕ → Window → Type 0
-Windowed tape store bound w = SearchedTo (bound + 1) (events_below tape store bound) w.best w.from
+abbrev pub Windowed : List ℕ → List ℕ → ℕ → Option ℕ → Option ℕ → Type 0
+Windowed tape store bound best from = SearchedTo (bound + 1) (events_below tape store bound) best from
 
--- a window later than another
-pub record Later (tape store : List ℕ) (bound : ℕ) (w v : Window) : Type 0 where
-  pub windowed : Windowed tape store bound v
-  pub later : NoneOrLater w.from v.from
+-- a window later than the one from there on
+pub record Later (tape store : List ℕ) (bound from : ℕ) (v : Window) : Type 0 where
+  pub windowed : Windowed tape store bound v.best v.from
+  pub later : NoneOrLater from v.from

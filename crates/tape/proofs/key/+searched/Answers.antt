@@ -2,5 +2,5 @@
 use Rattle.once.proofs.WindowsLaws.{search_ends}
 use Rattle.tape.proofs.key.+searched.Goals as goal
 
-pub returns-then-w-eq0 : goal.returns-then-w-eq0
-returns-then-w-eq0 t c = search_ends c.requires.1 c.if-w-eq0.true
+pub returns-in_default : goal.returns-in_default
+returns-in_default t c = search_ends (rw c.in_default.is at c.requires.1)

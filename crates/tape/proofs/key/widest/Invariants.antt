@@ -7,7 +7,7 @@ use Rattle.once.proofs.WindowsLaws.{windows_left}
 use Rattle.tape.proofs.key.widest.Given as goal
 
 abbrev pub invariant-loop-w : goal.invariant-loop-w
-invariant-loop-w l = Windowed l.tape l.store l.bound l.w × (length l.seen ≡ 262152)
+invariant-loop-w l = Windowed l.tape l.store l.bound l.w.best l.w.from × (length l.seen ≡ 262152)
 
 abbrev pub decreases-loop-w : goal.decreases-loop-w
 decreases-loop-w l = windows_left (l.bound + 1) l.w.from
