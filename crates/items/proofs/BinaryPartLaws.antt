@@ -1,10 +1,12 @@
 -- Binary parts, a byte at a time. Assumes nothing.
 use mathlib.Core.Path.{◌≡◌, refl, sym, ap, ◌∙◌}
 use mathlib.Core.Bool.{false}
+use mathlib.Core.Logic.{◌⊎◌, inl, inr}
 use mathlib.Core.List.{List, [], ◌∷◌, ◌++◌}
 use Prim.Native.Nat.{ℕ, ◌+◌, ◌*◌, ◌≤◌, ◌<◌}
 use native.Mathlib.Omega.{arith}
 use native.Mathlib.Decide.{dec_lt}
+use Rattle.std.specs.Prelude.{Some, None, Result, Ok, Err}
 use lib.Dec.{eqb}
 use lib.ListN.{length, drop, get_or, set, length-append}
 use lib.Seq.{sets}
@@ -16,10 +18,9 @@ use Rattle.machine.specs.Strings.{hex_of, no_digit, short_of, no_short}
 use Rattle.machine.specs.Binaries.{St, dollar, text, esc, hex, hex_low, low, pairs, dot, done, begin, on_digit, on_short, on_text, scan}
 use Rattle.items.specs.Between.Places.{digit_at, Runs}
 use Rattle.items.specs.Between.BinaryPart.{PairSays, Escaped, EscapeSays, OneByteSays, Closing, StateSays, PieceSays}
-use Rattle.items.specs.declared.binary_part.Pair.{Pair}
-use Rattle.items.specs.declared.binary_part.Octet.{Octet}
-use Rattle.items.specs.declared.binary_part.Piece.{Piece}
-use Rattle.items.proofs.PlacesLaws.{byte_in, byte_out, run_take, run_stop, run_break, end_stop, end_break}
+use Rattle.items.specs.declared.Taken.{Taken}
+use Rattle.items.specs.declared.NotGrammar as items
+use Rattle.items.proofs.PlacesLaws.{byte_in, byte_out, late, run_take, run_stop, run_break, end_stop, end_break}
 use Rattle.items.proofs.StoreLaws.{sets_app}
 
 -- ---- digits
@@ -65,43 +66,46 @@ module _ (s : List ℕ) (p : ℕ) where
 -- ---- after a pair
 
 module _ (s : List ℕ) (p : ℕ) where
-  pub pair_over : length s ≤ p → PairSays s p (Pair.End p)
-  unfolding scan on_digit hex_of
-  pair_over h = ((λ a. end_stop scan s p (pairs a) a h refl), refl)
+  module _ (h : p < length s) (e : get_or s p 0 ≡ ch ".") where
+    dotted : (a : List ℕ) → Runs scan s (pairs a) p (dot a) (p + 1)
+    unfolding scan
+    dotted a = run_take scan s p (pairs a) (dot a) h (rw e)
 
-  dotted : p < length s → get_or s p 0 ≡ ch "." → (a : List ℕ) → Runs scan s (pairs a) p (dot a) (p + 1)
-  unfolding scan
-  dotted h e a = run_take scan s p (pairs a) (dot a) h (rw e)
+    pub pair_dot : digit_at s (p + 1) < no_digit → PairSays s p (Ok (Some (p + 1)))
+    unfolding scan
+    pair_dot d = ((λ a. dotted a ∙ digit_goes s (p + 1) (dot a) (low a) (breaks (NotGrammar (p + 1))) refl d), digit_in s (p + 1) d, omega arith, d)
 
-  pub pair_dot : p < length s → get_or s p 0 ≡ ch "." → digit_at s (p + 1) < no_digit → PairSays s p (Pair.Digit (p + 1))
-  unfolding scan
-  pair_dot h e d = ((λ a. dotted h e a ∙ digit_goes s (p + 1) (dot a) (low a) (breaks (NotGrammar (p + 1))) refl d), digit_in s (p + 1) d, omega arith, d)
+    pub pair_wrong : no_digit ≤ digit_at s (p + 1) → PairSays s p (Err (record { place = p + 1 }))
+    unfolding scan
+    pair_wrong d = λ a. dotted a ∙ digit_breaks s (p + 1) (dot a) (low a) (λ b. refl) d
 
-  pub pair_wrong : p < length s → get_or s p 0 ≡ ch "." → no_digit ≤ digit_at s (p + 1) → PairSays s p (Pair.NotGrammar (p + 1))
-  unfolding scan
-  pair_wrong h e d = λ a. dotted h e a ∙ digit_breaks s (p + 1) (dot a) (low a) (λ b. refl) d
+  module _ (n : p < length s → get_or s p 0 ≡ ch "." → ⊥) where
+    pub pair_digit : digit_at s p < no_digit → PairSays s p (Ok (Some p))
+    unfolding scan
+    pair_digit d = let h = digit_in s p d in ((λ a. digit_goes s p (pairs a) (low a) (stops a) (rw (ne_eqb _ _ (n h))) d), h, omega arith, d)
 
-  pub pair_digit : p < length s → (get_or s p 0 ≡ ch "." → ⊥) → digit_at s p < no_digit → PairSays s p (Pair.Digit p)
-  unfolding scan
-  pair_digit h n d = ((λ a. digit_goes s p (pairs a) (low a) (stops a) (rw (ne_eqb _ _ n)) d), h, omega arith, d)
-
-  pub pair_end : p < length s → (get_or s p 0 ≡ ch "." → ⊥) → no_digit ≤ digit_at s p → PairSays s p (Pair.End p)
-  unfolding scan
-  pair_end h n d = ((λ a. run_stop scan s p (pairs a) a h (rw (ne_eqb _ _ n) (digit_not s p (pairs a) (low a) (stops a) h d))), refl)
+    pub pair_end : no_digit ≤ digit_at s p → PairSays s p (Ok None)
+    unfolding scan on_digit hex_of
+    pair_end d = λ a. by a (late s p)
+      where
+        by : (a : List ℕ) → (p < length s) ⊎ (length s ≤ p) → ran scan p (pairs a) (drop p s) ≡ ended a p
+        by a (inl h) = run_stop scan s p (pairs a) a h (rw (ne_eqb _ _ (n h)) (digit_not s p (pairs a) (low a) (stops a) h d))
+        by a (inr h) = end_stop scan s p (pairs a) a h refl
 
 -- ---- an escape of the quoted form, after its backslash
 
 module _ (s : List ℕ) (p : ℕ) where
-  pub escape_over : length s ≤ p → EscapeSays s p (Octet.NotGrammar p)
+  pub escape_over : length s ≤ p → EscapeSays s p (Err (record { place = p }))
   unfolding scan on_short short_of
   escape_over h = λ c a. end_break scan s p (esc c a) (NotGrammar p) h refl
 
   module _ (h : p < length s) where
-    pub escape_wrong : (get_or s p 0 ≡ ch "x" → ⊥) → no_short ≤ short_of (get_or s p 0) → EscapeSays s p (Octet.NotGrammar p)
+    pub escape_wrong : (get_or s p 0 ≡ ch "x" → ⊥) → no_short ≤ short_of (get_or s p 0) → EscapeSays s p (Err (record { place = p }))
     unfolding scan on_short
     escape_wrong n g = λ c a. run_break scan s p (esc c a) (NotGrammar p) h (rw (ne_eqb _ _ n, le-ltb _ _ g))
 
-    pub escape_short : (get_or s p 0 ≡ ch "x" → ⊥) → short_of (get_or s p 0) < no_short → EscapeSays s p (Octet.Byte (short_of (get_or s p 0)) (p + 1))
+    pub escape_short : (get_or s p 0 ≡ ch "x" → ⊥) → short_of (get_or s p 0) < no_short
+        → EscapeSays s p (Ok (record { value = short_of (get_or s p 0); end = p + 1 }))
     unfolding scan on_short
     escape_short n g = record {
       runs = λ c a. run_take scan s p (esc c a) (text c (a ++ (short_of (get_or s p 0) ∷ []))) h (rw (ne_eqb _ _ n, lt-ltb _ _ g));
@@ -114,7 +118,7 @@ module _ (s : List ℕ) (p : ℕ) where
       unfolding scan
       after_x c a = run_take scan s p (esc c a) (hex c a) h (rw e)
 
-      pub escape_high : no_digit ≤ digit_at s (p + 1) → EscapeSays s p (Octet.NotGrammar (p + 1))
+      pub escape_high : no_digit ≤ digit_at s (p + 1) → EscapeSays s p (Err (record { place = p + 1 }))
       unfolding scan
       escape_high g = λ c a. after_x c a ∙ digit_breaks s (p + 1) (hex c a) (hex_low c a) (λ b. refl) g
 
@@ -124,13 +128,13 @@ module _ (s : List ℕ) (p : ℕ) where
         after_high c a = after_x c a ∙ digit_goes s (p + 1) (hex c a) (hex_low c a) (breaks (NotGrammar (p + 1))) refl g
             ∙ (let n : p + 1 + 1 ≡ p + 2 = omega arith in ap (λ (j : ℕ). ran scan j (hex_low c a (digit_at s (p + 1))) (drop j s)) n)
 
-        pub escape_low : no_digit ≤ digit_at s (p + 2) → EscapeSays s p (Octet.NotGrammar (p + 2))
+        pub escape_low : no_digit ≤ digit_at s (p + 2) → EscapeSays s p (Err (record { place = p + 2 }))
         unfolding scan
         escape_low l = λ c a. after_high c a ∙ digit_breaks s (p + 2) (hex_low c a (digit_at s (p + 1)))
             (λ x. text c (a ++ ((16 * digit_at s (p + 1) + x) ∷ [])))
             (λ b. refl) l
 
-        pub escape_hex : digit_at s (p + 2) < no_digit → EscapeSays s p (Octet.Byte (16 * digit_at s (p + 1) + digit_at s (p + 2)) (p + 3))
+        pub escape_hex : digit_at s (p + 2) < no_digit → EscapeSays s p (Ok (record { value = 16 * digit_at s (p + 1) + digit_at s (p + 2); end = p + 3 }))
         unfolding scan
         escape_hex l = record {
           runs = λ c a. after_high c a ∙ digit_goes s (p + 2) (hex_low c a (digit_at s (p + 1))) (λ x. text c (a ++ ((16 * digit_at s (p + 1) + x) ∷ [])))
@@ -219,7 +223,8 @@ module _ (s : List ℕ) (q i : ℕ) (u : List ℕ) where
     pub text_escaped : (j v : ℕ) → get_or s i 0 ≡ ch "\\" → Escaped s (i + 1) j v → Runs scan s (text q u) i (text q (u ++ (v ∷ []))) j
     text_escaped j v e w = text_escape e ∙ w.runs q u
 
-    pub text_unescaped : (r : ℕ) → get_or s i 0 ≡ ch "\\" → EscapeSays s (i + 1) (Octet.NotGrammar r) → ran scan i (text q u) (drop i s) ≡ broke (NotGrammar r)
+    pub text_unescaped : (r : ℕ) → get_or s i 0 ≡ ch "\\" → EscapeSays s (i + 1) (Err (record { place = r })) → ran scan i (text q u) (drop i s)
+        ≡ broke (NotGrammar r)
     text_unescaped r e w = text_escape e ∙ w q u
 
     module _ (n : get_or s i 0 ≡ ch "\\" → ⊥) where
@@ -247,18 +252,18 @@ module _ (s : List ℕ) (q i : ℕ) (u : List ℕ) where
 
 -- one byte of it, where no quote closes it
 module _ (s : List ℕ) (i : ℕ) (h : i < length s) where
-  pub one_escaped : get_or s i 0 ≡ ch "\\" → (r : Octet) → EscapeSays s (i + 1) r → OneByteSays s i r
-  one_escaped e (Octet.Byte v j) w = record { runs = λ c a m. text_escaped s c i a h j v e w; past = omega (arith, w.past); within = w.within }
-  one_escaped e (Octet.NotGrammar j) w = λ c a m. text_unescaped s c i a h j e w
+  pub one_escaped : get_or s i 0 ≡ ch "\\" → (r : Result (Taken ℕ) items.NotGrammar) → EscapeSays s (i + 1) r → OneByteSays s i r
+  one_escaped e (Ok t) w = record { runs = λ c a m. text_escaped s c i a h t.end t.value e w; past = omega (arith, w.past); within = w.within }
+  one_escaped e (Err r) w = λ c a m. text_unescaped s c i a h r.place e w
 
   module _ (n : get_or s i 0 ≡ ch "\\" → ⊥) where
-    pub one_low : get_or s i 0 < 0x20 → OneByteSays s i (Octet.NotGrammar i)
+    pub one_low : get_or s i 0 < 0x20 → OneByteSays s i (Err (record { place = i }))
     one_low l = λ c a m. text_low s c i a h n m l
 
-    pub one_high : 0x7E < get_or s i 0 → OneByteSays s i (Octet.NotGrammar i)
+    pub one_high : 0x7E < get_or s i 0 → OneByteSays s i (Err (record { place = i }))
     one_high l = λ c a m. text_high s c i a h n m l
 
-    pub one_plain : 0x20 ≤ get_or s i 0 → get_or s i 0 ≤ 0x7E → OneByteSays s i (Octet.Byte (get_or s i 0) (i + 1))
+    pub one_plain : 0x20 ≤ get_or s i 0 → get_or s i 0 ≤ 0x7E → OneByteSays s i (Ok (record { value = get_or s i 0; end = i + 1 }))
     one_plain k l = record { runs = λ c a m. text_plain s c i a h n m k l; past = omega arith; within = omega arith }
 
 -- ---- hex pairs
@@ -284,24 +289,24 @@ module _ (s : List ℕ) (i : ℕ) (u : List ℕ) where
     whole_pair = digit_goes s (i + 1) (pairing s u i) (λ x. pairs (u ++ ((16 * digit_at s i + x) ∷ []))) (breaks (NotGrammar (i + 1))) refl g
         ∙ (let n : i + 1 + 1 ≡ i + 2 = omega arith in ap (λ (j : ℕ). ran scan j (pairs one_pair) (drop j s)) n)
 
-    pub pair_more : (j : ℕ) → PairSays s (i + 2) (Pair.Digit j) → Runs scan s (pairing s u i) (i + 1) (pairing s one_pair j) (j + 1)
+    pub pair_more : (j : ℕ) → PairSays s (i + 2) (Ok (Some j)) → Runs scan s (pairing s u i) (i + 1) (pairing s one_pair j) (j + 1)
     pair_more j w = whole_pair ∙ w.0 one_pair
 
-    pub pair_wrongs : (j : ℕ) → PairSays s (i + 2) (Pair.NotGrammar j) → ran scan (i + 1) (pairing s u i) (drop (i + 1) s) ≡ broke (NotGrammar j)
+    pub pair_wrongs : (j : ℕ) → PairSays s (i + 2) (Err (record { place = j })) → ran scan (i + 1) (pairing s u i) (drop (i + 1) s) ≡ broke (NotGrammar j)
     pair_wrongs j w = whole_pair ∙ w one_pair
 
-    pub pair_ends : (j : ℕ) → PairSays s (i + 2) (Pair.End j) → ran scan (i + 1) (pairing s u i) (drop (i + 1) s) ≡ ended one_pair j
-    pair_ends j w = whole_pair ∙ w.0 one_pair
+    pub pair_ends : PairSays s (i + 2) (Ok None) → ran scan (i + 1) (pairing s u i) (drop (i + 1) s) ≡ ended one_pair (i + 2)
+    pair_ends w = whole_pair ∙ w one_pair
 
 -- ---- a whole part
 
 module _ (s : List ℕ) (p first : ℕ) (entry : List ℕ) where
-  pub part_over : length s ≤ p → PieceSays s p first entry entry (Piece.NotGrammar p)
+  pub part_over : length s ≤ p → PieceSays s p first entry entry (Err (record { place = p }))
   unfolding scan
   part_over h = end_break scan s p begin (NotGrammar p) h refl
 
   module _ (h : p < length s) where
-    pub part_none : (get_or s p 0 ≡ ch "$" → ⊥) → PieceSays s p first entry entry (Piece.NotGrammar p)
+    pub part_none : (get_or s p 0 ≡ ch "$" → ⊥) → PieceSays s p first entry entry (Err (record { place = p }))
     unfolding scan
     part_none n = run_break scan s p begin (NotGrammar p) h (rw (ne_eqb _ _ n))
 
@@ -310,7 +315,7 @@ module _ (s : List ℕ) (p first : ℕ) (entry : List ℕ) where
       unfolding scan
       opened = run_take scan s p begin dollar h (rw e)
 
-      empty : ran scan (p + 1) dollar (drop (p + 1) s) ≡ ended [] (p + 1) → PieceSays s p first entry entry (Piece.Closed 0 (p + 1))
+      empty : ran scan (p + 1) dollar (drop (p + 1) s) ≡ ended [] (p + 1) → PieceSays s p first entry entry (Ok (record { value = 0; end = p + 1 }))
       empty r = record {
         u = [];
         runs = opened ∙ r;
@@ -318,20 +323,21 @@ module _ (s : List ℕ) (p first : ℕ) (entry : List ℕ) where
         within = omega arith;
       }
 
-      pub part_end : length s ≤ p + 1 → PieceSays s p first entry entry (Piece.Closed 0 (p + 1))
+      pub part_end : length s ≤ p + 1 → PieceSays s p first entry entry (Ok (record { value = 0; end = p + 1 }))
       unfolding scan on_digit hex_of
       part_end g = empty (end_stop scan s (p + 1) dollar [] g refl)
 
       -- what a reader of the rest says, from the state c at i on
-      pub part_rest : (c : St) (from i : ℕ) → p < from → Runs scan s dollar (p + 1) c i → (exit : List ℕ) (r : Piece) → StateSays s c from i first entry exit r
+      pub part_rest : (c : St) (from i : ℕ) → p < from → Runs scan s dollar (p + 1) c i → (exit : List ℕ) (r : Result (Taken ℕ) items.NotGrammar)
+          → StateSays s c from i first entry exit r
           → PieceSays s p first entry exit r
-      part_rest c from i l t exit (Piece.Closed n q) w = record {
+      part_rest c from i l t exit (Ok v) w = record {
         u = w.u;
         runs = opened ∙ t ∙ w.runs;
         meant = record { counted = w.meant.counted; filled = w.meant.filled; room = omega (arith, w.meant.room); past = omega (arith, w.meant.past) };
         within = w.within;
       }
-      part_rest c from i l t exit (Piece.NotGrammar q) w = opened ∙ t ∙ w
+      part_rest c from i l t exit (Err e) w = opened ∙ t ∙ w
 
       module _ (g : p + 1 < length s) where
         pub part_double : get_or s (p + 1) 0 ≡ ch "\"" → Runs scan s dollar (p + 1) (text (ch "\"") []) (p + 1 + 1)
@@ -347,6 +353,6 @@ module _ (s : List ℕ) (p first : ℕ) (entry : List ℕ) where
           unfolding scan
           part_pairs d = digit_goes s (p + 1) dollar (low []) (stops []) (rw (ne_eqb _ _ n, ne_eqb _ _ m)) d
 
-          pub part_bare : no_digit ≤ digit_at s (p + 1) → PieceSays s p first entry entry (Piece.Closed 0 (p + 1))
+          pub part_bare : no_digit ≤ digit_at s (p + 1) → PieceSays s p first entry entry (Ok (record { value = 0; end = p + 1 }))
           unfolding scan
           part_bare d = empty (run_stop scan s (p + 1) dollar [] g (rw (ne_eqb _ _ n, ne_eqb _ _ m) (digit_not s (p + 1) dollar (low []) (stops []) g d)))

@@ -1,9 +1,9 @@
 -- Words, a sign, and what begins a number or a time value. Assumes nothing.
-use Rattle.std.specs.Prelude.{Ok, Err}
 use Prim.Native.Nat.{ℕ, suc, ◌+◌, ◌≤◌, ◌<◌}
-use mathlib.Core.Path.{◌≡◌, refl, subst}
+use mathlib.Core.Path.{◌≡◌, refl}
 use mathlib.Core.Bool.{Bool, true, false, cond}
 use mathlib.Core.List.{List, [], ◌∷◌}
+use Rattle.std.specs.Prelude.{Ok, Err}
 use native.Mathlib.Omega.{arith}
 use lib.Dec.{eqb}
 use lib.ListN.{length, get_or, drop}
@@ -22,9 +22,8 @@ use Rattle.items.specs.Between.Places.{byte_at}
 use Rattle.items.specs.Between.Spelling.{WordSays}
 use Rattle.items.specs.Between.NumberOrTime.{Scanned, taken, Means, Tells, Reads, Edge, From}
 use Rattle.items.specs.declared.number.Acc.{Acc}
+use Rattle.items.specs.declared.NotGrammar as items
 use Rattle.items.specs.declared.Item.TheVariants as Item
-use Rattle.items.specs.declared.word.Word.{Word}
-use Rattle.items.specs.declared.word.Word.TheVariants.{Whole}
 use Rattle.items.proofs.PlacesLaws.{byte_in, byte_out}
 use Rattle.items.proofs.NumberOrTimeLaws.{edge_none, no_digit_lem, took, breaks_at, same}
 use Rattle.items.proofs.NumberDecimalLaws.{holds_none}
@@ -55,16 +54,12 @@ word_ran n (b ∷ t) i (a ∷ l) = go (word_ran n t (suc i) l) (eqb b a)
     go e true = e
     go e false = refl
 
-module _ (s : List ℕ) (i : ℕ) (l : List ℕ) (n : Number) (w : Word) (k : WordSays s i l w) (p : ℕ) where
-  pub named_cut : w ≡ Word.NotGrammar p → Reads s i (word l n) (Err (NotGrammar p))
-  named_cut e =
-      let h : WordSays s i l (Word.NotGrammar p) = subst (λ (x : Word). WordSays s i l x) e k in
-      record { tells = rw (word_ran n (drop i s) i l, h.0) Tells.refused }
+module _ (s : List ℕ) (i : ℕ) (l : List ℕ) (n : Number) where
+  pub named_cut : (e : items.NotGrammar) → WordSays s i l (Err e) → Reads s i (word l n) (Err (NotGrammar e.place))
+  named_cut e h = record { tells = rw (word_ran n (drop i s) i l, h.0) Tells.refused }
 
-  pub named_whole : w ≡ Whole p → Reads s i (word l n) (Ok (taken (Item.Number n) p))
-  named_whole e =
-      let h : WordSays s i l (Whole p) = subst (λ (x : Word). WordSays s i l x) e k in
-      record { tells = rw (word_ran n (drop i s) i l, h.0) (Tells.item Means.number) }
+  pub named_whole : (p : ℕ) → WordSays s i l (Ok p) → Reads s i (word l n) (Ok (taken (Item.Number n) p))
+  named_whole p h = record { tells = rw (word_ran n (drop i s) i l, h.0) (Tells.item Means.number) }
 
 -- ---- after a sign
 

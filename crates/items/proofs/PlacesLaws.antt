@@ -1,5 +1,5 @@
 -- Runs of a scanner over places of a slice: one step, and what ends it. Assumes nothing.
-use mathlib.Core.Path.{◌≡◌, refl, sym, ap, ◌∙◌}
+use mathlib.Core.Path.{◌≡◌, refl, sym, ap, subst, ◌∙◌}
 use Prim.Native.Nat.{ℕ, zero, suc, ◌+◌, ◌≤◌, ◌<◌}
 use mathlib.Core.List.{List, [], ◌∷◌}
 use mathlib.Core.Logic.{◌⊎◌, inl, inr}
@@ -11,8 +11,11 @@ use native.Mathlib.Omega.{arith}
 use native.Mathlib.Numerals.{add-one}
 use native.Mathlib.Nat.{add-suc, add-zero, zero-add}
 use borrow.Author.Tests.{ltb-true, ltb-false}
+use Rattle.std.specs.Prelude.{Result, Err, IsErrAnd}
+use Rattle.std.proofs.lemmas.Result.{err_from_is_err_and}
 use Rattle.meaning.specs.declared.Refusal.{Refusal}
 use Rattle.machine.specs.Scan.{Out, takes, stops, breaks, over, Ran, ended, broke, unended, goes_on, ran}
+use Rattle.items.specs.declared.NotGrammar.{NotGrammar}
 use Rattle.items.specs.Between.Places.{byte_at, Onward, ran_from, Goes, ran_at, Runs}
 
 pub byte_in : (s : List ℕ) (i : ℕ) → i < length s → byte_at s i ≡ get_or s i 0
@@ -126,3 +129,14 @@ further o h = record { behind = omega (arith, o.behind); within = omega arith }
 
 pub then : {text : List ℕ} {p q r : ℕ} → Onward text p q → Onward text q r → Onward text p r
 then o u = record { behind = omega (arith, o.behind, u.behind); within = u.within }
+
+-- ---- an error that `?` hands on
+
+module _ {T E : Type 0} (P : Result T E → Type 0) (r : Result T E) where
+  pub passed_on : {e : E} → IsErrAnd r (λ y. y ≡ e) → P (Err e) → P r
+  passed_on h t = let p = err_from_is_err_and r h in subst P (sym (p.1 ∙ ap Err p.2)) t
+
+-- the place where it is not the grammar
+pub passed_at : {T : Type 0} (P : Result T NotGrammar → Type 0) (r : Result T NotGrammar) {e : NotGrammar} {p : ℕ} → IsErrAnd r (λ y. y ≡ e)
+    → e.place ≡ p → P (Err (record { place = p })) → P r
+passed_at P r {e} {p} h f t = passed_on P r h (subst (λ (n : ℕ). P (Err (record { place = n }))) (sym f) t)

@@ -2,6 +2,7 @@
 use mathlib.Core.Path.{◌≡◌, ◌∙◌}
 use Prim.Native.Nat.{ℕ, ◌+◌, ◌≤◌, ◌<◌}
 use mathlib.Core.List.{List}
+use Rattle.std.specs.Prelude.{Ok, Err}
 use lib.ListN.{length, get_or, drop, drop_of_length-le}
 use lib.Seq.{drop-cons}
 use native.Mathlib.Omega.{arith}
@@ -11,7 +12,6 @@ use borrow.Author.Tests.{eq-eqb, ne_eqb}
 use Rattle.meaning.specs.declared.Refusal.TheVariants.{NotGrammar}
 use Rattle.machine.specs.Scan.{over}
 use Rattle.machine.specs.Names.{word_scan}
-use Rattle.items.specs.declared.word.Word.{Word}
 use Rattle.items.specs.Between.Places.{Runs}
 use Rattle.items.specs.Between.Spelling.{WordSays}
 use Rattle.items.proofs.PlacesLaws.{byte_in, byte_out, runs_by, broken_by, ended_by}
@@ -28,12 +28,16 @@ pub spelt_start : (s : List ℕ) (p : ℕ) (word : List ℕ) → p ≤ length s 
 spelt_start s p word h = record { goes = rw (add-zero p); some = omega arith; within = omega arith }
 
 module _ {s : List ℕ} {p : ℕ} {word : List ℕ} {i : ℕ} (t : Spelt s p word i) where
-  pub spelt_whole : length word ≤ i → WordSays s p word (Word.Whole (p + i))
+  pub spelt_whole : length word ≤ i → WordSays s p word (Ok (p + length word))
   unfolding word_scan
-  spelt_whole h = (t.goes ∙ ended_by word_scan s (drop i word) tt (p + i) (rw (drop_of_length-le word {i = i} h)), t.within)
+  spelt_whole h =
+      let e : i ≡ length word = omega (arith, t.some) in (
+        rw (← e) (t.goes ∙ ended_by word_scan s (drop i word) tt (p + i) (rw (drop_of_length-le word {i = i} h))),
+        rw (← e) t.within,
+      )
 
   module _ (l : i < length word) where
-    pub spelt_end : length s ≤ p + i → get_or word i 0 < over → WordSays s p word (Word.NotGrammar (p + i))
+    pub spelt_end : length s ≤ p + i → get_or word i 0 < over → WordSays s p word (Err (record { place = p + i }))
     unfolding word_scan
     spelt_end h small = (
       t.goes ∙ broken_by word_scan s (drop i word) (NotGrammar (p + i)) (p + i)
@@ -42,7 +46,7 @@ module _ {s : List ℕ} {p : ℕ} {word : List ℕ} {i : ℕ} (t : Spelt s p wor
     )
 
     module _ (h : p + i < length s) where
-      pub spelt_cut : (get_or s (p + i) 0 ≡ get_or word i 0 → ⊥) → WordSays s p word (Word.NotGrammar (p + i))
+      pub spelt_cut : (get_or s (p + i) 0 ≡ get_or word i 0 → ⊥) → WordSays s p word (Err (record { place = p + i }))
       unfolding word_scan
       spelt_cut n = (
         t.goes ∙ broken_by word_scan s (drop i word) (NotGrammar (p + i)) (p + i)

@@ -15,7 +15,9 @@ use Rattle.machine.specs.Scan.{over}
 use Rattle.machine.specs.Strings as S
 use Rattle.machine.specs.Strings.{Ctx, mk, first, whole, half, body, done, alone, unit, on_body, plain_byte, scan}
 use Rattle.items.specs.Between.Places.{Goes}
-use Rattle.items.specs.Between.StringPart.{Halved, Coded, Spoilt, Broken, Read, Blamed, Stopped}
+use Rattle.items.specs.Between.StringPart.{Halved, Coded, Spoilt, Broken, EscapeIs, Read, Blamed, Stopped}
+use Rattle.items.specs.declared.string_part.Escape.{Escape}
+use Rattle.items.specs.declared.string_part.Escape.TheVariants.{Half, Code, Bad}
 use Rattle.items.proofs.PlacesLaws.{go, moves, alike, like, end}
 use Rattle.items.proofs.StringPartEscapeLaws.{encode_four}
 
@@ -104,12 +106,13 @@ module _ (s : List ℕ) (at : ℕ) where
       pub wait_other : next < length s → (get_or s next 0 ≡ ch "\\" → ⊥) → Blamed s at next
       wait_other l ne = blamed (λ base q bad acc. unpaired base s next l ne q bad (base + at) w acc)
 
-      pub wait_code : (n c : ℕ) → Coded s next n c → Blamed s at next
-      wait_code n c u = blamed (λ base q bad acc. u.goes base (mk q bad (half (base + at) w) acc)
+      -- an escape that is no unit
+      pub wait_whole : (v : Escape) (n : ℕ) → EscapeIs s next v n → ((l : ℕ) → v ≡ Half l → ⊥) → Blamed s at next
+      wait_whole (Half l) n u m = absurd (m l refl)
+      wait_whole (Code c) n u m = blamed (λ base q bad acc. u.goes base (mk q bad (half (base + at) w) acc)
           ∙ sym (u.goes base (mk q (first bad (base + at)) whole acc)))
-
-      pub wait_odd : (n : ℕ) → Spoilt s next n → Blamed s at next
-      wait_odd n u = blamed (λ base q bad acc. u.goes base (mk q bad (half (base + at) w) acc) ∙ sym (u.goes base (mk q (first bad (base + at)) whole acc)))
+      wait_whole Bad n u m = blamed (λ base q bad acc. u.goes base (mk q bad (half (base + at) w) acc)
+          ∙ sym (u.goes base (mk q (first bad (base + at)) whole acc)))
 
       module _ (n l : ℕ) (u : Halved s next n l) where
         pub wait_below : l < 0xDC00 → Blamed s at next

@@ -3,6 +3,7 @@ use mathlib.Core.Path.{◌≡◌, refl, sym, ap, ◌∙◌}
 use Prim.Native.Nat.{ℕ, zero, suc, ◌+◌, ◌-◌, ◌≤◌, ◌<◌}
 use mathlib.Core.List.{List, [], ◌∷◌, ◌++◌, append_assoc, append-nil}
 use mathlib.Core.Bool.{true, false}
+use Rattle.std.specs.Prelude.{Ok, Err}
 use lib.ListN.{length, drop, take, get_or, replicate, length-append, length-take, length-drop, length-replicate}
 use lib.Seq.{sets, take-suc, get_or-drop, take_at, take-take}
 use lib.Dec.{eqb}
@@ -13,8 +14,7 @@ use Rattle.meaning.specs.declared.Refusal.TheVariants.{NotGrammar}
 use Rattle.meaning.specs.Letters.{ch, letters}
 use Rattle.machine.specs.Scan.{over}
 use Rattle.machine.specs.Strings.{mk, fine, whole, lines0, lines_cr, lines, done, line_byte, on_lines, scan}
-use Rattle.items.specs.declared.string_part.Part.{Part}
-use Rattle.items.specs.declared.string_part.Part.TheVariants.{Closed}
+use Rattle.items.specs.declared.string_part.Broken.TheVariants as Why
 use Rattle.items.specs.Between.Places.{Goes}
 use Rattle.items.specs.Between.StringPart.{ThreeSays, Begun, Closes, Breaks}
 use Rattle.items.proofs.PlacesLaws.{byte_out, go, halt, like, alike, end, stops_by}
@@ -180,11 +180,11 @@ module _ (s : List ℕ) (q from : ℕ) where
 -- ---- the whole
 
 module _ (s : List ℕ) (q at : ℕ) (entry : List ℕ) (g : 0x20 < q) (i : ℕ) (f : Begun s i) where
-  pub three_cut : (p : ℕ) → Breaks s q i p → ThreeSays s q at entry entry (Part.NotGrammar p)
+  pub three_cut : (p : ℕ) → Breaks s q i p → ThreeSays s q at entry entry (Err (Why.NotGrammar p))
   three_cut p t = (λ base. f.goes base q g ∙ t.ends base, t.within)
 
   pub three_last : (e : ℕ) → Closes s q i e → (exit : List ℕ) → exit ≡ sets entry at (take (e - i) (drop i s))
-      → ThreeSays s q at entry exit (Closed (e - i) (e + 3))
+      → ThreeSays s q at entry exit (Ok (record { value = e - i; end = e + 3 }))
   three_last e t exit w = record {
     value = take (e - i) (drop i s);
     runs = λ base. f.goes base q g ∙ t.ends base;

@@ -1,6 +1,8 @@
 -- What functions of this crate promise each other, and what that is said with. Nothing here has to be believed.
 -- Places: runs of a scanner over places of a slice
 pub mod Places
+-- HexDigit: what the functions that read a hexadecimal digit and a short escape promise
+pub mod HexDigit
 -- PlacedPart: a part by itself, and what it puts into the store
 pub mod PlacedPart
 -- StringPart: what the functions that read a string part promise

@@ -1,59 +1,54 @@
 // Hexadecimal digits and short escapes, as strings, binary and numbers share them.
-ghost use Rattle.std.specs.Prelude.{◌≡◌};
-ghost use Rattle.machine.specs.Strings.{hex_of, short_of};
+ghost use Rattle.machine.specs.Strings.{hex_of, no_digit, short_of, no_short};
+ghost use Rattle.items.specs.Between.HexDigit.{Below, DigitSays};
 ghost use Rattle.items.specs.Between.Places.{digit_at};
 
-// The value of a hexadecimal digit, or 16.
-pub fn hex(b: u8) -> u8
-    ensures { result ≡ hex_of b }
-{
-    if b < b'0' {
-        return 16;
-    }
-    if b <= b'9' {
-        return b - b'0';
-    }
-    if b < b'A' {
-        return 16;
-    }
-    if b <= b'F' {
-        return b - b'A' + 10;
-    }
-    if b < b'a' {
-        return 16;
-    }
-    if b <= b'f' {
-        return b - b'a' + 10;
-    }
-    16
-}
+use crate::NotGrammar;
 
-// The digit at a place; 16 where there is none.
-pub fn digit(text: &[u8], at: usize) -> u8
-    ensures { result ≡ digit_at text.now at }
-{
-    if at < text.len() {
-        return hex(text[at]);
-    }
-    16
-}
-
-// The character of a short escape, or 256.
-pub fn short(b: u8) -> u16
-    ensures { result ≡ short_of b }
+// The value of a hexadecimal digit.
+#[tactic(auto, using(std::proofs::lemmas::Bool::Decides::nat_tests), unfolding(machine::specs::Strings::hex_of))]
+pub fn hex(b: u8) -> Option<u8>
+    ensures { Below no_digit (hex_of b) result }
 {
     match b {
-        b'"' => 0x22,
-        b'\'' => 0x27,
-        b'\\' => 0x5C,
-        b'/' => 0x2F,
-        b'0' => 0x00,
-        b'b' => 0x08,
-        b'f' => 0x0C,
-        b'n' => 0x0A,
-        b'r' => 0x0D,
-        b't' => 0x09,
-        b'v' => 0x0B,
-        _ => 256,
+        b'0'..=b'9' => Some(b - b'0'),
+        b'A'..=b'F' => Some(b - b'A' + 10),
+        b'a'..=b'f' => Some(b - b'a' + 10),
+        _ => None,
+    }
+}
+
+// The digit at a place, where there is one.
+pub fn digit(text: &[u8], at: usize) -> Option<u8>
+    ensures { Below no_digit (digit_at text.now at) result }
+{
+    if at < text.len() { hex(text[at]) } else { None }
+}
+
+// The digit that must stand at a place.
+pub fn hex_at(text: &[u8], at: usize) -> Result<u8, NotGrammar>
+    ensures { DigitSays text.now at result }
+{
+    digit(text, at).ok_or(NotGrammar { place: at })
+}
+
+// The character of a short escape.
+#[tactic(auto, using(std::proofs::lemmas::Bool::Decides::nat_tests), unfolding(machine::specs::Strings::short_of))]
+pub fn short(b: u8) -> Option<u8>
+    ensures { Below no_short (short_of b) result }
+{
+    match b {
+        b'"' => Some(0x22),
+        b'\'' => Some(0x27),
+        b'\\' => Some(0x5C),
+        b'/' => Some(0x2F),
+        b'0' => Some(0x00),
+        b'b' => Some(0x08),
+        b'f' => Some(0x0C),
+        b'n' => Some(0x0A),
+        b'r' => Some(0x0D),
+        b't' => Some(0x09),
+        b'v' => Some(0x0B),
+        _ => None,
     }
 }

@@ -450,15 +450,14 @@ fn hex_digits(s: &[u8], from: usize) -> Hex
     let mut over = false;
     let mut i = from;
     while i < s.len() {
-        let d = hex_digit::hex(s[i]) as u64;
-        if 16 <= d {
+        let Some(d) = hex_digit::hex(s[i]) else {
             return Hex { v, over, at: i };
-        }
+        };
         if v > SIXTEENTH {
             over = true;
             i += 1;
         } else {
-            v = 16 * v + d;
+            v = 16 * v + d as u64;
             i += 1;
         }
     }
@@ -470,9 +469,9 @@ pub fn hexadecimal(s: &[u8], q: usize, g: bool, from: usize) -> Scanned
     requires { Place s.now from }
     ensures { Reads s.now from (Numeric.hex_mark q g) result }
 {
-    if 16 <= hex_digit::digit(s, from) {
+    let Ok(_) = hex_digit::hex_at(s, from) else {
         return Err(Refusal::NotGrammar(from));
-    }
+    };
     let w = hex_digits(s, from);
     let v = w.v;
     let at = w.at;

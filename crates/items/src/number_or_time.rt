@@ -6,7 +6,6 @@ ghost use Rattle.items.specs.Between.NumberOrTime.{NumericSays, Reads, Place, Ed
 
 use crate::number::{Acc, NONE};
 use crate::time_value::When;
-use crate::word::Word;
 use crate::{Item, Scanned, Taken, number, time_value, word};
 use meaning::{Number, Refusal, Time};
 
@@ -192,13 +191,11 @@ fn named(s: &[u8], from: usize, spelt: &[u8], n: Number) -> Scanned
     requires { Place s.now from }
     ensures { Reads s.now from (Numeric.word spelt.now n) result }
 {
-    match word::spell(s, from, spelt) {
-        Word::NotGrammar(p) => Err(Refusal::NotGrammar(p)),
-        Word::Whole(at) => Ok(Taken {
-            value: Item::Number(n),
-            end: at,
-        }),
-    }
+    let at = word::spell(s, from, spelt)?;
+    Ok(Taken {
+        value: Item::Number(n),
+        end: at,
+    })
 }
 
 // A number at i that begins with no digit: a point or a word, g its sign.

@@ -2,69 +2,49 @@
 ghost use Rattle.std.specs.Prelude.{◌≡◌, ℕ, ◌+◌, ◌≤◌, ◌<◌, ◌^◌, length, get_or};
 ghost use Rattle.meaning.specs.Letters.{ch};
 ghost use Rattle.machine.specs.Strings.{line_byte};
-ghost use Rattle.items.specs.Between.StringPart.{EscapeSays, Halved, Grown, grown_to, CharSays, gap, BlockSays, Passed, Earlier};
+ghost use Rattle.items.specs.Between.StringPart.{EscapeSays, Halved, Grown, grown_to, CharSays, gap, BlockSays, Passed};
+ghost use Rattle.items.specs.declared.string_part.Broken.TheVariants as Breaks;
 ghost use Rattle.items.specs.Between.StringPart.{InnerSays, OneSays, ThreeSays, PartSays, Begun, LinesSays};
 
-use crate::{hex_digit, store};
+use crate::hex_digit::hex_at;
+use crate::{NotGrammar, Taken, hex_digit, store};
 
-// What a part comes to: the store bytes put and the bytes taken; the backslash of the first bad escape; a byte that no
-// rule allows.
+// What breaks a part: the backslash of its first bad escape, or a byte that no rule allows.
 #[derive(Clone, Copy)]
-pub enum Part {
-    Closed { bytes: usize, taken: usize },
+pub enum Broken {
     BadEscape(usize),
     NotGrammar(usize),
 }
 
-// What one escape is: half of a pair or a unit of its own; a character; a bad one; or no escape.
+impl From<NotGrammar> for Broken {
+    ghost from_gives = { λ e r. r ≡ Breaks.NotGrammar e.place };
+
+    fn from(e: NotGrammar) -> Broken {
+        Broken::NotGrammar(e.place)
+    }
+}
+
+// What one escape means: half of a pair or a unit of its own; a character; or nothing, where it is a bad one.
 #[derive(Clone, Copy)]
 enum Escape {
-    Half { unit: u32, next: usize },
-    Code { character: u32, next: usize },
-    BadEscape(usize),
-    NotGrammar(usize),
-}
-
-// What the escapes at a backslash come to: a character, a bad one, or a byte that no rule allows.
-#[derive(Clone, Copy)]
-pub enum Char {
-    Whole { character: u32, next: usize },
-    BadEscape(usize),
-    NotGrammar(usize),
-}
-
-// The end of a multiline part: its last three quotes, or what breaks it.
-#[derive(Clone, Copy)]
-enum Lines {
-    Last(usize),
-    NotGrammar(usize),
+    Half(u32),
+    Code(u32),
+    Bad,
 }
 
 // The four digits of the escape at `at`.
-fn four(s: &[u8], at: usize) -> Escape
+fn four(s: &[u8], at: usize) -> Result<Taken<Escape>, NotGrammar>
     requires { (at + 2 < length s.now) × (get_or s.now at 0 ≡ ch "\\") × (get_or s.now (at + 1) 0 ≡ ch "u") × (get_or s.now (at + 2) 0 ≡ ch "{" → ⊥) }
     ensures { EscapeSays s.now at result }
 {
-    let a = hex_digit::digit(s, at + 2) as u32;
-    if 16 <= a {
-        return Escape::NotGrammar(at + 2);
-    }
-    let b = hex_digit::digit(s, at + 3) as u32;
-    if 16 <= b {
-        return Escape::NotGrammar(at + 3);
-    }
-    let c = hex_digit::digit(s, at + 4) as u32;
-    if 16 <= c {
-        return Escape::NotGrammar(at + 4);
-    }
-    let d = hex_digit::digit(s, at + 5) as u32;
-    if 16 <= d {
-        return Escape::NotGrammar(at + 5);
-    }
-    Escape::Half {
-        unit: 16 * (16 * (16 * a + b) + c) + d,
-        next: at + 6,
-    }
+    let a = hex_at(s, at + 2)? as u32;
+    let b = hex_at(s, at + 3)? as u32;
+    let c = hex_at(s, at + 4)? as u32;
+    let d = hex_at(s, at + 5)? as u32;
+    Ok(Taken {
+        value: Escape::Half(16 * (16 * (16 * a + b) + c) + d),
+        end: at + 6,
+    })
 }
 
 // 16 v + d, or a number past the last character where it is past it.
@@ -80,70 +60,47 @@ pub fn grown(v: u32, d: u32) -> u32
 }
 
 // The digits in braces of the escape at `at`.
-fn braces(s: &[u8], at: usize) -> Escape
+fn braces(s: &[u8], at: usize) -> Result<Taken<Escape>, NotGrammar>
     requires { (at + 2 < length s.now) × (get_or s.now at 0 ≡ ch "\\") × (get_or s.now (at + 1) 0 ≡ ch "u") × (get_or s.now (at + 2) 0 ≡ ch "{") }
     ensures { EscapeSays s.now at result }
 {
-    let a = hex_digit::digit(s, at + 3) as u32;
-    if 16 <= a {
-        return Escape::NotGrammar(at + 3);
-    }
-    let mut v = a;
+    let mut v = hex_at(s, at + 3)? as u32;
     let mut p = at + 4;
-    loop {
-        if s.len() <= p {
-            return Escape::NotGrammar(p);
-        }
-        if s[p] == b'}' {
-            if v < 0xD800 {
-                return Escape::Code {
-                    character: v,
-                    next: p + 1,
-                };
-            }
-            if v < 0xE000 {
-                return Escape::BadEscape(p + 1);
-            }
-            if v < 0x110000 {
-                return Escape::Code {
-                    character: v,
-                    next: p + 1,
-                };
-            }
-            return Escape::BadEscape(p + 1);
-        }
-        let d = hex_digit::digit(s, p) as u32;
-        if 16 <= d {
-            return Escape::NotGrammar(p);
-        }
-        v = grown(v, d);
-        p = p + 1;
+    while p < s.len() && s[p] != b'}' {
+        v = grown(v, hex_at(s, p)? as u32);
+        p += 1;
     }
+    if p >= s.len() {
+        return Err(NotGrammar { place: p });
+    }
+    let value = match v {
+        0..=0xD7FF | 0xE000..=0x10FFFF => Escape::Code(v),
+        _ => Escape::Bad,
+    };
+    Ok(Taken { value, end: p + 1 })
 }
 
 // One escape, from its backslash.
-fn escape_at(s: &[u8], at: usize) -> Escape
+fn escape_at(s: &[u8], at: usize) -> Result<Taken<Escape>, NotGrammar>
     requires { (at < length s.now) × (get_or s.now at 0 ≡ ch "\\") }
     ensures { EscapeSays s.now at result }
 {
     let p = at + 1;
     if s.len() <= p {
-        return Escape::NotGrammar(p);
+        return Err(NotGrammar { place: p });
     }
-    let b = s[p];
-    if b != b'u' {
-        let c = hex_digit::short(b);
-        if c < 256 {
-            return Escape::Code {
-                character: c as u32,
-                next: p + 1,
-            };
-        }
-        return Escape::NotGrammar(p);
+    if s[p] != b'u' {
+        return match hex_digit::short(s[p]) {
+            Some(c) => Ok(Taken {
+                value: Escape::Code(c as u32),
+                end: p + 1,
+            }),
+            None => Err(NotGrammar { place: p }),
+        };
     }
     let u = at + 2;
     if s.len() <= u {
-        return Escape::NotGrammar(u);
+        return Err(NotGrammar { place: u });
     }
     if s[u] == b'{' {
         return braces(s, at);
@@ -152,67 +109,66 @@ fn escape_at(s: &[u8], at: usize) -> Escape
 }
 
 // After the first half of a pair, w: the second is the escape at `next`, or w is alone.
-fn second_half(s: &[u8], next: usize, w: u32) -> Char
+fn second_half(s: &[u8], next: usize, w: u32) -> Result<Taken<Option<u32>>, NotGrammar>
     requires { (0xD800 ≤ w) × (w < 0xDC00) }
     ensures { (at : ℕ) → Halved s.now at next w → CharSays s.now at result }
 {
     if s.len() <= next {
-        return Char::NotGrammar(next);
+        return Err(NotGrammar { place: next });
     }
+    let alone = Taken {
+        value: None,
+        end: next,
+    };
     if s[next] != b'\\' {
-        return Char::BadEscape(next);
+        return Ok(alone);
     }
-    match escape_at(s, next) {
-        Escape::Code {
-            character: _,
-            next: _,
-        } => Char::BadEscape(next),
-        Escape::BadEscape(_) => Char::BadEscape(next),
-        Escape::NotGrammar(p) => Char::NotGrammar(p),
-        Escape::Half {
-            unit: l,
-            next: after,
-        } => {
-            if l < 0xDC00 {
-                return Char::BadEscape(next);
-            }
-            if 0xE000 <= l {
-                return Char::BadEscape(next);
-            }
-            Char::Whole {
-                character: 0x10000 + (w - 0xD800) * 1024 + (l - 0xDC00),
-                next: after,
-            }
-        }
+    let second = escape_at(s, next)?;
+    let Escape::Half(l) = second.value else {
+        return Ok(alone);
+    };
+    if l < 0xDC00 || 0xE000 <= l {
+        return Ok(alone);
     }
+    Ok(Taken {
+        value: Some(0x10000 + (w - 0xD800) * 1024 + (l - 0xDC00)),
+        end: second.end,
+    })
 }
 
 // After the unit w of an escape: a character by itself, half of a pair, or neither.
-fn unit(s: &[u8], next: usize, w: u32) -> Char
+fn unit(s: &[u8], next: usize, w: u32) -> Result<Taken<Option<u32>>, NotGrammar>
     ensures { (at : ℕ) → Halved s.now at next w → CharSays s.now at result }
 {
-    if w < 0xD800 {
-        return Char::Whole { character: w, next };
+    match w {
+        0xD800..=0xDBFF => second_half(s, next, w),
+        0xDC00..=0xDFFF => Ok(Taken {
+            value: None,
+            end: next,
+        }),
+        _ => Ok(Taken {
+            value: Some(w),
+            end: next,
+        }),
     }
-    if 0xE000 <= w {
-        return Char::Whole { character: w, next };
-    }
-    if 0xDC00 <= w {
-        return Char::BadEscape(next);
-    }
-    second_half(s, next, w)
 }
 
-// One escape, or two that make one character.
-pub fn character(s: &[u8], at: usize) -> Char
+// The character of one escape, or of two that make one; none where it is a bad one.
+pub fn character(s: &[u8], at: usize) -> Result<Taken<Option<u32>>, NotGrammar>
     requires { (at < length s.now) × (get_or s.now at 0 ≡ ch "\\") }
     ensures { CharSays s.now at result }
 {
-    match escape_at(s, at) {
-        Escape::Code { character: c, next } => Char::Whole { character: c, next },
-        Escape::BadEscape(next) => Char::BadEscape(next),
-        Escape::NotGrammar(p) => Char::NotGrammar(p),
-        Escape::Half { unit: w, next } => unit(s, next, w),
+    let first = escape_at(s, at)?;
+    match first.value {
+        Escape::Half(w) => unit(s, first.end, w),
+        Escape::Code(c) => Ok(Taken {
+            value: Some(c),
+            end: first.end,
+        }),
+        Escape::Bad => Ok(Taken {
+            value: None,
+            end: first.end,
+        }),
     }
 }
 
@@ -296,55 +252,40 @@ pub fn plain_end(s: &[u8], from: usize, q: u8) -> usize
     plain_bytes(s, at, q)
 }
 
-// The first bad escape so far: `bad`, or the one at `at` where there is none.
-fn earlier(bad: usize, at: usize) -> usize
-    ensures { Earlier bad at result }
-{
-    if bad == 0 {
-        return at;
-    }
-    bad
-}
-
 // After one opening quote.
-fn inner(s: &[u8], q: u8, store: &mut [u8], at: usize) -> Part
+fn inner(s: &[u8], q: u8, store: &mut [u8], at: usize) -> Result<Taken<usize>, Broken>
     requires { (at + length s.now < 2 ^ 64) × (0 < length s.now) }
     ensures { InnerSays s.now q at store.old store.new result }
 {
     let mut i: usize = 1;
     let mut out = at;
-    let mut bad: usize = 0;
+    let mut bad: Option<usize> = None;
     loop {
         let e = plain_end(s, i, q);
         store::copy(s, i, e, store, out);
         out += e - i;
         if s.len() <= e {
-            return Part::NotGrammar(e);
+            return Err(Broken::NotGrammar(e));
         }
         let b = s[e];
         if b != b'\\' {
             if b != q {
-                return Part::NotGrammar(e);
+                return Err(Broken::NotGrammar(e));
             }
-            if bad != 0 {
-                return Part::BadEscape(bad);
-            }
-            return Part::Closed {
-                bytes: out - at,
-                taken: e + 1,
+            return match bad {
+                Some(first) => Err(Broken::BadEscape(first)),
+                None => Ok(Taken {
+                    value: out - at,
+                    end: e + 1,
+                }),
             };
         }
-        match character(s, e) {
-            Char::NotGrammar(p) => return Part::NotGrammar(p),
-            Char::BadEscape(next) => {
-                bad = earlier(bad, e);
-                i = next;
-            }
-            Char::Whole { character: c, next } => {
-                out = store::encode(c, store, out);
-                i = next;
-            }
+        let escape = character(s, e)?;
+        match escape.value {
+            Some(c) => out = store::encode(c, store, out),
+            None => bad = bad.or(Some(e)),
         }
+        i = escape.end;
     }
 }
 
@@ -388,8 +329,8 @@ pub fn line_byte(b: u8) -> bool
     b == b'\r'
 }
 
-// The next three quotes from `from` on.
-fn lines_end(s: &[u8], from: usize, q: u8) -> Lines
+// The next three quotes from `from` on: the last three of them.
+fn lines_end(s: &[u8], from: usize, q: u8) -> Result<usize, NotGrammar>
     requires { from ≤ length s.now }
     ensures { LinesSays s.now q from result }
 {
@@ -399,7 +340,7 @@ fn lines_end(s: &[u8], from: usize, q: u8) -> Lines
         let b = s[i];
         if b == q {
             if n == 2 {
-                return Lines::Last(i - 2);
+                return Ok(i - 2);
             }
             n = n + 1;
             i = i + 1;
@@ -408,65 +349,58 @@ fn lines_end(s: &[u8], from: usize, q: u8) -> Lines
                 n = 0;
                 i = i + 1;
             } else {
-                return Lines::NotGrammar(i);
+                return Err(NotGrammar { place: i });
             }
         }
     }
-    Lines::NotGrammar(i)
+    Err(NotGrammar { place: i })
 }
 
 // After three quotes.
-fn multiline(s: &[u8], q: u8, store: &mut [u8], at: usize) -> Part
+fn multiline(s: &[u8], q: u8, store: &mut [u8], at: usize) -> Result<Taken<usize>, Broken>
     requires { (2 < length s.now) × (0x20 < q) }
     ensures { ThreeSays s.now q at store.old store.new result }
 {
     let from = lines_start(s);
-    match lines_end(s, from, q) {
-        Lines::NotGrammar(p) => Part::NotGrammar(p),
-        Lines::Last(e) => {
-            store::copy(s, from, e, store, at);
-            Part::Closed {
-                bytes: e - from,
-                taken: e + 3,
-            }
-        }
-    }
+    let end = lines_end(s, from, q)?;
+    store::copy(s, from, end, store, at);
+    Ok(Taken {
+        value: end - from,
+        end: end + 3,
+    })
 }
 
 // From the opening quote q.
-fn quoted(s: &[u8], q: u8, store: &mut [u8], at: usize) -> Part
+fn quoted(s: &[u8], q: u8, store: &mut [u8], at: usize) -> Result<Taken<usize>, Broken>
     requires { (at + length s.now < 2 ^ 64) × (0 < length s.now) × (0x20 < q) }
     ensures { OneSays s.now q at store.old store.new result }
 {
     if s.len() < 2 {
-        return Part::NotGrammar(1);
+        return Err(Broken::NotGrammar(1));
     }
     if s[1] != q {
         return inner(s, q, store, at);
     }
     if s.len() < 3 {
-        return Part::Closed { bytes: 0, taken: 2 };
+        return Ok(Taken { value: 0, end: 2 });
     }
     if s[2] != q {
-        return Part::Closed { bytes: 0, taken: 2 };
+        return Ok(Taken { value: 0, end: 2 });
     }
     multiline(s, q, store, at)
 }
 
-// A string part, from its opening quote. Its bytes are put from `at` on, as far as there is room.
-pub fn read_part(s: &[u8], store: &mut [u8], at: usize) -> Part
+// A string part, from its opening quote: how many bytes it means. They are put from `at` on, as far as there is room.
+pub fn read_part(s: &[u8], store: &mut [u8], at: usize) -> Result<Taken<usize>, Broken>
     requires { at + length s.now < 2 ^ 64 }
     ensures { PartSays s.now at store.old store.new result }
 {
-    if s.len() == 0 {
-        return Part::NotGrammar(0);
+    if s.is_empty() {
+        return Err(Broken::NotGrammar(0));
     }
-    let q = s[0];
-    if q == b'"' {
-        return quoted(s, b'"', store, at);
+    match s[0] {
+        b'"' => quoted(s, b'"', store, at),
+        b'\'' => quoted(s, b'\'', store, at),
+        _ => Err(Broken::NotGrammar(0)),
     }
-    if q == b'\'' {
-        return quoted(s, b'\'', store, at);
-    }
-    Part::NotGrammar(0)
 }

@@ -2,29 +2,18 @@
 ghost use Rattle.std.specs.Prelude.{◌≤◌, length};
 ghost use Rattle.items.specs.Between.Spelling.{WordSays};
 
-// The place after a word, or the first where it is broken off.
-#[derive(Clone, Copy)]
-pub enum Word {
-    Whole(usize),
-    NotGrammar(usize),
-}
+use crate::NotGrammar;
 
-// The letters `spelt`, from a place on.
-pub fn spell(text: &[u8], from: usize, spelt: &[u8]) -> Word
+// The place after the letters `spelt`, from a place on.
+pub fn spell(text: &[u8], from: usize, spelt: &[u8]) -> Result<usize, NotGrammar>
     requires { from ≤ length text.now }
     ensures { WordSays text.now from spelt.now result }
 {
-    let mut i: usize = 0;
-    while i < spelt.len() {
-        let letter = spelt[i];
+    for (i, letter) in spelt.iter().enumerate() {
         let at = from + i;
-        if at >= text.len() {
-            return Word::NotGrammar(at);
+        if at >= text.len() || text[at] != *letter {
+            return Err(NotGrammar { place: at });
         }
-        if text[at] != letter {
-            return Word::NotGrammar(at);
-        }
-        i = i + 1;
     }
-    Word::Whole(from + i)
+    Ok(from + spelt.len())
 }

@@ -1,7 +1,7 @@
 -- What the functions that read a string part (docs/FORMAT.md, 3) promise, against the machine's scanner. Places count
 -- from the opening quote; `base` is any place where the part may stand in a text. Assumes nothing.
-use Rattle.std.specs.Prelude.{◌≡◌, ℕ, zero, suc, ◌+◌, ◌*◌, ◌-◌, ◌≤◌, ◌<◌, Bool, true, false, cond, List, [], ◌++◌}
-use Rattle.std.specs.Prelude.{length, drop, take, get_or, eqb, ltb}
+use Rattle.std.specs.Prelude.{◌≡◌, ℕ, ◌+◌, ◌*◌, ◌-◌, ◌≤◌, ◌<◌, Bool, true, false, cond, List, [], ◌++◌}
+use Rattle.std.specs.Prelude.{length, drop, take, get_or, eqb, ltb, Option, Some, None, Result, Ok, Err}
 use Rattle.std.proofs.lemmas.List.Edits.{sets}
 use Rattle.rules.specs.Rfc3629.{encode}
 use Rattle.meaning.specs.declared.Refusal.TheVariants.{NotGrammar, BadEscape}
@@ -11,14 +11,12 @@ use Rattle.machine.specs.Strings as S
 use Rattle.machine.specs.Strings.{Ctx, mk, give, blame, first, fine, spoilt, whole, unit, one, lines0, lines, body}
 use Rattle.machine.specs.Strings.{begin, scan, plain_byte}
 use Rattle.items.specs.Between.Places.{byte_at, ran_from, Goes}
+use Rattle.items.specs.declared.Taken.{Taken}
+use Rattle.items.specs.declared.NotGrammar as items
 use Rattle.items.specs.declared.string_part.Escape.{Escape}
-use Rattle.items.specs.declared.string_part.Escape.TheVariants.{Half, Code}
-use Rattle.items.specs.declared.string_part.Char.{Char}
-use Rattle.items.specs.declared.string_part.Char.TheVariants.{Whole}
-use Rattle.items.specs.declared.string_part.Lines.{Lines}
-use Rattle.items.specs.declared.string_part.Lines.TheVariants.{Last}
-use Rattle.items.specs.declared.string_part.Part.{Part}
-use Rattle.items.specs.declared.string_part.Part.TheVariants.{Closed}
+use Rattle.items.specs.declared.string_part.Escape.TheVariants.{Half, Code, Bad}
+use Rattle.items.specs.declared.string_part.Broken as part
+use Rattle.items.specs.declared.string_part.Broken.TheVariants as Why
 
 -- ---- plain bytes
 
@@ -82,11 +80,14 @@ pub record Broken (s : List ℕ) (at p : ℕ) : Type 0 where
   pub ends : (base : ℕ) (k : Ctx) → ran_from scan base s (body k) at ≡ broke (NotGrammar (base + p))
   pub within : p ≤ length s
 
-abbrev pub EscapeSays : List ℕ → ℕ → Escape → Type 0
-EscapeSays s at (Half w next) = Halved s at next w
-EscapeSays s at (Code c next) = Coded s at next c
-EscapeSays s at (Escape.BadEscape next) = Spoilt s at next
-EscapeSays s at (Escape.NotGrammar p) = Broken s at p
+abbrev pub EscapeIs : List ℕ → ℕ → Escape → ℕ → Type 0
+EscapeIs s at (Half w) next = Halved s at next w
+EscapeIs s at (Code c) next = Coded s at next c
+EscapeIs s at Bad next = Spoilt s at next
+
+abbrev pub EscapeSays : List ℕ → ℕ → Result (Taken Escape) items.NotGrammar → Type 0
+EscapeSays s at (Ok t) = EscapeIs s at t.value t.end
+EscapeSays s at (Err e) = Broken s at e.place
 
 -- v is w, or both are past the last character
 pub data Like (v w : ℕ) : Type 0 where
@@ -123,20 +124,18 @@ pub record Stopped (s : List ℕ) (at p : ℕ) : Type 0 where
       ≡ broke (NotGrammar (base + p))
   pub within : p ≤ length s
 
-abbrev pub CharSays : List ℕ → ℕ → Char → Type 0
-CharSays s at (Whole c next) = Read s at next c
-CharSays s at (Char.BadEscape next) = Blamed s at next
-CharSays s at (Char.NotGrammar p) = Stopped s at p
+abbrev pub CharIs : List ℕ → ℕ → Option ℕ → ℕ → Type 0
+CharIs s at (Some c) next = Read s at next c
+CharIs s at None next = Blamed s at next
 
--- the first bad backslash, with 0 for none: the opening quote stands at 0
-abbrev pub marked : ℕ → ℕ → S.Bad
-marked base zero = fine
-marked base (suc n) = spoilt (base + suc n)
+abbrev pub CharSays : List ℕ → ℕ → Result (Taken (Option ℕ)) items.NotGrammar → Type 0
+CharSays s at (Ok t) = CharIs s at t.value t.end
+CharSays s at (Err e) = Stopped s at e.place
 
--- r marks the bad escape at `at`, or an earlier one
-pub record Earlier (bad at r : ℕ) : Type 0 where
-  pub marks : (base : ℕ) → 0 < at → marked base r ≡ first (marked base bad) (base + at)
-  pub low : (n : ℕ) → bad ≤ n → at ≤ n → r ≤ n
+-- the backslash of the first bad escape, if there is one
+abbrev pub marked : ℕ → Option ℕ → S.Bad
+marked base None = fine
+marked base (Some at) = spoilt (base + at)
 
 -- ---- stores
 
@@ -159,25 +158,25 @@ pub record Held (R : ℕ → Ran (List ℕ)) (n at : ℕ) (entry exit : List ℕ
   pub within : taken ≤ n
   pub fewer : bytes + 2 ≤ taken
 
-abbrev pub Says : (ℕ → Ran (List ℕ)) → ℕ → ℕ → List ℕ → List ℕ → Part → Type 0
-Says R n at entry exit (Closed bytes taken) = Held R n at entry exit taken bytes
-Says R n at entry exit (Part.BadEscape p) = ((base : ℕ) → R base ≡ broke (BadEscape (base + p))) × (p ≤ n)
-Says R n at entry exit (Part.NotGrammar p) = ((base : ℕ) → R base ≡ broke (NotGrammar (base + p))) × (p ≤ n)
+abbrev pub Says : (ℕ → Ran (List ℕ)) → ℕ → ℕ → List ℕ → List ℕ → Result (Taken ℕ) part.Broken → Type 0
+Says R n at entry exit (Ok t) = Held R n at entry exit t.end t.value
+Says R n at entry exit (Err (Why.BadEscape p)) = ((base : ℕ) → R base ≡ broke (BadEscape (base + p))) × (p ≤ n)
+Says R n at entry exit (Err (Why.NotGrammar p)) = ((base : ℕ) → R base ≡ broke (NotGrammar (base + p))) × (p ≤ n)
 
 -- after the opening quote of a part with one
-abbrev pub InnerSays : List ℕ → ℕ → ℕ → List ℕ → List ℕ → Part → Type 0
+abbrev pub InnerSays : List ℕ → ℕ → ℕ → List ℕ → List ℕ → Result (Taken ℕ) part.Broken → Type 0
 InnerSays s q = Says (λ base. ran_from scan base s (body (mk q fine whole [])) 1) (length s)
 
 -- after the opening quote
-abbrev pub OneSays : List ℕ → ℕ → ℕ → List ℕ → List ℕ → Part → Type 0
+abbrev pub OneSays : List ℕ → ℕ → ℕ → List ℕ → List ℕ → Result (Taken ℕ) part.Broken → Type 0
 OneSays s q = Says (λ base. ran_from scan base s (one q) 1) (length s)
 
 -- after three quotes
-abbrev pub ThreeSays : List ℕ → ℕ → ℕ → List ℕ → List ℕ → Part → Type 0
+abbrev pub ThreeSays : List ℕ → ℕ → ℕ → List ℕ → List ℕ → Result (Taken ℕ) part.Broken → Type 0
 ThreeSays s q = Says (λ base. ran_from scan base s (lines0 q) 3) (length s)
 
 -- a whole part, from its opening quote
-abbrev pub PartSays : List ℕ → ℕ → List ℕ → List ℕ → Part → Type 0
+abbrev pub PartSays : List ℕ → ℕ → List ℕ → List ℕ → Result (Taken ℕ) part.Broken → Type 0
 PartSays s = Says (λ base. ran scan base begin s) (length s)
 
 -- a multiline part's bytes begin at r
@@ -196,6 +195,6 @@ pub record Breaks (s : List ℕ) (q i p : ℕ) : Type 0 where
   pub ends : (base : ℕ) → ran_from scan base s (lines q 0 []) i ≡ broke (NotGrammar (base + p))
   pub within : p ≤ length s
 
-abbrev pub LinesSays : List ℕ → ℕ → ℕ → Lines → Type 0
-LinesSays s q i (Last e) = Closes s q i e
-LinesSays s q i (Lines.NotGrammar p) = Breaks s q i p
+abbrev pub LinesSays : List ℕ → ℕ → ℕ → Result ℕ items.NotGrammar → Type 0
+LinesSays s q i (Ok e) = Closes s q i e
+LinesSays s q i (Err e) = Breaks s q i e.place

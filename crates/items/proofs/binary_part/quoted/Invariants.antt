@@ -1,4 +1,4 @@
-use mathlib.Core.Path.{◌≡◌}
+-- The bytes so far. Assumes nothing.
 use mathlib.Core.List.{[]}
 use Prim.Native.Nat.{◌-◌}
 use lib.ListN.{length}
@@ -8,7 +8,6 @@ use Rattle.items.proofs.binary_part.quoted.Given as goal
 
 abbrev pub invariant-loop-i : goal.invariant-loop-i
 invariant-loop-i l = Filling l.text (textB l.q []) l.from (texting l.q) (λ j. j) l.from l.start l.initial.store l.store l.i l.out
-    × (length l.store ≡ length l.initial.store)
 
 abbrev pub decreases-loop-i : goal.decreases-loop-i
 decreases-loop-i l = length l.text - l.i

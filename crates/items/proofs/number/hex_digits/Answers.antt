@@ -1,3 +1,4 @@
+use mathlib.Core.Path.{refl}
 use native.Mathlib.Omega.{arith}
 use Rattle.items.proofs.NumberHexLaws.{value_is, hex_start, hex_over, hex_more, hex_stop, hex_finish}
 use Rattle.items.proofs.number.hex_digits.Goals as goal
@@ -8,9 +9,8 @@ loop-i-init c = hex_start _ _ (omega arith)
 pub bounds-s-i : goal.bounds-s-i
 bounds-s-i c = omega arith
 
-pub returns-then-d-ge16 : goal.returns-then-d-ge16
-returns-then-d-ge16 c = hex_stop _ _ _ _ _ _ c.loop-i.invariant c.loop-i-test.true
-    (value_is _ _ c.hex-d.ensures) c.if-d-ge16.true
+pub returns-in_default : goal.returns-in_default
+returns-in_default c = hex_stop _ _ _ _ _ _ c.loop-i.invariant c.loop-i-test.true (value_is _ _ refl) c.in_default.ensures
 
 pub overflow_add-i : goal.overflow_add-i
 overflow_add-i c = omega (arith, c.requires)
@@ -20,13 +20,13 @@ loop-i-smaller-then-v-gt-SIXTEENTH c = omega arith
 
 pub loop-i-preserved-then-v-gt-SIXTEENTH : goal.loop-i-preserved-then-v-gt-SIXTEENTH
 loop-i-preserved-then-v-gt-SIXTEENTH c = hex_over _ _ _ _ _ _ c.loop-i.invariant c.loop-i-test.true
-    (value_is _ _ c.hex-d.ensures) (omega arith) c.if-v-gt-SIXTEENTH.true
+    (value_is _ _ c.in-Some.ensures.0) c.in-Some.ensures.1 c.if-v-gt-SIXTEENTH.true
 
 pub overflow_mul-v : goal.overflow_mul-v
 overflow_mul-v c = omega arith
 
 pub overflow_add-v : goal.overflow_add-v
-overflow_add-v c = omega arith
+overflow_add-v c = omega (arith, c.in-Some.ensures.1)
 
 pub overflow_add-i-else-v-gt-SIXTEENTH : goal.overflow_add-i-else-v-gt-SIXTEENTH
 overflow_add-i-else-v-gt-SIXTEENTH c = omega (arith, c.requires)
@@ -36,7 +36,7 @@ loop-i-smaller c = omega arith
 
 pub loop-i-preserved : goal.loop-i-preserved
 loop-i-preserved c = hex_more _ _ _ _ _ _ c.loop-i.invariant c.loop-i-test.true
-    (value_is _ _ c.hex-d.ensures) (omega arith) (omega arith)
+    (value_is _ _ c.in-Some.ensures.0) c.in-Some.ensures.1 (omega arith)
 
 pub returns : goal.returns
 returns c = hex_finish _ _ _ _ _ c.loop-i.invariant (omega arith)

@@ -1,11 +1,6 @@
 -- The letters so far have come. Assumes nothing.
-use Prim.Native.Nat.{◌-◌}
-use lib.ListN.{length}
 use Rattle.items.proofs.SpellingLaws.{Spelt}
 use Rattle.items.proofs.word.spell.Given as goal
 
 abbrev pub invariant-loop-i : goal.invariant-loop-i
 invariant-loop-i l = Spelt l.text l.from l.spelt l.i
-
-abbrev pub decreases-loop-i : goal.decreases-loop-i
-decreases-loop-i l = length l.spelt - l.i
