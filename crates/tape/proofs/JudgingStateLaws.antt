@@ -2,6 +2,7 @@
 use mathlib.Core.Path.{◌≡◌, refl, sym, ap, ap₂, ◌∙◌, subst}
 use mathlib.Core.Bool.{Bool, true, false, cond}
 use mathlib.Core.List.{List, [], ◌∷◌}
+use Rattle.std.proofs.Common.{Option, Some, None}
 use Prim.Native.Nat.{ℕ, suc, ◌+◌, ◌-◌, ◌*◌, ◌%◌, ◌≤◌, ◌<◌}
 use native.Mathlib.Omega.{arith}
 use native.Mathlib.Decide.{dec_lt}
@@ -53,23 +54,23 @@ frames_of (keyed e ms k fs) = fs
 frames_of broken = []
 
 -- a container waits for another value
-abbrev Some : List Frame → Type 0
-Some [] = ⊥
-Some (f ∷ fs) = Unit {0}
+abbrev AnyOpen : List Frame → Type 0
+AnyOpen [] = ⊥
+AnyOpen (f ∷ fs) = Unit {0}
 
 abbrev Bottom : Frame → List Frame → Type 0
 Bottom root fs = length fs ≡ 0
-Bottom (in_array e ms) fs = Some fs
-Bottom (in_object e ms k) fs = Some fs
+Bottom (in_array e ms) fs = AnyOpen fs
+Bottom (in_object e ms k) fs = AnyOpen fs
 
 -- ---- what is still to come, as the code counts it; at index i no more than i records have been taken off
 
 abbrev pub Rests : ℕ → Conf → ℕ → Type 0
 Rests i nothing r = r ≡ 2
 Rests i (whole m) r = r ≡ 0
-Rests i (elements e ms fs) r = (r + 2 * elements_count ms ≡ none + 2 * e.count) × (none ≤ r + 2 * i) × Some fs
-Rests i (members e ms fs) r = (r + 4 * members_count ms ≡ none + 4 * e.count + 1) × (none ≤ r + 2 * i) × Some fs
-Rests i (keyed e ms k fs) r = (r + 4 * members_count ms + 2 ≡ none + 4 * e.count + 1) × (none ≤ r + 2 * i) × Some fs
+Rests i (elements e ms fs) r = (r + 2 * elements_count ms ≡ none + 2 * e.count) × (none ≤ r + 2 * i) × AnyOpen fs
+Rests i (members e ms fs) r = (r + 4 * members_count ms ≡ none + 4 * e.count + 1) × (none ≤ r + 2 * i) × AnyOpen fs
+Rests i (keyed e ms k fs) r = (r + 4 * members_count ms + 2 ≡ none + 4 * e.count + 1) × (none ≤ r + 2 * i) × AnyOpen fs
 Rests i broken r = ⊥
 
 -- in a container that waits, once the value is there
@@ -175,18 +176,18 @@ module _ (n : ℕ) where
     pub under : (i r : ℕ) → i ≤ record_limit → Rests i c r → RestF (i + 1) f (r - 2) × Bottom f (frames_of c)
 
   -- a turn from c at the place `at` leads to d, with the store used up to `place`
-  abbrev pub Leads : Conf → ℕ → ℕ → Turn → Conf → Type 0
-  Leads c at place Turn.No d = d ≡ broken
-  Leads c at place (Turn.Pass a) d = Passes c place a d
-  Leads c at place (Turn.Open e r) d = Opens c at place e r d
+  abbrev pub Leads : Conf → ℕ → ℕ → Option Turn → Conf → Type 0
+  Leads c at place None d = d ≡ broken
+  Leads c at place (Some (Turn.Pass a)) d = Passes c place a d
+  Leads c at place (Some (Turn.Open e r)) d = Opens c at place e r d
 
-  both : (c : Conf) (at place : ℕ) (b : Bool) (x y : Turn) (u v : Conf) → (b ≡ true → Leads c at place x u)
+  both : (c : Conf) (at place : ℕ) (b : Bool) (x y : Option Turn) (u v : Conf) → (b ≡ true → Leads c at place x u)
       → (b ≡ false → Leads c at place y v) → Leads c at place (cond b x y) (cond b u v)
   both c at place true x y u v f g = f refl
   both c at place false x y u v f g = g refl
 
   module _ (at : ℕ) where
-    by_value : (c : Conf) (m : Meaning) (place : ℕ) → Leads c at place (if_due (due_of c) (Turn.Pass place)) (put m (slot c))
+    by_value : (c : Conf) (m : Meaning) (place : ℕ) → Leads c at place (if_due (due_of c) (Some (Turn.Pass place))) (put m (slot c))
     unfolding slot put due_of end_of frames_of elements_count members_count
     by_value nothing m place = record { end = refl; frames = refl; placed = refl; onward = λ i r l h. omega arith }
     by_value (whole n') m place = refl
@@ -197,7 +198,7 @@ module _ (n : ℕ) where
         record { end = refl; frames = refl; placed = refl; onward = λ i r l h. (omega (arith, h.0, h.1), omega (arith, h.1), h.2) }
     by_value broken m place = refl
 
-    by_key : (c : Conf) (k : List ℕ) (place : ℕ) → Leads c at place (if_due (keys_of c) (Turn.Pass place)) (key k c)
+    by_key : (c : Conf) (k : List ℕ) (place : ℕ) → Leads c at place (if_due (keys_of c) (Some (Turn.Pass place))) (key k c)
     unfolding key keys_of end_of frames_of
     by_key nothing k place = refl
     by_key (whole m) k place = refl
@@ -258,27 +259,27 @@ module _ (n : ℕ) where
     by_container broken k e place p = refl
 
     -- bytes start where the ones before ended
-    by_bytes : (c : Conf) (b : Bool) (size start : ℕ) (d : Conf) → Leads c at (at + size) (if_due b (Turn.Pass (at + size))) d
+    by_bytes : (c : Conf) (b : Bool) (size start : ℕ) (d : Conf) → Leads c at (at + size) (if_due b (Some (Turn.Pass (at + size)))) d
         → Leads c at (at + size) (if_due b (pass_of size start at)) (there start at d)
     unfolding pass_of
     by_bytes c b size start d l = go b (eqb start at) l
       where
-        go : (b x : Bool) → Leads c at (at + size) (cond b (Turn.Pass (at + size)) Turn.No) d
-            → Leads c at (at + size) (cond b (cond x (Turn.Pass (at + size)) Turn.No) Turn.No) (cond x d broken)
+        go : (b x : Bool) → Leads c at (at + size) (cond b (Some (Turn.Pass (at + size))) None) d
+            → Leads c at (at + size) (cond b (cond x (Some (Turn.Pass (at + size))) None) None) (cond x d broken)
         go true true l = l
         go true false l = refl
         go false true l = l
         go false false l = refl
 
     -- a record that has no bytes starts here
-    by_none : (c : Conf) (t : Turn) (d : Conf) → Leads c at (at + 0) t d → Leads c at (at + 0) t (there at at d)
+    by_none : (c : Conf) (t : Option Turn) (d : Conf) → Leads c at (at + 0) t d → Leads c at (at + 0) t (there at at d)
     by_none c t d l = subst (λ (b : Bool). Leads c at (at + 0) t (cond b d broken)) (sym (eq-eqb at at refl)) l
 
-    plain : (c : Conf) (m : Meaning) → Leads c at (at + 0) (if_due (due_of c) (Turn.Pass at)) (there at at (put m (slot c)))
+    plain : (c : Conf) (m : Meaning) → Leads c at (at + 0) (if_due (due_of c) (Some (Turn.Pass at))) (there at at (put m (slot c)))
     plain c m =
         let z : at + 0 ≡ at = omega arith in
-        by_none c (if_due (due_of c) (Turn.Pass at)) (put m (slot c))
-        (subst (λ (a : ℕ). Leads c at (at + 0) (if_due (due_of c) (Turn.Pass a)) (put m (slot c))) z (by_value c m (at + 0)))
+        by_none c (if_due (due_of c) (Some (Turn.Pass at))) (put m (slot c))
+        (subst (λ (a : ℕ). Leads c at (at + 0) (if_due (due_of c) (Some (Turn.Pass a))) (put m (slot c))) z (by_value c m (at + 0)))
 
   weighed : (at : ℕ) (store : List ℕ) (c : Conf) (r : Record)
       → Leads c at (at + size_of r) (turn_of r (due_of c) (keys_of c) at (length (frames_of c))) (push store at c r)
@@ -408,14 +409,14 @@ module _ (n : ℕ) where
 
 -- ---- the loop
 
-pub pass_is : {a : ℕ} → Turn.Pass a ≡ Turn.No → ⊥
+pub pass_is : {a : ℕ} → Some (Turn.Pass a) ≡ None → ⊥
 pass_is e = let z : ◌≡◌ {A = ℕ} 0 1 = cc in omega arith
 
-pub open_is : {e r : ℕ} → Turn.Open e r ≡ Turn.No → ⊥
+pub open_is : {e r : ℕ} → Some (Turn.Open e r) ≡ None → ⊥
 open_is q = let z : ◌≡◌ {A = ℕ} 0 1 = cc in omega arith
 
 -- nothing stands where neither a value nor a key is due
-idle : (r : Record) (at depth : ℕ) → turn_of r false false at depth ≡ Turn.No
+idle : (r : Record) (at depth : ℕ) → turn_of r false false at depth ≡ None
 unfolding turn_of
 idle Record.Null at depth = refl
 idle (Record.Bool b) at depth = refl
@@ -565,20 +566,20 @@ module _ {tape store : List ℕ} where
             ap₂ (λ (x y : Bool). turn_of r x y at depth) (due_is i small v.c rest v.is_rest) (key_is i small v.c rest v.is_rest)
             ∙ ap (turn_of r (due_of v.c) (keys_of v.c) at) v.is_depth
 
-        leads : (t : Turn) → t ≡ turn_of r (value_due rest) (key_due rest) at depth → Leads (whole_records tape) v.c at (at + size_of r) t next_conf
+        leads : (t : Option Turn) → t ≡ turn_of r (value_due rest) (key_due rest) at depth → Leads (whole_records tape) v.c at (at + size_of r) t next_conf
         unfolding next_conf
         leads t was =
-            subst (λ (x : Turn). Leads (whole_records tape) v.c at (at + size_of r) x (push store at v.c r)) (sym turns ∙ sym was)
+            subst (λ (x : Option Turn). Leads (whole_records tape) v.c at (at + size_of r) x (push store at v.c r)) (sym turns ∙ sym was)
             (weighed (whole_records tape) at store v.c r)
 
-        pub state_no : turn_of r (value_due rest) (key_due rest) at depth ≡ Turn.No → verdict (whole_records tape) tape store ≡ nay
+        pub state_no : turn_of r (value_due rest) (key_due rest) at depth ≡ None → verdict (whole_records tape) tape store ≡ nay
         state_no was =
             onward
-            ∙ ap (run store (records_from (whole_records tape - (i + 1)) tape (i + 1)) (i + 1) (at + size_of r)) (leads Turn.No (sym was))
+            ∙ ap (run store (records_from (whole_records tape - (i + 1)) tape (i + 1)) (i + 1) (at + size_of r)) (leads None (sym was))
             ∙ run_broken store (records_from (whole_records tape - (i + 1)) tape (i + 1)) (i + 1) (at + size_of r)
 
         -- what stands is taken off
-        pub state_two : {t : Turn} → (t ≡ Turn.No → ⊥) → t ≡ turn_of r (value_due rest) (key_due rest) at depth → 2 ≤ rest
+        pub state_two : {t : Option Turn} → (t ≡ None → ⊥) → t ≡ turn_of r (value_due rest) (key_due rest) at depth → 2 ≤ rest
         unfolding due_of keys_of
         state_two {t} h was = by_conf v.c v.is_rest (was ∙ turns)
           where
@@ -590,9 +591,9 @@ module _ {tape store : List ℕ} where
             by_conf (keyed s ms k fs) a q = omega (arith, a.1, small)
             by_conf broken a q = absurd a
 
-        pub state_pass : (a : ℕ) → Turn.Pass a ≡ turn_of r (value_due rest) (key_due rest) at depth → State tape store ends rests depth end (rest - 2) a (i + 1)
+        pub state_pass : (a : ℕ) → Some (Turn.Pass a) ≡ turn_of r (value_due rest) (key_due rest) at depth → State tape store ends rests depth end (rest - 2) a (i + 1)
         state_pass a was =
-            let o = leads (Turn.Pass a) was in
+            let o = leads (Some (Turn.Pass a)) was in
             record {
               c = next_conf;
               runs = onward ∙ ap (λ (x : ℕ). run store (records_from (whole_records tape - (i + 1)) tape (i + 1)) (i + 1) x next_conf) (sym o.placed);
@@ -609,13 +610,13 @@ module _ {tape store : List ℕ} where
               each = each_more;
             }
 
-        pub open_room : (e k : ℕ) → Turn.Open e k ≡ turn_of r (value_due rest) (key_due rest) at depth → depth < depth_limit
-        open_room e k was = omega (arith, (leads (Turn.Open e k) was).room, v.is_depth)
+        pub open_room : (e k : ℕ) → Some (Turn.Open e k) ≡ turn_of r (value_due rest) (key_due rest) at depth → depth < depth_limit
+        open_room e k was = omega (arith, (leads (Some (Turn.Open e k)) was).room, v.is_depth)
 
-        pub state_opened : (e k : ℕ) → Turn.Open e k ≡ turn_of r (value_due rest) (key_due rest) at depth
+        pub state_opened : (e k : ℕ) → Some (Turn.Open e k) ≡ turn_of r (value_due rest) (key_due rest) at depth
             → State tape store (set ends depth end) (set rests depth (rest - 2)) (depth + 1) e k at (i + 1)
         state_opened e k was =
-            let o = leads (Turn.Open e k) was in
+            let o = leads (Some (Turn.Open e k)) was in
             let h : depth < depth_limit = open_room e k was in
             let l : length (frames_of v.c) ≡ depth = sym v.is_depth in
             let u = o.under i rest small v.is_rest in
@@ -655,7 +656,7 @@ module _ {tape store : List ℕ} {ends rests : List ℕ} {depth end rest at i : 
     answer_ill e = fails (nay_unformed tape store (whole_records tape) z.whole e)
 
     -- no record stands there, or none that may
-    pub answer_no : (i ≡ end → ⊥) → {t : Turn} → TurnIs tape store i rest at depth t → t ≡ Turn.No → Decides (Formed tape store) false
+    pub answer_no : (i ≡ end → ⊥) → {t : Option Turn} → TurnIs tape store i rest at depth t → t ≡ None → Decides (Formed tape store) false
     answer_no q (stands r a f) e = answer_ill (state_no v q r a (sym f ∙ e))
     answer_no q (no g) e = by_index (dec_lt i (whole_records tape))
       where

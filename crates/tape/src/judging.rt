@@ -21,11 +21,10 @@ use meaning::{DEPTH_LIMIT, RECORD_LIMIT, RECORD_SIZE, Record, Refusal, STORE_LIM
 // stands than is stated; the root's is 2 before its value and 0 after.
 const NONE: usize = 1099511627776;
 
-// What a record does to the judge: nothing good; a value or a key is passed, with the next store place; a container opens, with
-// its end and what is to come in it.
+// What a record does to the judge, where it is good: a value or a key is passed, with the next store place; a container opens,
+// with its end and what is to come in it.
 #[derive(Clone, Copy)]
 enum Turn {
-    No,
     Pass(usize),
     Open { end: usize, rest: usize },
 }
@@ -34,13 +33,7 @@ enum Turn {
 fn value_due(rest: usize) -> bool
     ensures { result ≡ value_due rest }
 {
-    if rest == 0 {
-        return false;
-    }
-    if rest % 2 == 0 {
-        return true;
-    }
-    rest % 4 == 3
+    rest != 0 && (rest % 2 == 0 || rest % 4 == 3)
 }
 
 // A key is due: in an object, where no value is.
@@ -54,140 +47,119 @@ fn key_due(rest: usize) -> bool
 fn counted(rest: usize) -> bool
     ensures { result ≡ counted rest }
 {
-    if rest == NONE {
-        return true;
-    }
-    rest == NONE + 1
+    rest == NONE || rest == NONE + 1
 }
 
 // Bytes start where those before ended.
-fn pass(length: usize, start: usize, at: usize) -> Turn
+fn pass(length: usize, start: usize, at: usize) -> Option<Turn>
     requires { start + length < 2 ^ 64 }
     ensures { result ≡ pass_of length start at }
 {
     if start == at {
-        return Turn::Pass(at + length);
+        Some(Turn::Pass(at + length))
+    } else {
+        None
     }
-    Turn::No
 }
 
 // A record that is no key and no container, where a value is due.
-fn leaf(r: Record, at: usize) -> Turn
+fn leaf(r: Record, at: usize) -> Option<Turn>
     requires { bytes_end r < 2 ^ 64 }
     ensures { result ≡ leaf_of r at }
 {
     match r {
-        Record::Null => Turn::Pass(at),
-        Record::Bool(_) => Turn::Pass(at),
-        Record::Number(_) => Turn::Pass(at),
-        Record::Str { length, start } => pass(length, start, at),
-        Record::Bin { length, start } => pass(length, start, at),
-        Record::Time(_) => Turn::Pass(at),
-        Record::Key {
-            length: _,
-            start: _,
-        } => Turn::No,
-        Record::Array { count: _, end: _ } => Turn::No,
-        Record::Object { count: _, end: _ } => Turn::No,
+        Record::Null | Record::Bool(_) | Record::Number(_) | Record::Time(_) => Some(Turn::Pass(
+            at,
+        )),
+        Record::Str { length, start } | Record::Bin { length, start } => pass(length, start, at),
+        Record::Key { .. } | Record::Array { .. } | Record::Object { .. } => None,
     }
 }
 
 // The same, by its index.
-fn any_leaf(tape: &[u8], store: &[u8], index: usize, at: usize) -> Turn
+fn any_leaf(tape: &[u8], store: &[u8], index: usize, at: usize) -> Option<Turn>
     requires { length store.now ≤ store_limit }
     ensures { LeafIs tape.now store.now index at result }
 {
     match crate::look(tape, store, index) {
         Ok(r) => leaf(r, at),
-        Err(_) => Turn::No,
+        Err(_) => None,
     }
 }
 
 // A string or a key, where it may stand.
-fn text(w: Words, store: &[u8], at: usize) -> Turn
+fn text(w: Words, store: &[u8], at: usize) -> Option<Turn>
     requires { Loaded w × (length store.now ≤ store_limit) }
     ensures { Tested ((w.low ≡ 0) × Utf8Inside w.mid w.high store.now) (pass_of w.mid w.high at) result }
 {
-    if w.low != 0 {
-        return Turn::No;
-    }
     let length = w.mid as usize;
     let start = w.high as usize;
-    if start != at {
-        return Turn::No;
+    if w.low == 0 && start == at && fields::utf8_inside(length, start, store) {
+        return Some(Turn::Pass(at + length));
     }
-    if fields::utf8_inside(length, start, store) {
-        return Turn::Pass(at + length);
-    }
-    Turn::No
+    None
 }
 
 // A finite number, where a value is due.
-fn number(w: Words, at: usize) -> Turn
+fn number(w: Words, at: usize) -> Option<Turn>
     requires { Loaded w }
-    ensures { Tested ((w.low ≤ 1) × GoodFinite w.high (to_z w32 w.mid)) (Turn.Pass at) result }
+    ensures { Tested ((w.low ≤ 1) × GoodFinite w.high (to_z w32 w.mid)) (Some (Turn.Pass at)) result }
 {
-    if w.low > 1 {
-        return Turn::No;
+    if w.low <= 1 && fields::good_finite(w.high, little_endian::signed32(w.mid as u32)) {
+        return Some(Turn::Pass(at));
     }
-    if fields::good_finite(w.high, little_endian::signed32(w.mid as u32)) {
-        return Turn::Pass(at);
-    }
-    Turn::No
+    None
 }
 
 // An array or an object, where a value is due; so much is to come in it.
-fn container(w: Words, index: usize, whole: usize, depth: usize, rest: usize) -> Turn
+fn container(w: Words, index: usize, whole: usize, depth: usize, rest: usize) -> Option<Turn>
     ensures { Tested ((w.low ≡ 0) × Ends w.high index whole) (open_of w.high rest depth) result }
 {
-    if w.low != 0 {
-        return Turn::No;
-    }
-    if depth >= DEPTH_LIMIT {
-        return Turn::No;
-    }
     let end = w.high as usize;
-    if fields::ends(end, index, whole) {
-        return Turn::Open { end, rest };
+    if w.low == 0 && depth < DEPTH_LIMIT && fields::ends(end, index, whole) {
+        return Some(Turn::Open { end, rest });
     }
-    Turn::No
+    None
 }
 
 // What the record at an index does, where so much is still to come in what is open so deep. The last answer has a local of its
 // own, so that the others need no place in memory.
-fn turn_at(tape: &[u8], store: &[u8], index: usize, rest: usize, at: usize, depth: usize) -> Turn
+fn turn_at(
+    tape: &[u8],
+    store: &[u8],
+    index: usize,
+    rest: usize,
+    at: usize,
+    depth: usize,
+) -> Option<Turn>
     requires { length store.now ≤ store_limit }
     ensures { TurnIs tape.now store.now index rest at depth result }
 {
     let whole = tape.len() / RECORD_SIZE;
     if index >= whole {
-        return Turn::No;
+        return None;
     }
     let w = four_words::words_at(tape, index * RECORD_SIZE);
-    let mark = w.mark;
-    if mark == four_words::KY {
-        if key_due(rest) {
-            return text(w, store, at);
-        }
-        return Turn::No;
+    if w.mark == four_words::KY {
+        return if key_due(rest) {
+            text(w, store, at)
+        } else {
+            None
+        };
     }
-    if value_due(rest) {
-        if mark == four_words::ST {
-            return text(w, store, at);
-        }
-        if mark == four_words::NB {
-            return number(w, at);
-        }
-        if mark == four_words::AR {
-            return container(w, index, whole, depth, NONE + 2 * w.mid as usize);
-        }
-        if mark == four_words::OB {
-            return container(w, index, whole, depth, NONE + 4 * w.mid as usize + 1);
-        }
-        let t = any_leaf(tape, store, index, at);
-        return t;
+    if !value_due(rest) {
+        return None;
     }
-    Turn::No
+    match w.mark {
+        four_words::ST => text(w, store, at),
+        four_words::NB => number(w, at),
+        four_words::AR => container(w, index, whole, depth, NONE + 2 * w.mid as usize),
+        four_words::OB => container(w, index, whole, depth, NONE + 4 * w.mid as usize + 1),
+        _ => {
+            let t = any_leaf(tape, store, index, at);
+            t
+        }
+    }
 }
 
 // Whole records, and no more records and store bytes than the limits allow.
@@ -195,13 +167,7 @@ fn sized(tape: &[u8], store: &[u8]) -> bool
     ensures { Decides (Sized tape.now store.now) result }
 {
     let n = tape.len() / RECORD_SIZE;
-    if tape.len() != n * RECORD_SIZE {
-        return false;
-    }
-    if RECORD_LIMIT < n {
-        return false;
-    }
-    store.len() <= STORE_LIMIT
+    tape.len() == n * RECORD_SIZE && n <= RECORD_LIMIT && store.len() <= STORE_LIMIT
 }
 
 // After the last record: the root is there, and no byte of the store is left over.
@@ -227,13 +193,13 @@ fn records(tape: &[u8], store: &[u8], mut end: usize) -> bool
     loop {
         if i != end {
             match turn_at(tape, store, i, rest, at, depth) {
-                Turn::No => return false,
-                Turn::Pass(a) => {
+                None => return false,
+                Some(Turn::Pass(a)) => {
                     at = a;
                     rest -= 2;
                     i += 1;
                 }
-                Turn::Open { end: e, rest: r } => {
+                Some(Turn::Open { end: e, rest: r }) => {
                     ends[depth] = end;
                     rests[depth] = rest - 2;
                     depth += 1;

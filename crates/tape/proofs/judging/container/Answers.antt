@@ -4,17 +4,17 @@ use Rattle.tape.specs.Between.Turns.{passes, fails}
 use Rattle.rules.proofs.TestsLaws.{held, failed}
 use Rattle.tape.proofs.TurnsLaws.{open_here, open_deep}
 use Rattle.tape.proofs.judging.container.Goals as goal
-
-pub returns-then-w-ne0 : goal.returns-then-w-ne0
-returns-then-w-ne0 c = fails (λ p. absurd (c.if-w-ne0.true p.0))
-
-pub returns-then-depth-ge-DEPTH_LIMIT : goal.returns-then-depth-ge-DEPTH_LIMIT
-unfolding depth_limit
-returns-then-depth-ge-DEPTH_LIMIT c = fails (λ p. open_deep _ _ _ c.if-depth-ge-DEPTH_LIMIT.true)
+use Rattle.tape.proofs.judging.container.Goals.{else-w-eq0-via-then-w-eq0+then-depth-lt-DEPTH_LIMIT+else-ends}
+use Rattle.tape.proofs.judging.container.Goals.{else-w-eq0-via-then-w-eq0+else-depth-lt-DEPTH_LIMIT, else-w-eq0-via-else-w-eq0}
 
 pub returns-then-ends : goal.returns-then-ends
 unfolding depth_limit
-returns-then-ends c = passes (c.if-w-ne0.false, held c.ends.ensures c.if-ends.true) (open_here _ _ _ c.if-depth-ge-DEPTH_LIMIT.false)
+returns-then-ends c = passes (c.if-w-eq0.true, held c.ends.ensures c.if-ends.true) (open_here _ _ _ c.if-depth-lt-DEPTH_LIMIT.true)
 
 pub returns : goal.returns
-returns c = fails (λ p. absurd (failed c.ends.ensures c.if-ends.false p.1))
+unfolding depth_limit
+returns c = elim c.else-w-eq0.branch [
+  | else-w-eq0-via-then-w-eq0+then-depth-lt-DEPTH_LIMIT+else-ends w ↦ fails (λ p. absurd (failed w.ends.ensures w.if-ends.false p.1))
+  | else-w-eq0-via-then-w-eq0+else-depth-lt-DEPTH_LIMIT w ↦ fails (λ p. open_deep _ _ _ w.if-depth-lt-DEPTH_LIMIT.false)
+  | else-w-eq0-via-else-w-eq0 w ↦ fails (λ p. absurd (w.if-w-eq0.false p.0))
+]

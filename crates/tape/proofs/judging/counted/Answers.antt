@@ -7,6 +7,6 @@ pub returns-then-rest-eq-NONE : goal.returns-then-rest-eq-NONE
 unfolding counted
 returns-then-rest-eq-NONE c = simp (eq-eqb _ _ c.if-rest-eq-NONE.true)
 
-pub returns : goal.returns
+pub returns-else-rest-eq-NONE : goal.returns-else-rest-eq-NONE
 unfolding counted
-returns c = simp (ne_eqb _ _ c.if-rest-eq-NONE.false)
+returns-else-rest-eq-NONE c = simp (ne_eqb _ _ c.if-rest-eq-NONE.false)

@@ -7,6 +7,6 @@ pub returns-then-start-at : goal.returns-then-start-at
 unfolding pass_of
 returns-then-start-at c = simp (eq-eqb _ _ c.if-start-at.true)
 
-pub returns : goal.returns
+pub returns-else-start-at : goal.returns-else-start-at
 unfolding pass_of
-returns c = simp (ne_eqb _ _ c.if-start-at.false)
+returns-else-start-at c = simp (ne_eqb _ _ c.if-start-at.false)

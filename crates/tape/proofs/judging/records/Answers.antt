@@ -15,35 +15,35 @@ loop-i-init c = rw c.requires.1 (state_start _ _ c.requires.0.few refl refl)
 pub turn_at-requires : goal.turn_at-requires
 turn_at-requires c = c.requires.0.short
 
-pub returns-in-No : goal.returns-in-No
-returns-in-No c = answer_no c.loop-i.invariant c.requires.0
-    c.if-i-end.true c.turn_at.ensures c.in-No.is
+pub returns-in-None : goal.returns-in-None
+returns-in-None c = answer_no c.loop-i.invariant c.requires.0
+    c.if-i-end.true c.turn_at.ensures c.in-None.is
 
 pub overflow_sub-rest : goal.overflow_sub-rest
 overflow_sub-rest c = omega (
   arith,
-  (let p = passed c.turn_at.ensures c.in-Pass.is in
+  (let p = passed c.turn_at.ensures c.in-Some-Pass.is c.in-Some-Pass.field-0-is in
       state_two c.loop-i.invariant c.if-i-end.true p.r p.there pass_is p.turned),
 )
 
 pub overflow_add-i : goal.overflow_add-i
 overflow_add-i c = omega (
   arith,
-  (let p = passed c.turn_at.ensures c.in-Pass.is in p.there.within),
+  (let p = passed c.turn_at.ensures c.in-Some-Pass.is c.in-Some-Pass.field-0-is in p.there.within),
   c.requires.0.few,
 )
 
-pub loop-i-smaller-in-Pass : goal.loop-i-smaller-in-Pass
-loop-i-smaller-in-Pass c = omega (arith, (let p = passed c.turn_at.ensures c.in-Pass.is in p.there.within))
+pub loop-i-smaller-in-Some-Pass : goal.loop-i-smaller-in-Some-Pass
+loop-i-smaller-in-Some-Pass c = omega (arith, (let p = passed c.turn_at.ensures c.in-Some-Pass.is c.in-Some-Pass.field-0-is in p.there.within))
 
-pub loop-i-preserved-in-Pass : goal.loop-i-preserved-in-Pass
-loop-i-preserved-in-Pass c = let p = passed c.turn_at.ensures c.in-Pass.is in
+pub loop-i-preserved-in-Some-Pass : goal.loop-i-preserved-in-Some-Pass
+loop-i-preserved-in-Some-Pass c = let p = passed c.turn_at.ensures c.in-Some-Pass.is c.in-Some-Pass.field-0-is in
     state_pass c.loop-i.invariant c.if-i-end.true p.r p.there _ p.turned
 
 pub offset_bounds-ends-depth : goal.offset_bounds-ends-depth
 offset_bounds-ends-depth c = omega (
   arith,
-  (let p = opened c.turn_at.ensures c.in-Open.is in
+  (let p = opened c.turn_at.ensures c.in-Some-Open.is c.in-Some-Open.field-0-is in
       open_room c.loop-i.invariant c.if-i-end.true p.r p.there _ _ p.turned),
   depth_limit_small,
 )
@@ -52,21 +52,21 @@ pub bounds-ends-depth : goal.bounds-ends-depth
 unfolding depth_limit
 bounds-ends-depth c = omega (
   arith,
-  (let p = opened c.turn_at.ensures c.in-Open.is in
+  (let p = opened c.turn_at.ensures c.in-Some-Open.is c.in-Some-Open.field-0-is in
       open_room c.loop-i.invariant c.if-i-end.true p.r p.there _ _ p.turned),
 )
 
 pub overflow_sub-rests : goal.overflow_sub-rests
 overflow_sub-rests c = omega (
   arith,
-  (let p = opened c.turn_at.ensures c.in-Open.is in
+  (let p = opened c.turn_at.ensures c.in-Some-Open.is c.in-Some-Open.field-0-is in
       state_two c.loop-i.invariant c.if-i-end.true p.r p.there open_is p.turned),
 )
 
 pub offset_bounds-rests-depth : goal.offset_bounds-rests-depth
 offset_bounds-rests-depth c = omega (
   arith,
-  (let p = opened c.turn_at.ensures c.in-Open.is in
+  (let p = opened c.turn_at.ensures c.in-Some-Open.is c.in-Some-Open.field-0-is in
       open_room c.loop-i.invariant c.if-i-end.true p.r p.there _ _ p.turned),
   depth_limit_small,
 )
@@ -75,30 +75,30 @@ pub bounds-rests-depth : goal.bounds-rests-depth
 unfolding depth_limit
 bounds-rests-depth c = omega (
   arith,
-  (let p = opened c.turn_at.ensures c.in-Open.is in
+  (let p = opened c.turn_at.ensures c.in-Some-Open.is c.in-Some-Open.field-0-is in
       open_room c.loop-i.invariant c.if-i-end.true p.r p.there _ _ p.turned),
 )
 
 pub overflow_add-depth : goal.overflow_add-depth
 overflow_add-depth c = omega (
   arith,
-  (let p = opened c.turn_at.ensures c.in-Open.is in
+  (let p = opened c.turn_at.ensures c.in-Some-Open.is c.in-Some-Open.field-0-is in
       open_room c.loop-i.invariant c.if-i-end.true p.r p.there _ _ p.turned),
   depth_limit_small,
 )
 
-pub overflow_add-i-in-Open : goal.overflow_add-i-in-Open
-overflow_add-i-in-Open c = omega (
+pub overflow_add-i-in-Some-Open : goal.overflow_add-i-in-Some-Open
+overflow_add-i-in-Some-Open c = omega (
   arith,
-  (let p = opened c.turn_at.ensures c.in-Open.is in p.there.within),
+  (let p = opened c.turn_at.ensures c.in-Some-Open.is c.in-Some-Open.field-0-is in p.there.within),
   c.requires.0.few,
 )
 
-pub loop-i-smaller-in-Open : goal.loop-i-smaller-in-Open
-loop-i-smaller-in-Open c = omega (arith, (let p = opened c.turn_at.ensures c.in-Open.is in p.there.within))
+pub loop-i-smaller-in-Some-Open : goal.loop-i-smaller-in-Some-Open
+loop-i-smaller-in-Some-Open c = omega (arith, (let p = opened c.turn_at.ensures c.in-Some-Open.is c.in-Some-Open.field-0-is in p.there.within))
 
-pub loop-i-preserved-in-Open : goal.loop-i-preserved-in-Open
-loop-i-preserved-in-Open c = let p = opened c.turn_at.ensures c.in-Open.is in
+pub loop-i-preserved-in-Some-Open : goal.loop-i-preserved-in-Some-Open
+loop-i-preserved-in-Some-Open c = let p = opened c.turn_at.ensures c.in-Some-Open.is c.in-Some-Open.field-0-is in
     state_opened c.loop-i.invariant c.if-i-end.true p.r p.there _ _ p.turned
 
 pub returns-then-depth-eq0 : goal.returns-then-depth-eq0

@@ -1,15 +1,14 @@
 -- `judging::sized`: by its tests. Assumes nothing.
+use mathlib.Core.Logic.{inl, inr}
 use native.Mathlib.Omega.{arith}
-use Rattle.rules.specs.Between.Tests.{fails}
+use Rattle.std.proofs.Common.{rules}
 use Rattle.rules.proofs.TestsLaws.{decides_as, at_most_test}
+use Rattle.tape.proofs.TurnsLaws.{false_test}
 use Rattle.tape.proofs.judging.sized.Goals as goal
 
-pub returns-then-tape-n : goal.returns-then-tape-n
-returns-then-tape-n c = fails (λ z. c.if-tape-n.true z.whole)
-
-pub returns-then-n-gt-RECORD_LIMIT : goal.returns-then-n-gt-RECORD_LIMIT
-returns-then-n-gt-RECORD_LIMIT c = fails (λ z. omega (arith, c.if-n-gt-RECORD_LIMIT.true, z.few))
-
-pub returns : goal.returns
-returns c = decides_as (λ h. record { whole = c.if-tape-n.false; few = omega (arith, c.if-n-gt-RECORD_LIMIT.false); short = h }) (λ z. z.short)
+pub returns-then-n-le-RECORD_LIMIT : goal.returns-then-n-le-RECORD_LIMIT
+returns-then-n-le-RECORD_LIMIT c = decides_as (λ h. record { whole = c.if-n-le-RECORD_LIMIT.true.0; few = c.if-n-le-RECORD_LIMIT.true.1; short = h }) (λ z. z.short)
     (at_most_test _ _)
+
+pub returns-else-n-le-RECORD_LIMIT : goal.returns-else-n-le-RECORD_LIMIT
+returns-else-n-le-RECORD_LIMIT c = false_test (search rules) (λ z. elim c.if-n-le-RECORD_LIMIT.either [ inl e ↦ omega (arith, e.1, z.few) | inr e ↦ e z.whole ])

@@ -25,26 +25,26 @@ returns-then-key_due c = key_turn c.args.tape.now
     c.args.depth
     (λ j. (c.type_inv.tape j).fits)
     (omega (arith, c.if-index-whole.false)) _ c.words_at-w.ensures
-    (sym c.key_due.ensures ∙ c.if-key_due.true) c.if-mark-eq-KY.true c.text.ensures
+    (sym c.key_due.ensures ∙ c.if-key_due.true) c.if-w-eq-KY.true c.text.ensures
 
-pub returns-then-mark-eq-KY : goal.returns-then-mark-eq-KY
-returns-then-mark-eq-KY c = no_key c.args.tape.now
+pub returns-else-key_due : goal.returns-else-key_due
+returns-else-key_due c = no_key c.args.tape.now
     c.args.store.now c.args.index
     c.args.rest c.args.at
     c.args.depth (λ j.
     (c.type_inv.tape j).fits) (omega (arith, c.if-index-whole.false)) _
-    c.words_at-w.ensures (sym c.key_due.ensures ∙ c.if-key_due.false) c.if-mark-eq-KY.true
+    c.words_at-w.ensures (sym c.key_due.ensures ∙ c.if-key_due.false) c.if-w-eq-KY.true
 
-pub text-requires-then-mark-eq-ST : goal.text-requires-then-mark-eq-ST
-text-requires-then-mark-eq-ST c = (
+pub text-requires-in-29811 : goal.text-requires-in-29811
+text-requires-in-29811 c = (
   loaded_as c.args.tape.now _
       c.words_at-w.ensures (λ j. (c.type_inv.tape
       j).fits),
   c.requires,
 )
 
-pub returns-then-mark-eq-ST : goal.returns-then-mark-eq-ST
-returns-then-mark-eq-ST c = text_turn c.args.tape.now
+pub returns-in-29811 : goal.returns-in-29811
+returns-in-29811 c = text_turn c.args.tape.now
     c.args.store.now
     c.args.index
     c.args.rest
@@ -52,14 +52,14 @@ returns-then-mark-eq-ST c = text_turn c.args.tape.now
     c.args.depth
     (λ j. (c.type_inv.tape j).fits)
     (omega (arith, c.if-index-whole.false)) _ c.words_at-w.ensures
-    (sym c.value_due.ensures ∙ c.if-value_due.true) c.if-mark-eq-ST.true c.text-then-mark-eq-ST.ensures
+    (sym c.value_due.ensures ∙ c.if-not-value_due.false) c.in-29811.is c.text-in-29811.ensures
 
 pub number-requires : goal.number-requires
 number-requires c = loaded_as c.args.tape.now _
     c.words_at-w.ensures (λ j. (c.type_inv.tape j).fits)
 
-pub returns-then-mark-eq-NB : goal.returns-then-mark-eq-NB
-returns-then-mark-eq-NB c = number_turn c.args.tape.now
+pub returns-in-25198 : goal.returns-in-25198
+returns-in-25198 c = number_turn c.args.tape.now
     c.args.store.now
     c.args.index
     c.args.rest
@@ -68,7 +68,7 @@ returns-then-mark-eq-NB c = number_turn c.args.tape.now
     (λ j. (c.type_inv.tape j).fits)
     (omega (arith, c.if-index-whole.false)) _
     c.words_at-w.ensures (sym c.value_due.ensures
-    ∙ c.if-value_due.true) c.if-mark-eq-NB.true c.number.ensures
+    ∙ c.if-not-value_due.false) c.in-25198.is c.number.ensures
 
 pub overflow_mul-w : goal.overflow_mul-w
 overflow_mul-w c = omega (
@@ -86,8 +86,8 @@ overflow_add-w c = omega (
       (c.type_inv.tape j).fits)).mid_small,
 )
 
-pub returns-then-mark-eq-AR : goal.returns-then-mark-eq-AR
-returns-then-mark-eq-AR c = array_turn c.args.tape.now
+pub returns-in-29281 : goal.returns-in-29281
+returns-in-29281 c = array_turn c.args.tape.now
     c.args.store.now
     c.args.index
     c.args.rest
@@ -96,35 +96,35 @@ returns-then-mark-eq-AR c = array_turn c.args.tape.now
     (λ j. (c.type_inv.tape j).fits)
     (omega (arith, c.if-index-whole.false)) _
     c.words_at-w.ensures
-    (sym c.value_due.ensures ∙ c.if-value_due.true) c.if-mark-eq-AR.true
+    (sym c.value_due.ensures ∙ c.if-not-value_due.false) c.in-29281.is
     c.container.ensures
 
-pub overflow_mul-w-then-mark-eq-OB : goal.overflow_mul-w-then-mark-eq-OB
-overflow_mul-w-then-mark-eq-OB c = omega (
+pub overflow_mul-w-in-25199 : goal.overflow_mul-w-in-25199
+overflow_mul-w-in-25199 c = omega (
   arith,
   (loaded_as c.args.tape.now _
       c.words_at-w.ensures
       (λ j. (c.type_inv.tape j).fits)).mid_small,
 )
 
-pub overflow_add-w-then-mark-eq-OB : goal.overflow_add-w-then-mark-eq-OB
-overflow_add-w-then-mark-eq-OB c = omega (
+pub overflow_add-w-in-25199 : goal.overflow_add-w-in-25199
+overflow_add-w-in-25199 c = omega (
   arith,
   (loaded_as c.args.tape.now _
       c.words_at-w.ensures
       (λ j. (c.type_inv.tape j).fits)).mid_small,
 )
 
-pub overflow_add-w-then-mark-eq-OB-2 : goal.overflow_add-w-then-mark-eq-OB-2
-overflow_add-w-then-mark-eq-OB-2 c = omega (
+pub overflow_add-w-in-25199-2 : goal.overflow_add-w-in-25199-2
+overflow_add-w-in-25199-2 c = omega (
   arith,
   (loaded_as c.args.tape.now _
       c.words_at-w.ensures
       (λ j. (c.type_inv.tape j).fits)).mid_small,
 )
 
-pub returns-then-mark-eq-OB : goal.returns-then-mark-eq-OB
-returns-then-mark-eq-OB c = object_turn c.args.tape.now
+pub returns-in-25199 : goal.returns-in-25199
+returns-in-25199 c = object_turn c.args.tape.now
     c.args.store.now
     c.args.index
     c.args.rest
@@ -133,11 +133,11 @@ returns-then-mark-eq-OB c = object_turn c.args.tape.now
     (λ j. (c.type_inv.tape j).fits)
     (omega (arith, c.if-index-whole.false)) _
     c.words_at-w.ensures
-    (sym c.value_due.ensures ∙ c.if-value_due.true)
-    c.if-mark-eq-OB.true c.container-then-mark-eq-OB.ensures
+    (sym c.value_due.ensures ∙ c.if-not-value_due.false)
+    c.in-25199.is c.container-in-25199.ensures
 
-pub returns-then-value_due : goal.returns-then-value_due
-returns-then-value_due c = leaf_turn c.args.tape.now
+pub returns-in_default : goal.returns-in_default
+returns-in_default c = leaf_turn c.args.tape.now
     c.args.store.now
     c.args.index
     c.args.rest
@@ -146,13 +146,13 @@ returns-then-value_due c = leaf_turn c.args.tape.now
     (λ j. (c.type_inv.tape j).fits)
     (omega (arith, c.if-index-whole.false)) _
     c.words_at-w.ensures
-    (sym c.value_due.ensures ∙ c.if-value_due.true)
-    c.if-mark-eq-KY.false c.if-mark-eq-AR.false c.if-mark-eq-OB.false c.any_leaf-t.ensures
+    (sym c.value_due.ensures ∙ c.if-not-value_due.false)
+    c.if-w-eq-KY.false (λ q. omega arith) (λ q. omega arith) c.any_leaf-t.ensures
 
-pub returns : goal.returns
-returns c = not_due c.args.tape.now
+pub returns-then-not-value_due : goal.returns-then-not-value_due
+returns-then-not-value_due c = not_due c.args.tape.now
     c.args.store.now c.args.index
     c.args.rest c.args.at
     c.args.depth (λ j.
     (c.type_inv.tape j).fits) (omega (arith, c.if-index-whole.false)) _
-    c.words_at-w.ensures (sym c.value_due.ensures ∙ c.if-value_due.false) c.if-mark-eq-KY.false
+    c.words_at-w.ensures (sym c.value_due.ensures ∙ c.if-not-value_due.true) c.if-w-eq-KY.false

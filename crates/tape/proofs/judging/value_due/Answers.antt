@@ -5,12 +5,12 @@ use Rattle.tape.proofs.judging.value_due.Goals as goal
 
 pub returns-then-rest-eq0 : goal.returns-then-rest-eq0
 unfolding value_due
-returns-then-rest-eq0 c = simp (eq-eqb _ _ c.if-rest-eq0.true)
+returns-then-rest-eq0 c = simp (ne_eqb _ _ c.if-rest-ne0.true, eq-eqb _ _ c.if-rest-eq0.true)
 
-pub returns-then-rest-eq0-2 : goal.returns-then-rest-eq0-2
+pub returns-else-rest-eq0 : goal.returns-else-rest-eq0
 unfolding value_due
-returns-then-rest-eq0-2 c = simp (ne_eqb _ _ c.if-rest-eq0.false, eq-eqb _ _ c.if-rest-eq0-2.true)
+returns-else-rest-eq0 c = simp (ne_eqb _ _ c.if-rest-ne0.true, ne_eqb _ _ c.if-rest-eq0.false)
 
-pub returns : goal.returns
+pub returns-else-rest-ne0 : goal.returns-else-rest-ne0
 unfolding value_due
-returns c = simp (ne_eqb _ _ c.if-rest-eq0.false, ne_eqb _ _ c.if-rest-eq0-2.false)
+returns-else-rest-ne0 c = simp (eq-eqb _ _ c.if-rest-ne0.false)
