@@ -26,8 +26,7 @@ use Rattle.items.specs.Between.Places.{byte_at}
 use Rattle.items.specs.Between.NumberOrTime.{Scanned, taken, Means, Tells, Reads, Closes, IsDigit, Edge, Held, Holds, Span, Digited, Powered, From, Settles}
 use Rattle.items.specs.Between.NumberOrTime.{Onto}
 use Rattle.items.specs.declared.number.Acc.{Acc}
-use Rattle.items.specs.declared.number.Run.{Run}
-use Rattle.items.specs.declared.number.Power.{Power}
+use Rattle.items.specs.declared.Taken.{Taken}
 use Rattle.items.specs.declared.Item.TheVariants as Item
 use Rattle.items.proofs.PlacesLaws.{byte_in, byte_out}
 use Rattle.items.proofs.NumberOrTimeLaws.{edge_none, no_digit_lem, digit?, took, halts, breaks_at, same, closes_by}
@@ -99,18 +98,18 @@ module _ (s : List ℕ) (q : ℕ) (g : Bool) (a : Acc) (f : ℕ) (z : Bool) (k :
   pub raised_edge : Edge s k → From s a k (λ m. exp_sign q g m f z) (Err (NotGrammar k))
   raised_edge e = record { reads = λ m i. breaks_at (rw (dg_none (edge_none e))) }
 
-  module _ (w : Power) (r : Scanned) (l : a.c < coefficient_limit) (y : a.z ≤ text_limit) (h : k < length s) (i : IsDigit (get_or s k 0)) (p : Powered s k w)
+  module _ (w : Taken ℕ) (r : Scanned) (l : a.c < coefficient_limit) (y : a.z ≤ text_limit) (h : k < length s) (i : IsDigit (get_or s k 0)) (p : Powered s k w)
     where
-      pub raised_dn : z ≡ true → Settles q g a 0 (f + w.e) w.at r → From s a k (λ m. exp_sign q g m f z) r
+      pub raised_dn : z ≡ true → Settles q g a 0 (f + w.value) w.end r → From s a k (λ m. exp_sign q g m f z) r
       raised_dn n t = record {
         reads = λ m o. let d = p.says in rw n (sign_digits q g m f true h i d.1 p.edge
-            (closes_by _ _ (capped_dn q g m a.c a.z l y a.over w.e d.0 f o d.2) (t.closes m o)));
+            (closes_by _ _ (capped_dn q g m a.c a.z l y a.over w.value d.0 f o d.2) (t.closes m o)));
       }
 
-      pub raised_up : z ≡ false → f ≤ text_limit → Settles q g a w.e f w.at r → From s a k (λ m. exp_sign q g m f z) r
+      pub raised_up : z ≡ false → f ≤ text_limit → Settles q g a w.value f w.end r → From s a k (λ m. exp_sign q g m f z) r
       raised_up n u t = record {
         reads = λ m o. let d = p.says in rw n (sign_digits q g m f false h i d.1 p.edge
-            (closes_by _ _ (ap (λ (x : ℕ). settle q g m d.0 x) (add-zero f) ∙ capped_up q g m a.c a.z l y a.over w.e d.0 f o d.2 u)
+            (closes_by _ _ (ap (λ (x : ℕ). settle q g m d.0 x) (add-zero f) ∙ capped_up q g m a.c a.z l y a.over w.value d.0 f o d.2 u)
             (t.closes m o)));
       }
 
@@ -126,7 +125,7 @@ module _ (s : List ℕ) (q : ℕ) (g : Bool) (a : Acc) (f i : ℕ) (r : Scanned)
         (rw (← byte_in s i h) at y)) (t.closes m o);
   }
 
-  pub after_e : i < length s → (get_or s i 0 ≡ ch "e") ⊎ (get_or s i 0 ≡ ch "E") → From s a (i + 1) (λ m. exp q g m f) r → From s a i (λ m. frac q g m f) r
+  pub after_e : i < length s → (get_or s i 0 ≡ ch "E") ⊎ (get_or s i 0 ≡ ch "e") → From s a (i + 1) (λ m. exp q g m f) r → From s a i (λ m. frac q g m f) r
   after_e h (inl e) t = record { reads = λ m o. took (exp q g m f) h (rw e) (t.reads m o) }
   after_e h (inr e) t = record { reads = λ m o. took (exp q g m f) h (rw e) (t.reads m o) }
 
@@ -149,16 +148,16 @@ e_over s q g a f i h = record { reads = λ m o. breaks_at (rw (byte_out s i h)) 
 -- ---- a fraction, and a whole number before it
 
 -- a fraction's digits
-pub fraction_on : (s : List ℕ) (q : ℕ) (g : Bool) (a : Acc) (i : ℕ) (w : Run) (d : Digited s i a w) (r : Scanned)
-    → From s w.acc w.at (λ m. frac q g m (w.at - i)) r → From s a i (λ m. frac q g m 0) r
+pub fraction_on : (s : List ℕ) (q : ℕ) (g : Bool) (a : Acc) (i : ℕ) (w : Taken Acc) (d : Digited s i a w) (r : Scanned)
+    → From s w.value w.end (λ m. frac q g m (w.end - i)) r → From s a i (λ m. frac q g m 0) r
 fraction_on s q g a i w d r t =
     record {
-      reads = λ m o. let k = d.holds m o in span_frac q g 0 k.1 r (subst (λ (x : ℕ). Reads s w.at (frac q g k.0 x) r) (sym (zero-add (w.at - i)))
+      reads = λ m o. let k = d.holds m o in span_frac q g 0 k.1 r (subst (λ (x : ℕ). Reads s w.end (frac q g k.0 x) r) (sym (zero-add (w.end - i)))
           (t.reads k.0 k.2));
     }
 
 -- a whole part's digits
-pub whole_on : (s : List ℕ) (q : ℕ) (g : Bool) (a : Acc) (i : ℕ) (w : Run) (d : Digited s i a w) (r : Scanned) → From s w.acc w.at (λ m. int q g m) r
+pub whole_on : (s : List ℕ) (q : ℕ) (g : Bool) (a : Acc) (i : ℕ) (w : Taken Acc) (d : Digited s i a w) (r : Scanned) → From s w.value w.end (λ m. int q g m) r
     → From s a i (λ m. int q g m) r
 whole_on s q g a i w d r t = record { reads = λ m o. let k = d.holds m o in span_int q g k.1 r (t.reads k.0 k.2) }
 
@@ -199,14 +198,14 @@ module _ (s : List ℕ) (q : ℕ) (g : Bool) (i : ℕ) where
     point_digits d t = let b = byte_in s i h in same (frac q g 0 0) (rw (b, dg_digit (get_or s i 0) d, num_digit (get_or s i 0) d))
         (t.reads 0 (holds_none a c v))
 
-    pub nought_e : (get_or s i 0 ≡ ch "e") ⊎ (get_or s i 0 ≡ ch "E") → From s a i (λ m. frac q g m 0) r → Reads s i (nought q g) r
+    pub nought_e : (get_or s i 0 ≡ ch "E") ⊎ (get_or s i 0 ≡ ch "e") → From s a i (λ m. frac q g m 0) r → Reads s i (nought q g) r
     nought_e (inl e) t = let b = byte_in s i h in same (frac q g 0 0) (rw (b, e)) (t.reads 0 (holds_none a c v))
     nought_e (inr e) t = let b = byte_in s i h in same (frac q g 0 0) (rw (b, e)) (t.reads 0 (holds_none a c v))
 
     pub nought_point : get_or s i 0 ≡ ch "." → From s a (i + 1) (λ m. frac q g m 0) r → Reads s i (nought q g) r
     nought_point e t = took (frac q g 0 0) h (rw e) (t.reads 0 (holds_none a c v))
 
-  pub nought_x : (r : Scanned) → i < length s → (get_or s i 0 ≡ ch "x") ⊎ (get_or s i 0 ≡ ch "X") → Reads s (i + 1) (S.hex_mark q g) r
+  pub nought_x : (r : Scanned) → i < length s → (get_or s i 0 ≡ ch "X") ⊎ (get_or s i 0 ≡ ch "x") → Reads s (i + 1) (S.hex_mark q g) r
       → Reads s i (nought q g) r
   nought_x r h (inl e) t = took (S.hex_mark q g) h (rw e) t
   nought_x r h (inr e) t = took (S.hex_mark q g) h (rw e) t

@@ -1,4 +1,5 @@
 -- What the loops over digits keep: a coefficient with its zeros, and an exponent that stops at a thousand million. Assumes nothing.
+use Rattle.std.specs.Prelude.{Some, None}
 use Prim.Native.Nat.{ℕ, suc, ◌+◌, ◌*◌, ◌-◌, ◌≤◌, ◌<◌, ◌/◌, ◌%◌, ◌^◌}
 use mathlib.Core.Path.{◌≡◌, refl, sym, ◌∙◌, ap, subst}
 use mathlib.Core.Bool.{Bool, true, false}
@@ -15,8 +16,6 @@ use Rattle.meaning.specs.Limits.{coefficient_limit}
 use Rattle.machine.specs.Numeric.{dig}
 use Rattle.items.specs.Between.NumberOrTime.{Held, Holds, Shifted, Span, Capped, acc_of, pushed, raised_by}
 use Rattle.items.specs.declared.number.Acc.{Acc}
-use Rattle.items.specs.declared.number.Coef.{Coef}
-use Rattle.items.specs.declared.number.Coef.TheVariants.{Fits, Over}
 
 pub tenfold : (c z : ℕ) → c * 10 ^ (z + 1) ≡ c * 10 ^ z * 10
 tenfold c z = ap (λ (x : ℕ). c * 10 ^ x) (add-one z) ∙ ap (λ (x : ℕ). c * x) (pow-suc 10 z) ∙ sym (mul_assoc c (10 ^ z) 10)
@@ -24,15 +23,21 @@ tenfold c z = ap (λ (x : ℕ). c * 10 ^ x) (add-one z) ∙ ap (λ (x : ℕ). c 
 pub grows : (c i k : ℕ) → i ≤ k → c * 10 ^ i ≤ c * 10 ^ k
 grows c i k h = mul-le-mul_left c (pow-le-pow_right {n = 10} (omega arith) h)
 
-pub none_shifted : (c k : ℕ) → c ≡ 0 → Shifted (c * 10 ^ k) (Fits 0)
+pub none_shifted : (c k : ℕ) → c ≡ 0 → Shifted (c * 10 ^ k) (Some 0)
 none_shifted c k e = let f : c * 10 ^ k ≡ 0 = ap (λ (x : ℕ). x * 10 ^ k) e ∙ zero-mul (10 ^ k) in
-    subst (λ (x : ℕ). Shifted x (Fits 0)) (sym f) (Shifted.fits (omega arith))
+    subst (λ (x : ℕ). Shifted x (Some 0)) (sym f) (Shifted.fits (omega arith))
 
-pub over_shifted : (c k i v : ℕ) → i < k → v ≡ c * 10 ^ i → 1844674407370955161 < v → Shifted (c * 10 ^ k) Over
-over_shifted c k i v l e h = Shifted.over (omega (arith, grows c (i + 1) k (omega arith), tenfold c i))
+pub over_shifted : (c k i v : ℕ) → i < k → v ≡ c * 10 ^ i → (v * 10 < 2 ^ 64 → ⊥) → Shifted (c * 10 ^ k) None
+over_shifted c k i v l e h = Shifted.over (omega (arith, h, grows c (i + 1) k (omega arith), tenfold c i))
 
-pub all_shifted : (c k i v : ℕ) → i ≡ k → v ≡ c * 10 ^ i → v < 2 ^ 64 → Shifted (c * 10 ^ k) (Fits v)
-all_shifted c k i v q e h = let f : v ≡ c * 10 ^ k = e ∙ ap (λ (x : ℕ). c * 10 ^ x) q in subst (λ (x : ℕ). Shifted x (Fits v)) f (Shifted.fits h)
+pub all_shifted : (c k i v : ℕ) → i ≡ k → v ≡ c * 10 ^ i → v < 2 ^ 64 → Shifted (c * 10 ^ k) (Some v)
+all_shifted c k i v q e h = let f : v ≡ c * 10 ^ k = e ∙ ap (λ (x : ℕ). c * 10 ^ x) q in subst (λ (x : ℕ). Shifted x (Some v)) f (Shifted.fits h)
+
+shifted_is : {x v : ℕ} → Shifted x (Some v) → v ≡ x
+shifted_is (Shifted.fits h) = refl
+
+shifted_large : {x : ℕ} → Shifted x None → coefficient_limit ≤ x
+shifted_large (Shifted.over h) = h
 
 -- ---- one more digit
 
@@ -52,19 +57,14 @@ module _ (m c z b : ℕ) (l : ch "0" ≤ b) (u : b ≤ ch "9") (n : b ≡ ch "0"
     ten : c * 10 ^ (z + 1) ≡ 10 * m
     ten = let g : Held m c false z = subst (λ (x : Bool). Held m c x z) f h in omega (arith, tenfold c z)
 
-    pub held_over : (r : Coef) → Shifted (c * 10 ^ (z + 1)) r → r ≡ Over → Held (dig m b) 0 true 0
-    held_over r (Shifted.fits k) e = let y : ◌≡◌ {A = ℕ} 0 1 = cc in absurd (omega arith)
-    held_over r (Shifted.over k) e = big (omega (arith, ten)) true
+    pub held_over : Shifted (c * 10 ^ (z + 1)) None → Held (dig m b) 0 true 0
+    held_over s = big (omega (arith, ten, shifted_large s)) true
 
-    pub shifted_fits : (r : Coef) (v : ℕ) → Shifted (c * 10 ^ (z + 1)) r → r ≡ Fits v → v ≡ 10 * m
-    shifted_fits r v (Shifted.fits k) e = let y : v ≡ c * 10 ^ (z + 1) = cc in y ∙ ten
-    shifted_fits r v (Shifted.over k) e = let y : ◌≡◌ {A = ℕ} 0 1 = cc in absurd (omega arith)
+    pub held_past : (v : ℕ) → Shifted (c * 10 ^ (z + 1)) (Some v) → 18446744073709551615 - (b - ch "0") < v → Held (dig m b) 0 true 0
+    held_past v s k = big (omega (arith, ten, shifted_is s)) true
 
-    pub held_past : (r : Coef) (v : ℕ) → Shifted (c * 10 ^ (z + 1)) r → r ≡ Fits v → 18446744073709551615 - (b - ch "0") < v → Held (dig m b) 0 true 0
-    held_past r v s e k = let y = shifted_fits r v s e in big (omega arith) true
-
-    pub held_fits : (r : Coef) (v : ℕ) → Shifted (c * 10 ^ (z + 1)) r → r ≡ Fits v → Held (dig m b) (v + (b - ch "0")) false 0
-    held_fits r v s e = let y = shifted_fits r v s e in (omega (arith, mul-one (v + (b - ch "0"))), inr (λ q. n (omega arith)))
+    pub held_fits : (v : ℕ) → Shifted (c * 10 ^ (z + 1)) (Some v) → Held (dig m b) (v + (b - ch "0")) false 0
+    held_fits v s = (omega (arith, mul-one (v + (b - ch "0")), ten, shifted_is s), inr (λ q. n (omega (arith, ten, shifted_is s))))
 
 -- ---- the accumulator after one more digit
 
@@ -87,22 +87,17 @@ module _ (a : Acc) (b : ℕ) where
       unfolding pushed
       fit h = rw (ne_eqb b (ch "0") n, o, lt-ltb _ _ h)
 
-      pub pushed_over : (r : Coef) → Shifted (a.c * 10 ^ (a.z + 1)) r → r ≡ Over → acc_of 0 true 0 ≡ pushed a b
-      pushed_over r (Shifted.fits k) e = let y : ◌≡◌ {A = ℕ} 0 1 = cc in absurd (omega arith)
-      pushed_over r (Shifted.over k) e = past (omega arith)
+      pub pushed_over : Shifted (a.c * 10 ^ (a.z + 1)) None → acc_of 0 true 0 ≡ pushed a b
+      pushed_over s = past (omega (arith, shifted_large s))
 
-      shifted_value : (r : Coef) (v : ℕ) → Shifted (a.c * 10 ^ (a.z + 1)) r → r ≡ Fits v → v ≡ a.c * 10 ^ (a.z + 1)
-      shifted_value r v (Shifted.fits k) e = cc
-      shifted_value r v (Shifted.over k) e = let y : ◌≡◌ {A = ℕ} 0 1 = cc in absurd (omega arith)
+      pub pushed_past : (v : ℕ) → Shifted (a.c * 10 ^ (a.z + 1)) (Some v) → ch "0" ≤ b → b ≤ ch "9" → 18446744073709551615 - (b - ch "0") < v
+          → acc_of 0 true 0 ≡ pushed a b
+      pushed_past v s l u k = past (omega (arith, shifted_is s))
 
-      pub pushed_past : (r : Coef) (v : ℕ) → Shifted (a.c * 10 ^ (a.z + 1)) r → r ≡ Fits v → ch "0" ≤ b → b ≤ ch "9"
-          → 18446744073709551615 - (b - ch "0") < v → acc_of 0 true 0 ≡ pushed a b
-      pushed_past r v s e l u k = past (omega (arith, shifted_value r v s e))
-
-      pub pushed_fits : (r : Coef) (v : ℕ) → Shifted (a.c * 10 ^ (a.z + 1)) r → r ≡ Fits v → ch "0" ≤ b → b ≤ ch "9"
-          → v ≤ 18446744073709551615 - (b - ch "0") → acc_of (v + (b - ch "0")) false 0 ≡ pushed a b
-      pushed_fits r v s e l u k =
-          let f = shifted_value r v s e in
+      pub pushed_fits : (v : ℕ) → Shifted (a.c * 10 ^ (a.z + 1)) (Some v) → ch "0" ≤ b → b ≤ ch "9" → v ≤ 18446744073709551615 - (b - ch "0")
+          → acc_of (v + (b - ch "0")) false 0 ≡ pushed a b
+      pushed_fits v s l u k =
+          let f = shifted_is s in
           ap (λ (x : ℕ). acc_of (x + (b - ch "0")) false 0) f ∙ fit (omega (arith, f))
 
 -- ---- digits

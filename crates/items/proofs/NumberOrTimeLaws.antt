@@ -1,5 +1,9 @@
 -- The scanner of a number or a time value over a text, from a place on. Assumes nothing.
-use Rattle.std.specs.Prelude.{Err}
+use Rattle.std.specs.Prelude.{Err, IsErrAnd}
+use Rattle.std.proofs.lemmas.Result.{err_from_is_err_and}
+use Rattle.meaning.specs.declared.Refusal.TheVariants as Refused
+use Rattle.items.specs.declared.NotGrammar.{NotGrammar}
+use Rattle.std.specs.Char.{IsNotAsciiDigit}
 use Prim.Native.Nat.{ℕ, suc, ◌+◌, ◌≤◌, ◌<◌}
 use mathlib.Core.Path.{◌≡◌, refl, subst}
 use mathlib.Core.Bool.{Bool, true, false}
@@ -46,6 +50,11 @@ digit? b = go (ltb b (ch "0")) refl (leb b (ch "9")) refl
     go true e y f = inr (NoDigit.under (ltb-true b (ch "0") e))
     go false e true f = inl (record { low = ltb-false b (ch "0") e; high = leb-true b (ch "9") f })
     go false e false f = inr (NoDigit.past (leb-false b (ch "9") f))
+
+-- a byte that is none of the digits
+pub no_digit_there : {s : List ℕ} {i : ℕ} → IsNotAsciiDigit (get_or s i 0) → Edge s i
+no_digit_there (inl h) = Edge.under h
+no_digit_there (inr h) = Edge.past h
 
 -- ---- one byte
 
@@ -103,6 +112,11 @@ same {s} {i} {st} {r} t e k = record { tells = go (ltb i (length s)) refl }
         let h = ltb-false i (length s) x in
         let f : scan i st textEnd ≡ scan i t textEnd = rw (byte_out s i h) at e in
         rw (ran_end s i st h, f, ← ran_end s i t h) k.tells
+
+-- where a `?` hands on the place of a byte that no rule allows
+pub handed_on : {s : List ℕ} {i : ℕ} {st : St} (r : Scanned) {e : NotGrammar} → IsErrAnd r (λ x. x ≡ Refused.NotGrammar e.place)
+    → Reads s i st (Err (Refused.NotGrammar e.place)) → Reads s i st r
+handed_on r h k = let p = err_from_is_err_and r h in rw (p.1, p.2) k
 
 pub closes_by : {i : ℕ} {r : Scanned} (o p : Res) → o ≡ p → Closes i p r → Closes i o r
 closes_by {i} {r} o p e k = rw e k

@@ -1,5 +1,5 @@
 -- Digits with no sign: number and time, and what the byte after them makes of them. Assumes nothing.
-use Rattle.std.specs.Prelude.{Err}
+use Rattle.std.specs.Prelude.{Result, Ok, Err}
 use Prim.Native.Nat.{ℕ, zero, suc, ◌+◌, ◌*◌, ◌-◌, ◌≤◌, ◌<◌, ◌^◌}
 use mathlib.Core.Path.{◌≡◌, refl, sym, ◌∙◌, ap, subst}
 use mathlib.Core.Bool.{Bool, true, false}
@@ -22,9 +22,10 @@ use Rattle.machine.proofs.Runs.{NoDigit}
 use Rattle.machine.proofs.Numeric.Rows.{NumIs, num_class, num_digit, fst_digit}
 use Rattle.items.specs.Between.Places.{byte_at}
 use Rattle.items.specs.Between.NumberOrTime.{Scanned, Reads, IsDigit, Edge, Holds, Span, PlainSays, TimelySays, Ready, Onto, len_of, First, FewSays, LeadSays}
-use Rattle.items.specs.Between.NumberOrTime.{Marks, Plainly}
+use Rattle.items.specs.Between.NumberOrTime.{Marks, Plainly, taken}
+use Rattle.items.specs.declared.NotGrammar as NotGrammarOf
 use Rattle.items.specs.declared.number.Acc.{Acc}
-use Rattle.items.specs.declared.number.Plain.{Plain}
+use Rattle.items.specs.declared.Taken.{Taken}
 use Rattle.items.specs.declared.number_or_time.Few.{Few}
 use Rattle.items.specs.declared.number_or_time.Lead as LeadOf
 use Rattle.items.specs.declared.number_or_time.Lead.TheVariants as Lead
@@ -243,7 +244,7 @@ module _ (s : List ℕ) (q : ℕ) (w : Few) (f : FewSays s q w) (o : Follows s q
         go true e = let d = eqb-true (get_or s q 0) (ch "0") e in bare d (let i = k d in omega (arith, f.some))
         go false e = whole e
 
-    pub lead_plain : (r : LeadOf.Lead) → Plainly (get_or s q 0) w.n w.acc w.at r → LeadSays s q r
+    pub lead_plain : (r : Result LeadOf.Lead NotGrammarOf.NotGrammar) → Plainly (get_or s q 0) w.n w.acc w.at r → LeadSays s q r
     lead_plain r (Plainly.number k) = (ready, (w.v, f.holds, number k))
     lead_plain r (Plainly.nothing d h) = nothing d h
 
@@ -273,7 +274,7 @@ module _ (s : List ℕ) (q : ℕ) (w : Few) (f : FewSays s q w) (h : w.at < leng
       go (Marks.letter a b c) e = let z : ◌≡◌ {A = ℕ} 0 1 = cc in absurd (omega arith)
       go (Marks.other a b c d) e = let z : ◌≡◌ {A = ℕ} 0 1 = cc in absurd (omega arith)
 
-  pub lead_colon : r ≡ Mark.Colon → LeadSays s q (Lead.Hour w.v (w.at + 1))
+  pub lead_colon : r ≡ Mark.Colon → LeadSays s q (Ok (Lead.Hour (taken w.v (w.at + 1))))
   lead_colon e = (omega arith, colon_small e, go m e)
     where
       go : {r : MarkOf.Mark} → Marks w.n (get_or s q 0) (get_or s w.at 0) r → r ≡ Mark.Colon → Onto s q begin (w.at + 1) (field q (minute alone w.v) 2 0)
@@ -282,7 +283,7 @@ module _ (s : List ℕ) (q : ℕ) (w : Few) (f : FewSays s q w) (h : w.at < leng
       go (Marks.letter a b c) e = let z : ◌≡◌ {A = ℕ} 0 1 = cc in absurd (omega arith)
       go (Marks.other a b c d) e = let z : ◌≡◌ {A = ℕ} 0 1 = cc in absurd (omega arith)
 
-  pub lead_dash : r ≡ Mark.Dash → LeadSays s q (Lead.Year w.v (w.at + 1))
+  pub lead_dash : r ≡ Mark.Dash → LeadSays s q (Ok (Lead.Year (taken w.v (w.at + 1))))
   lead_dash e = let g = go m e in (omega arith, g.0, g.1)
     where
       go : {r : MarkOf.Mark} → Marks w.n (get_or s q 0) (get_or s w.at 0) r → r ≡ Mark.Dash → (w.v < 10000) × Onto s q begin
@@ -292,11 +293,11 @@ module _ (s : List ℕ) (q : ℕ) (w : Few) (f : FewSays s q w) (h : w.at < leng
       go (Marks.letter a b c) e = let z : ◌≡◌ {A = ℕ} 0 1 = cc in absurd (omega arith)
       go (Marks.other a b c d) e = let z : ◌≡◌ {A = ℕ} 0 1 = cc in absurd (omega arith)
 
-  x_took : (b : ℕ) → (b ≡ ch "x") ⊎ (b ≡ ch "X") → scan w.at (both q d1 true w.v) b ≡ takes (hex_mark q false)
+  x_took : (b : ℕ) → (b ≡ ch "X") ⊎ (b ≡ ch "x") → scan w.at (both q d1 true w.v) b ≡ takes (hex_mark q false)
   x_took b (inl e) = rw e
   x_took b (inr e) = rw e
 
-  pub lead_x : r ≡ Mark.X → LeadSays s q (Lead.Hex (w.at + 1))
+  pub lead_x : r ≡ Mark.X → LeadSays s q (Ok (Lead.Hex (w.at + 1)))
   lead_x e = (omega arith, go m e)
     where
       go : {r : MarkOf.Mark} → Marks w.n (get_or s q 0) (get_or s w.at 0) r → r ≡ Mark.X → Onto s q begin (w.at + 1) (hex_mark q false)
@@ -306,8 +307,8 @@ module _ (s : List ℕ) (q : ℕ) (w : Few) (f : FewSays s q w) (h : w.at < leng
       go (Marks.other a b c d) e = let z : ◌≡◌ {A = ℕ} 0 1 = cc in absurd (omega arith)
 
 -- a lead that is known
-pub lead_is : (s : List ℕ) (q : ℕ) (r t : LeadOf.Lead) → LeadSays s q r → r ≡ t → LeadSays s q t
-lead_is s q r t k e = subst (λ (x : LeadOf.Lead). LeadSays s q x) e k
+pub lead_is : (s : List ℕ) (q : ℕ) (r t : LeadOf.Lead) → LeadSays s q (Ok r) → r ≡ t → LeadSays s q (Ok t)
+lead_is s q r t k e = subst (λ (x : LeadOf.Lead). LeadSays s q (Ok x)) e k
 
 -- ---- plain digits, the first of which is not 0
 
@@ -347,53 +348,53 @@ module _ (s : List ℕ) (q : ℕ) (n0 : get_or s q 0 ≡ ch "0" → ⊥) where
       (λ z. let g : j ≡ q = omega arith in ((λ x. n0 (ap (λ (y : ℕ). get_or s y 0) (sym g) ∙ x)), g, span_none h g)))
       (subst (λ (x : ℕ). Reads s x (after (suc n) q (dig w (get_or s j 0))) r) (sym (add-one j)) k))
 
-  module _ (w : Plain) (p : PlainSays s q 0 w) (d : IsDigit (get_or s q 0)) (m : q < length s) (t : TimelySays s w.at false) where
+  module _ (w : Taken ℕ) (p : PlainSays s q 0 w) (d : IsDigit (get_or s q 0)) (m : q < length s) (t : TimelySays s w.end false) where
     -- a digit stands at q, and so there is one at least
-    some : q < w.at
-    some = go p.stop (ltb q w.at) refl
+    some : q < w.end
+    some = go p.stop (ltb q w.end) refl
       where
-        none : w.at ≡ q → w.v ≡ 0
+        none : w.end ≡ q → w.value ≡ 0
         none e = span_none p.span e
 
-        go : Edge s w.at ⊎ (1844674407370955160 < w.v) → (x : Bool) → ltb q w.at ≡ x → q < w.at
-        go x true e = ltb-true q w.at e
+        go : Edge s w.end ⊎ (1844674407370955160 < w.value) → (x : Bool) → ltb q w.end ≡ x → q < w.end
+        go x true e = ltb-true q w.end e
         go (inl x) false e =
-            let f : w.at ≡ q = omega (arith, ltb-false q w.at e, p.low) in
+            let f : w.end ≡ q = omega (arith, ltb-false q w.end e, p.low) in
             absurd (no_digit_lem (edge_none (subst (Edge s) f x)) (rw (byte_in s q m) d))
-        go (inr x) false e = let f : w.at ≡ q = omega (arith, ltb-false q w.at e, p.low) in absurd (omega (arith, none f))
+        go (inr x) false e = let f : w.end ≡ q = omega (arith, ltb-false q w.end e, p.low) in absurd (omega (arith, none f))
 
-    small : (n : ℕ) → w.at ≡ q + n → n ≤ 4 → w.v < 10 ^ 4
+    small : (n : ℕ) → w.end ≡ q + n → n ≤ 4 → w.value < 10 ^ 4
     small n e h =
         let k = span_small 0 p.span (omega arith) in
-        let f : 0 + (w.at - q) ≤ 4 = omega arith in
-        omega (arith, k, pow-le-pow_right {n = 10} (omega arith) {i = 0 + (w.at - q)} {j = 4} f)
+        let f : 0 + (w.end - q) ≤ 4 = omega arith in
+        omega (arith, k, pow-le-pow_right {n = 10} (omega arith) {i = 0 + (w.end - q)} {j = 4} f)
 
-    ended : (n : ℕ) → w.at ≡ q + n → n ≤ 4 → NoDigit (byte_at s w.at)
+    ended : (n : ℕ) → w.end ≡ q + n → n ≤ 4 → NoDigit (byte_at s w.end)
     ended n e h = go p.stop
       where
-        go : Edge s w.at ⊎ (1844674407370955160 < w.v) → NoDigit (byte_at s w.at)
+        go : Edge s w.end ⊎ (1844674407370955160 < w.value) → NoDigit (byte_at s w.end)
         go (inl x) = edge_none x
         go (inr x) = absurd (omega (arith, small n e h))
 
     -- the byte after up to four digits makes a number of them
-    turned : (n : ℕ) → w.at ≡ q + n → 1 ≤ n → n ≤ 4 → (r : Scanned) → Reads s w.at (int q false w.v) r
-        → Reads s w.at (both q (len_of n) false w.v) r
+    turned : (n : ℕ) → w.end ≡ q + n → 1 ≤ n → n ≤ 4 → (r : Scanned) → Reads s w.end (int q false w.value) r
+        → Reads s w.end (both q (len_of n) false w.value) r
     turned n e l h r k =
-        same (int q false w.v) (as_number_lem (len_of n) false w.at q w.v (num_class (byte_at s w.at))
-        (apart n (byte_at s w.at) l h (inr (ended n e h)) (λ x y. t.0 y) (λ x y. t.1 y)) ∙ plain (len_of n)) k
+        same (int q false w.value) (as_number_lem (len_of n) false w.end q w.value (num_class (byte_at s w.end))
+        (apart n (byte_at s w.end) l h (inr (ended n e h)) (λ x y. t.0 y) (λ x y. t.1 y)) ∙ plain (len_of n)) k
       where
-        plain : (k : Len) → S.as_number w.at q k false w.v (byte_at s w.at) (num_of (byte_at s w.at))
-            ≡ scan w.at (int q false w.v) (byte_at s w.at)
+        plain : (k : Len) → S.as_number w.end q k false w.value (byte_at s w.end) (num_of (byte_at s w.end))
+            ≡ scan w.end (int q false w.value) (byte_at s w.end)
         plain d1 = refl
         plain d2 = refl
         plain d3 = refl
         plain d4 = refl
 
-    pub plain_leads : Onto s q begin w.at (int q false w.v)
-    plain_leads = λ r k. let e : w.at ≡ q + (w.at - q) = omega (arith, p.low) in
-        reaches p.span (w.at - q) e r (go (w.at - q) e (omega (arith, some)) r k)
+    pub plain_leads : Onto s q begin w.end (int q false w.value)
+    plain_leads = λ r k. let e : w.end ≡ q + (w.end - q) = omega (arith, p.low) in
+        reaches p.span (w.end - q) e r (go (w.end - q) e (omega (arith, some)) r k)
       where
-        go : (n : ℕ) → w.at ≡ q + n → 1 ≤ n → (r : Scanned) → Reads s w.at (int q false w.v) r → Reads s w.at (after n q w.v) r
+        go : (n : ℕ) → w.end ≡ q + n → 1 ≤ n → (r : Scanned) → Reads s w.end (int q false w.value) r → Reads s w.end (after n q w.value) r
         go zero e h r k = absurd (omega arith)
         go (suc zero) e h r k = turned 1 e (omega arith) (omega arith) r k
         go (suc (suc zero)) e h r k = turned 2 e (omega arith) (omega arith) r k
@@ -401,11 +402,11 @@ module _ (s : List ℕ) (q : ℕ) (n0 : get_or s q 0 ≡ ch "0" → ⊥) where
         go (suc (suc (suc (suc zero)))) e h r k = turned 4 e (omega arith) (omega arith) r k
         go (suc (suc (suc (suc (suc n))))) e h r k = k
 
-    pub plain_small : w.v < 10 ^ w.at
+    pub plain_small : w.value < 10 ^ w.end
     plain_small = omega (
       arith,
       span_small 0 p.span (omega arith),
-      pow-le-pow_right {n = 10} (omega arith) {i = 0 + (w.at - q)} {j = w.at}
+      pow-le-pow_right {n = 10} (omega arith) {i = 0 + (w.end - q)} {j = w.end}
           (omega (arith, p.low)),
     )
 

@@ -15,7 +15,7 @@ use Rattle.machine.proofs.Numeric.Rows.{num_class}
 use Rattle.items.specs.Between.Places.{byte_at}
 use Rattle.items.specs.Between.NumberOrTime.{Scanned, Reads, Edge, Held, Holds, Span, Ended, PlainSays, Settles}
 use Rattle.items.specs.declared.number.Acc.{Acc}
-use Rattle.items.specs.declared.number.Plain.{Plain}
+use Rattle.items.specs.declared.Taken.{Taken}
 use Rattle.items.proofs.PlacesLaws.{byte_in, byte_out}
 use Rattle.items.proofs.NumberOrTimeLaws.{edge_none, took, halts, same}
 use Rattle.items.proofs.NumberDigitLaws.{span_next}
@@ -71,12 +71,12 @@ module _ (s : List ℕ) (q : ℕ) (g : Bool) (a : Acc) (v : ℕ) (o : Holds v a)
   int_ends at e t = same (frac q g v 0) (int_other q g v (num_class (byte_at s at)) (edge_none e.edge) e.point) (frac_ends at 0 e t)
 
 -- a point, and the digits of a fraction
-pub point_ends : (s : List ℕ) (q : ℕ) (g : Bool) (a : Acc) (v at : ℕ) (w : Plain) (r : Scanned) → at < length s → get_or s at 0 ≡ ch "."
-    → PlainSays s (at + 1) v w → Holds w.v a → Ended s w.at → Settles q g a 0 (w.at - (at + 1)) w.at r → Reads s at (int q g v) r
+pub point_ends : (s : List ℕ) (q : ℕ) (g : Bool) (a : Acc) (v at : ℕ) (w : Taken ℕ) (r : Scanned) → at < length s → get_or s at 0 ≡ ch "."
+    → PlainSays s (at + 1) v w → Holds w.value a → Ended s w.end → Settles q g a 0 (w.end - (at + 1)) w.end r → Reads s at (int q g v) r
 point_ends s q g a v at w r h e p o d t =
     took (frac q g v 0) h (rw e)
-    (span_frac q g 0 p.span r (subst (λ (x : ℕ). Reads s w.at (frac q g w.v x) r) (sym (zero-add (w.at - (at + 1))))
-    (frac_ends s q g a w.v o r w.at (w.at - (at + 1)) d t)))
+    (span_frac q g 0 p.span r (subst (λ (x : ℕ). Reads s w.end (frac q g w.value x) r) (sym (zero-add (w.end - (at + 1))))
+    (frac_ends s q g a w.value o r w.end (w.end - (at + 1)) d t)))
 
 -- ---- what the loop keeps
 

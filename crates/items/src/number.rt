@@ -6,17 +6,14 @@ ghost use Rattle.grammar.specs.Times.{signed};
 ghost use Rattle.machine.specs.Numeric as Numeric;
 ghost use Rattle.machine.specs.Numeric.{dig};
 ghost use Rattle.items.specs.declared.Item.TheVariants as Item;
-ghost use Rattle.items.specs.Between.NumberOrTime.{Reads, IsDigit, Place, Edge, Holds, Shifted, Digited, Capped};
+ghost use Rattle.items.specs.Between.NumberOrTime.{DecimalSays, Reads, IsDigit, Place, Edge, Holds, Shifted, Digited, Capped};
 ghost use Rattle.items.specs.Between.NumberOrTime.{pushed, raised_by, Powered, Ready, From, Settles, PlainSays, EndsSays, Hexed, taken};
 
-use crate::{Item, Scanned, Taken, hex_digit};
+use crate::{Item, NotGrammar, Scanned, Taken, hex_digit};
 use meaning::{COEFFICIENT_MOST, Number, POWER_LIMIT, Refusal};
 
-// Ten times a number above this is no coefficient.
-const TENTH: u64 = COEFFICIENT_MOST / 10;
-
 // After a number up to this, any digit fits.
-const SURE: u64 = TENTH - 1;
+const SURE: u64 = COEFFICIENT_MOST / 10 - 1;
 
 // Sixteen times a number above this is no coefficient.
 const SIXTEENTH: u64 = COEFFICIENT_MOST / 16;
@@ -46,34 +43,6 @@ const OVER: Acc = Acc {
     z: 0,
 };
 
-// A coefficient that fits, or that is too large to keep.
-#[derive(Clone, Copy)]
-enum Coef {
-    Fits(u64),
-    Over,
-}
-
-// Digits so far, and the place after them.
-#[derive(Clone, Copy)]
-struct Run {
-    acc: Acc,
-    at: usize,
-}
-
-// Plain digits: their value, and the place after them.
-#[derive(Clone, Copy)]
-pub struct Plain {
-    pub v: u64,
-    pub at: usize,
-}
-
-// An exponent's digits, and the place after them.
-#[derive(Clone, Copy)]
-struct Power {
-    e: usize,
-    at: usize,
-}
-
 // A hexadecimal number, whether it is 2^64 or more, and the place after it.
 #[derive(Clone, Copy)]
 pub struct Hex {
@@ -82,23 +51,28 @@ pub struct Hex {
     pub at: usize,
 }
 
-// c * 10 ^ k.
-fn shift(c: u64, k: usize) -> Coef
+// The digit that must stand at a place.
+pub fn digit_here(s: &[u8], i: usize) -> Result<u8, NotGrammar>
+    ensures { DecimalSays s.now i result }
+{
+    if i >= s.len() || !s[i].is_ascii_digit() {
+        return Err(NotGrammar { place: i });
+    }
+    Ok(s[i] - b'0')
+}
+
+// c * 10 ^ k, where it fits.
+fn shift(c: u64, k: usize) -> Option<u64>
     ensures { Shifted (c * 10 ^ k) result }
 {
     if c == 0 {
-        return Coef::Fits(0);
+        return Some(0);
     }
     let mut v = c;
-    let mut i: usize = 0;
-    while i < k {
-        if v > TENTH {
-            return Coef::Over;
-        }
-        v = v * 10;
-        i += 1;
+    for _ in 0..k {
+        v = v.checked_mul(10)?;
     }
-    Coef::Fits(v)
+    Some(v)
 }
 
 // One more digit.
@@ -120,39 +94,32 @@ pub fn push(a: Acc, b: u8) -> Acc
     }
     let d = (b - b'0') as u64;
     match shift(a.c, a.z + 1) {
-        Coef::Over => OVER,
-        Coef::Fits(v) => {
-            if v > COEFFICIENT_MOST - d {
-                return OVER;
-            }
-            Acc {
-                c: v + d,
-                over: false,
-                z: 0,
-            }
-        }
+        Some(v) if v <= COEFFICIENT_MOST - d => Acc {
+            c: v + d,
+            over: false,
+            z: 0,
+        },
+        _ => OVER,
     }
 }
 
 // The digits from a place on.
-fn digits(s: &[u8], from: usize, a: Acc) -> Run
+fn digits(s: &[u8], from: usize, a: Acc) -> Taken<Acc>
     requires { Ready s.now a 0 from }
     ensures { Digited s.now from a result }
 {
     let mut x = a;
-    let mut i = from;
-    while i < s.len() {
+    for i in from..s.len() {
         let b = s[i];
-        if b < b'0' {
-            return Run { acc: x, at: i };
-        }
-        if b > b'9' {
-            return Run { acc: x, at: i };
+        if !b.is_ascii_digit() {
+            return Taken { value: x, end: i };
         }
         x = push(x, b);
-        i += 1;
     }
-    Run { acc: x, at: i }
+    Taken {
+        value: x,
+        end: s.len(),
+    }
 }
 
 // One more digit of an exponent, exact below a thousand million.
@@ -169,24 +136,22 @@ pub fn raise(e: usize, b: u8) -> usize
 }
 
 // The digits of an exponent from a place on.
-fn exp_digits(s: &[u8], from: usize) -> Power
+fn exp_digits(s: &[u8], from: usize) -> Taken<usize>
     requires { Place s.now from }
     ensures { Powered s.now from result }
 {
     let mut e: usize = 0;
-    let mut i = from;
-    while i < s.len() {
+    for i in from..s.len() {
         let b = s[i];
-        if b < b'0' {
-            return Power { e, at: i };
-        }
-        if b > b'9' {
-            return Power { e, at: i };
+        if !b.is_ascii_digit() {
+            return Taken { value: e, end: i };
         }
         e = raise(e, b);
-        i += 1;
     }
-    Power { e, at: i }
+    Taken {
+        value: e,
+        end: s.len(),
+    }
 }
 
 // A magnitude with its sign.
@@ -244,23 +209,27 @@ fn raised(s: &[u8], q: usize, g: bool, a: Acc, f: usize, minus: bool, k: usize) 
     requires { Ready s.now a f k }
     ensures { From s.now a k (λ m. Numeric.exp_sign q g m f minus) result }
 {
+    digit_here(s, k)?;
+    let e = exp_digits(s, k);
+    if minus {
+        return settle(q, g, a, 0, f + e.value, e.end);
+    }
+    settle(q, g, a, e.value, f, e.end)
+}
+
+// An exponent, after its e.
+fn power(s: &[u8], q: usize, g: bool, a: Acc, f: usize, k: usize) -> Scanned
+    requires { Ready s.now a f k }
+    ensures { From s.now a k (λ m. Numeric.exp q g m f) result }
+{
     if k >= s.len() {
         return Err(Refusal::NotGrammar(k));
     }
-    let b = s[k];
-    if b < b'0' {
-        return Err(Refusal::NotGrammar(k));
+    match s[k] {
+        b'+' => raised(s, q, g, a, f, false, k + 1),
+        b'-' => raised(s, q, g, a, f, true, k + 1),
+        _ => raised(s, q, g, a, f, false, k),
     }
-    if b > b'9' {
-        return Err(Refusal::NotGrammar(k));
-    }
-    let w = exp_digits(s, k);
-    let e = w.e;
-    let at = w.at;
-    if minus {
-        return settle(q, g, a, 0, f + e, at);
-    }
-    settle(q, g, a, e, f, at)
 }
 
 // An exponent or none, after the digits of a number of which f are a fraction's.
@@ -268,27 +237,10 @@ fn exponent(s: &[u8], q: usize, g: bool, a: Acc, f: usize, at: usize) -> Scanned
     requires { Ready s.now a f at × Edge s.now at }
     ensures { From s.now a at (λ m. Numeric.frac q g m f) result }
 {
-    if at >= s.len() {
+    if at >= s.len() || !matches!(s[at], b'e' | b'E') {
         return settle(q, g, a, 0, f, at);
     }
-    let b = s[at];
-    if b != b'e' {
-        if b != b'E' {
-            return settle(q, g, a, 0, f, at);
-        }
-    }
-    let k = at + 1;
-    if k >= s.len() {
-        return Err(Refusal::NotGrammar(k));
-    }
-    let x = s[k];
-    if x == b'+' {
-        return raised(s, q, g, a, f, false, k + 1);
-    }
-    if x == b'-' {
-        return raised(s, q, g, a, f, true, k + 1);
-    }
-    raised(s, q, g, a, f, false, k)
+    power(s, q, g, a, f, at + 1)
 }
 
 // A fraction's digits, after its point, and what follows.
@@ -297,9 +249,7 @@ fn fraction(s: &[u8], q: usize, g: bool, a: Acc, from: usize) -> Scanned
     ensures { From s.now a from (λ m. Numeric.frac q g m 0) result }
 {
     let w = digits(s, from, a);
-    let x = w.acc;
-    let at = w.at;
-    exponent(s, q, g, x, at - from, at)
+    exponent(s, q, g, w.value, w.end - from, w.end)
 }
 
 // After the digits of the whole part.
@@ -307,10 +257,7 @@ fn pointed(s: &[u8], q: usize, g: bool, a: Acc, at: usize) -> Scanned
     requires { Ready s.now a 0 at × Edge s.now at }
     ensures { From s.now a at (λ m. Numeric.int q g m) result }
 {
-    if at >= s.len() {
-        return exponent(s, q, g, a, 0, at);
-    }
-    if s[at] != b'.' {
+    if at >= s.len() || s[at] != b'.' {
         return exponent(s, q, g, a, 0, at);
     }
     fraction(s, q, g, a, at + 1)
@@ -322,9 +269,7 @@ pub fn decimal(s: &[u8], q: usize, g: bool, a: Acc, from: usize) -> Scanned
     ensures { From s.now a from (λ m. Numeric.int q g m) result }
 {
     let w = digits(s, from, a);
-    let x = w.acc;
-    let at = w.at;
-    pointed(s, q, g, x, at)
+    pointed(s, q, g, w.value, w.end)
 }
 
 // A number that begins with its point, after it.
@@ -332,16 +277,7 @@ pub fn point(s: &[u8], q: usize, g: bool, i: usize) -> Scanned
     requires { Place s.now i }
     ensures { Reads s.now i (Numeric.point q g) result }
 {
-    if i >= s.len() {
-        return Err(Refusal::NotGrammar(i));
-    }
-    let b = s[i];
-    if b < b'0' {
-        return Err(Refusal::NotGrammar(i));
-    }
-    if b > b'9' {
-        return Err(Refusal::NotGrammar(i));
-    }
+    digit_here(s, i)?;
     fraction(s, q, g, NONE, i)
 }
 
@@ -372,53 +308,29 @@ fn held(v: u64) -> Acc
 }
 
 // The digits from a place on, after others with the value `had`, as long as one more is sure to fit.
-pub fn plain_digits(s: &[u8], from: usize, had: u64) -> Plain
+pub fn plain_digits(s: &[u8], from: usize, had: u64) -> Taken<u64>
     requires { from ≤ length s.now }
     ensures { PlainSays s.now from had result }
 {
     let mut v = had;
-    let mut i = from;
-    while i < s.len() {
+    for i in from..s.len() {
         let b = s[i];
-        if b < b'0' {
-            return Plain { v, at: i };
-        }
-        if b > b'9' {
-            return Plain { v, at: i };
-        }
-        if v > SURE {
-            return Plain { v, at: i };
+        if !b.is_ascii_digit() || v > SURE {
+            return Taken { value: v, end: i };
         }
         v = v * 10 + (b - b'0') as u64;
-        i += 1;
     }
-    Plain { v, at: i }
+    Taken {
+        value: v,
+        end: s.len(),
+    }
 }
 
 // Whether a number that has digits before this place ends here: no digit, no point and no exponent follows.
 fn ends(s: &[u8], at: usize) -> bool
     ensures { EndsSays s.now at result }
 {
-    if at >= s.len() {
-        return true;
-    }
-    let b = s[at];
-    if b < b'0' {
-        if b == b'.' {
-            return false;
-        }
-        return true;
-    }
-    if b <= b'9' {
-        return false;
-    }
-    if b == b'e' {
-        return false;
-    }
-    if b == b'E' {
-        return false;
-    }
-    true
+    at >= s.len() || !matches!(s[at], b'0'..=b'9' | b'.' | b'e' | b'E')
 }
 
 // The rest of a decimal number, after digits of its whole part with the value v. Most are short, with no exponent.
@@ -433,10 +345,8 @@ pub fn rest(s: &[u8], q: usize, g: bool, v: u64, at: usize) -> Scanned
         return decimal(s, q, g, held(v), at);
     }
     let w = plain_digits(s, at + 1, v);
-    let all = w.v;
-    let end = w.at;
-    if ends(s, end) {
-        return settle(q, g, held(all), 0, end - (at + 1), end);
+    if ends(s, w.end) {
+        return settle(q, g, held(w.value), 0, w.end - (at + 1), w.end);
     }
     decimal(s, q, g, held(v), at)
 }
@@ -492,21 +402,10 @@ pub fn nought(s: &[u8], q: usize, g: bool, at: usize) -> Scanned
     if at >= s.len() {
         return finite(g, 0, 0, at);
     }
-    let b = s[at];
-    if b == b'x' {
-        return hexadecimal(s, q, g, at + 1);
+    match s[at] {
+        b'x' | b'X' => hexadecimal(s, q, g, at + 1),
+        b'.' => fraction(s, q, g, NONE, at + 1),
+        b'e' | b'E' => exponent(s, q, g, NONE, 0, at),
+        _ => finite(g, 0, 0, at),
     }
-    if b == b'X' {
-        return hexadecimal(s, q, g, at + 1);
-    }
-    if b == b'.' {
-        return fraction(s, q, g, NONE, at + 1);
-    }
-    if b == b'e' {
-        return exponent(s, q, g, NONE, 0, at);
-    }
-    if b == b'E' {
-        return exponent(s, q, g, NONE, 0, at);
-    }
-    finite(g, 0, 0, at)
 }

@@ -6,7 +6,7 @@ ghost use Rattle.items.specs.Between.NumberOrTime.{NumericSays, Reads, Place, Ed
 
 use crate::number::{Acc, NONE};
 use crate::time_value::When;
-use crate::{Item, Scanned, Taken, number, time_value, word};
+use crate::{Item, NotGrammar, Scanned, Taken, number, time_value, word};
 use meaning::{Number, Refusal, Time};
 
 // Up to four digits with no sign: how many, their value twice, and the place after them.
@@ -18,14 +18,13 @@ struct Few {
     at: usize,
 }
 
-// What digits with no sign begin: a number; a hexadecimal one; an hour or a year, and the place after its mark; nothing.
+// What digits with no sign begin: a number; a hexadecimal one; an hour or a year, and the place after its mark.
 #[derive(Clone, Copy)]
 enum Lead {
-    Number(Acc, usize),
+    Number(Taken<Acc>),
     Hex(usize),
-    Hour { hour: u8, at: usize },
-    Year { year: u16, at: usize },
-    NotGrammar(usize),
+    Hour(Taken<u8>),
+    Year(Taken<u16>),
 }
 
 // What a byte makes of the digits before it.
@@ -46,95 +45,64 @@ fn first_digits(s: &[u8], q: usize) -> Few
     let mut acc = number::push(NONE, d);
     let mut v = (d - b'0') as u16;
     let mut n: usize = 1;
-    let mut at = q + 1;
-    while at < s.len() {
-        if n >= 4 {
-            return Few { n, v, acc, at };
-        }
+    for at in q + 1..s.len() {
         let b = s[at];
-        if b < b'0' {
-            return Few { n, v, acc, at };
-        }
-        if b > b'9' {
+        if n >= 4 || !b.is_ascii_digit() {
             return Few { n, v, acc, at };
         }
         acc = number::push(acc, b);
         v = 10 * v + (b - b'0') as u16;
         n += 1;
-        at += 1;
     }
-    Few { n, v, acc, at }
+    Few {
+        n,
+        v,
+        acc,
+        at: s.len(),
+    }
 }
 
 // What the byte b after n digits, the first of which is d, makes of them.
 fn mark_of(n: usize, d: u8, b: u8) -> Mark
     ensures { Marks n d b result }
 {
-    if n == 2 {
-        if b == b':' {
-            return Mark::Colon;
-        }
-        return Mark::Other;
+    match (n, b) {
+        (2, b':') => Mark::Colon,
+        (4, b'-') => Mark::Dash,
+        (1, b'x' | b'X') if d == b'0' => Mark::X,
+        _ => Mark::Other,
     }
-    if n == 4 {
-        if b == b'-' {
-            return Mark::Dash;
-        }
-        return Mark::Other;
-    }
-    if n != 1 {
-        return Mark::Other;
-    }
-    if d != b'0' {
-        return Mark::Other;
-    }
-    if b == b'x' {
-        return Mark::X;
-    }
-    if b == b'X' {
-        return Mark::X;
-    }
-    Mark::Other
 }
 
 // Digits that are no time: a number, unless a 0 goes before others.
-fn plain(d: u8, n: usize, x: Acc, at: usize) -> Lead
+fn plain(d: u8, n: usize, x: Acc, at: usize) -> Result<Lead, NotGrammar>
     ensures { Plainly d n x at result }
 {
-    if d != b'0' {
-        return Lead::Number(x, at);
+    if d == b'0' && n > 1 {
+        return Err(NotGrammar { place: at });
     }
-    if n > 1 {
-        return Lead::NotGrammar(at);
-    }
-    Lead::Number(x, at)
+    Ok(Lead::Number(Taken { value: x, end: at }))
 }
 
 // The digits with no sign, the first at q.
-fn leading(s: &[u8], q: usize) -> Lead
+fn leading(s: &[u8], q: usize) -> Result<Lead, NotGrammar>
     requires { AtDigit s.now q }
     ensures { LeadSays s.now q result }
 {
     let w = first_digits(s, q);
-    let n = w.n;
-    let v = w.v;
-    let x = w.acc;
-    let at = w.at;
     let d = s[q];
-    if at >= s.len() {
-        return plain(d, n, x, at);
+    if w.at >= s.len() {
+        return plain(d, w.n, w.acc, w.at);
     }
-    match mark_of(n, d, s[at]) {
-        Mark::Colon => Lead::Hour {
-            hour: v as u8,
-            at: at + 1,
-        },
-        Mark::Dash => Lead::Year {
-            year: v,
-            at: at + 1,
-        },
-        Mark::X => Lead::Hex(at + 1),
-        Mark::Other => plain(d, n, x, at),
+    let end = w.at + 1;
+    match mark_of(w.n, d, s[w.at]) {
+        Mark::Colon => Ok(Lead::Hour(Taken {
+            value: w.v as u8,
+            end,
+        })),
+        Mark::Dash => Ok(Lead::Year(Taken { value: w.v, end })),
+        Mark::X => Ok(Lead::Hex(end)),
+        Mark::Other => plain(d, w.n, w.acc, w.at),
     }
 }
 
@@ -143,12 +111,12 @@ fn any_unsigned(s: &[u8], q: usize) -> Scanned
     requires { AtDigit s.now q }
     ensures { Reads s.now q Numeric.begin result }
 {
-    match leading(s, q) {
-        Lead::Number(x, at) => number::decimal(s, q, false, x, at),
+    let lead = leading(s, q)?;
+    match lead {
+        Lead::Number(x) => number::decimal(s, q, false, x.value, x.end),
         Lead::Hex(at) => number::hexadecimal(s, q, false, at),
-        Lead::Hour { hour: v, at } => time_value::after_hour(s, q, When::Alone, v, at),
-        Lead::Year { year: v, at } => time_value::after_year(s, q, v, at),
-        Lead::NotGrammar(p) => Err(Refusal::NotGrammar(p)),
+        Lead::Hour(hour) => time_value::after_hour(s, q, When::Alone, hour.value, hour.end),
+        Lead::Year(year) => time_value::after_year(s, q, year.value, year.end),
     }
 }
 
@@ -156,17 +124,7 @@ fn any_unsigned(s: &[u8], q: usize) -> Scanned
 fn timely(s: &[u8], at: usize) -> bool
     ensures { TimelySays s.now at result }
 {
-    if at >= s.len() {
-        return false;
-    }
-    let b = s[at];
-    if b == b':' {
-        return true;
-    }
-    if b == b'-' {
-        return true;
-    }
-    false
+    at < s.len() && matches!(s[at], b':' | b'-')
 }
 
 // Digits with no sign. Most are of a short number that does not begin with 0.
@@ -178,12 +136,10 @@ fn unsigned(s: &[u8], q: usize) -> Scanned
         return any_unsigned(s, q);
     }
     let w = number::plain_digits(s, q, 0);
-    let v = w.v;
-    let at = w.at;
-    if timely(s, at) {
+    if timely(s, w.end) {
         return any_unsigned(s, q);
     }
-    number::rest(s, q, false, v, at)
+    number::rest(s, q, false, w.value, w.end)
 }
 
 // A number that is a word, after its first letter.
@@ -203,17 +159,12 @@ fn undigited(s: &[u8], q: usize, g: bool, i: usize) -> Scanned
     requires { (i < length s.now) × (length s.now ≤ text_limit) × Edge s.now i }
     ensures { Reads s.now i (Numeric.sign q g) result }
 {
-    let b = s[i];
-    if b == b'.' {
-        return number::point(s, q, g, i + 1);
+    match s[i] {
+        b'.' => number::point(s, q, g, i + 1),
+        b'N' => named(s, i + 1, b"aN", Number::NotANumber),
+        b'I' => named(s, i + 1, b"nfinity", Number::Infinite { minus: g }),
+        _ => Err(Refusal::NotGrammar(i)),
     }
-    if b == b'N' {
-        return named(s, i + 1, b"aN", Number::NotANumber);
-    }
-    if b == b'I' {
-        return named(s, i + 1, b"nfinity", Number::Infinite { minus: g });
-    }
-    Err(Refusal::NotGrammar(i))
 }
 
 // After a sign.
@@ -224,17 +175,11 @@ fn signed(s: &[u8], q: usize, g: bool, i: usize) -> Scanned
     if i >= s.len() {
         return Err(Refusal::NotGrammar(i));
     }
-    let b = s[i];
-    if b == b'0' {
-        return number::nought(s, q, g, i + 1);
+    match s[i] {
+        b'0' => number::nought(s, q, g, i + 1),
+        b'1'..=b'9' => number::decimal(s, q, g, NONE, i),
+        _ => undigited(s, q, g, i),
     }
-    if b < b'0' {
-        return undigited(s, q, g, i);
-    }
-    if b > b'9' {
-        return undigited(s, q, g, i);
-    }
-    number::decimal(s, q, g, NONE, i)
 }
 
 // A number or a time value, where its first byte is at q.
@@ -242,18 +187,10 @@ pub fn numeric(s: &[u8], q: usize) -> Scanned
     requires { (q < length s.now) × (length s.now ≤ text_limit) }
     ensures { NumericSays s.now q result }
 {
-    let b = s[q];
-    if b == b'+' {
-        return signed(s, q, false, q + 1);
+    match s[q] {
+        b'+' => signed(s, q, false, q + 1),
+        b'-' => signed(s, q, true, q + 1),
+        b'0'..=b'9' => unsigned(s, q),
+        _ => undigited(s, q, false, q),
     }
-    if b == b'-' {
-        return signed(s, q, true, q + 1);
-    }
-    if b < b'0' {
-        return undigited(s, q, false, q);
-    }
-    if b > b'9' {
-        return undigited(s, q, false, q);
-    }
-    unsigned(s, q)
 }

@@ -1,7 +1,7 @@
 -- What the readers of a number or a time value (docs/FORMAT.md, 5 and 6) promise: how the machine's scanner goes on
 -- from the place and the state that each stands for. Assumes nothing.
 use Rattle.std.specs.Prelude.{ℕ, zero, suc, ◌+◌, ◌*◌, ◌-◌, ◌≤◌, ◌<◌, ◌%◌, ◌^◌, ◌≡◌, Bool, true, false, cond, ◌⊎◌, List}
-use Rattle.std.specs.Prelude.{eqb, ltb, length, get_or, drop, Result, Ok, Err}
+use Rattle.std.specs.Prelude.{eqb, ltb, length, get_or, drop, Result, Ok, Err, Option, Some, None}
 use Rattle.rules.specs.Rfc3629.{In}
 use Rattle.meaning.specs.declared.Number.{Number}
 use Rattle.meaning.specs.declared.Time.{Time}
@@ -16,13 +16,9 @@ use Rattle.machine.specs.Scan.{Ran, ended, broke, unended, goes_on, ran}
 use Rattle.machine.specs.Numeric as S
 use Rattle.machine.specs.Numeric.{St, Res, Slot, Len, d1, d2, d3, d4, scan, dig, field}
 use Rattle.items.specs.declared.number.Acc.{Acc}
-use Rattle.items.specs.declared.number.Run.{Run}
-use Rattle.items.specs.declared.number.Coef.{Coef}
-use Rattle.items.specs.declared.number.Coef.TheVariants.{Fits, Over}
-use Rattle.items.specs.declared.number.Plain.{Plain}
-use Rattle.items.specs.declared.number.Power.{Power}
 use Rattle.items.specs.declared.number.Hex.{Hex}
 use Rattle.items.specs.declared.Item as ItemOf
+use Rattle.items.specs.declared.NotGrammar as NotGrammarOf
 use Rattle.items.specs.declared.Item.TheVariants as Item
 use Rattle.items.specs.declared.Taken.{Taken}
 use Rattle.items.specs.declared.number_or_time.Few.{Few}
@@ -96,6 +92,17 @@ pub data Edge (s : List ℕ) (i : ℕ) : Type 0 where
   under : get_or s i 0 < ch "0" → Edge s i
   past : ch "9" < get_or s i 0 → Edge s i
 
+-- a digit stands at i, and has the value d
+pub record Digit (s : List ℕ) (i d : ℕ) : Type 0 where
+  pub inside : i < length s
+  pub digit : IsDigit (get_or s i 0)
+  pub value : d ≡ get_or s i 0 - ch "0"
+
+-- the digit at i, or none stands there
+abbrev pub DecimalSays : List ℕ → ℕ → Result ℕ NotGrammarOf.NotGrammar → Type 0
+DecimalSays s i (Ok d) = Digit s i d
+DecimalSays s i (Err e) = (e.place ≡ i) × Edge s i
+
 -- ---- digits, streamed
 
 -- m is c × 10 ^ z; or d × 10 ^ z for a d that does not fit. Neither ends in 0, but for c = 0.
@@ -118,9 +125,9 @@ pushed a b =
     (cond a.over (acc_of 0 true 0) (cond (ltb v coefficient_limit) (acc_of v false 0) (acc_of 0 true 0)))
 
 -- a coefficient times a power of ten: it fits, or is too large to keep
-pub data Shifted (v : ℕ) : Coef → Type 0 where
-  fits : v < coefficient_limit → Shifted v (Fits v)
-  over : coefficient_limit ≤ v → Shifted v Over
+pub data Shifted (v : ℕ) : Option ℕ → Type 0 where
+  fits : v < coefficient_limit → Shifted v (Some v)
+  over : coefficient_limit ≤ v → Shifted v None
 
 -- the digits of s from i to j take the value m to w
 pub data Span (s : List ℕ) : ℕ → ℕ → ℕ → ℕ → Type 0 where
@@ -129,19 +136,19 @@ pub data Span (s : List ℕ) : ℕ → ℕ → ℕ → ℕ → Type 0 where
       → Span s i m (suc j) (dig w (get_or s j 0))
 
 -- the digits from a place on, whatever value the accumulator held before them
-pub record Digited (s : List ℕ) (from : ℕ) (a : Acc) (r : Run) : Type 0 where
-  pub low : from ≤ r.at
-  pub high : r.at ≤ length s
-  pub edge : Edge s r.at
-  pub zeros : r.acc.z ≤ r.at
-  pub holds : (m : ℕ) → Holds m a → (w : ℕ) × Span s from m r.at w × Holds w r.acc
+pub record Digited (s : List ℕ) (from : ℕ) (a : Acc) (r : Taken Acc) : Type 0 where
+  pub low : from ≤ r.end
+  pub high : r.end ≤ length s
+  pub edge : Edge s r.end
+  pub zeros : r.value.z ≤ r.end
+  pub holds : (m : ℕ) → Holds m a → (w : ℕ) × Span s from m r.end w × Holds w r.value
 
 -- the digits from a place on, after others with the value `had`: up to one that is none, or while they are sure to fit
-pub record PlainSays (s : List ℕ) (from had : ℕ) (r : Plain) : Type 0 where
-  pub low : from ≤ r.at
-  pub high : r.at ≤ length s
-  pub span : Span s from had r.at r.v
-  pub stop : Edge s r.at ⊎ (1844674407370955160 < r.v)
+pub record PlainSays (s : List ℕ) (from had : ℕ) (r : Taken ℕ) : Type 0 where
+  pub low : from ≤ r.end
+  pub high : r.end ≤ length s
+  pub span : Span s from had r.end r.value
+  pub stop : Edge s r.end ⊎ (1844674407370955160 < r.value)
 
 -- a number ends at this place: no digit, no point and no exponent follows
 pub record Ended (s : List ℕ) (at : ℕ) : Type 0 where
@@ -168,12 +175,12 @@ unfoldable pub raised_by : ℕ → ℕ → ℕ
 raised_by e b = cond (ltb e 1000000000) (10 * e + (b - ch "0")) e
 
 -- an exponent's digits
-pub record Powered (s : List ℕ) (from : ℕ) (r : Power) : Type 0 where
-  pub low : from ≤ r.at
-  pub high : r.at ≤ length s
-  pub edge : Edge s r.at
-  pub small : r.e < 10000000000
-  pub says : (w : ℕ) × Span s from 0 r.at w × Capped w r.e
+pub record Powered (s : List ℕ) (from : ℕ) (r : Taken ℕ) : Type 0 where
+  pub low : from ≤ r.end
+  pub high : r.end ≤ length s
+  pub edge : Edge s r.end
+  pub small : r.value < 10000000000
+  pub says : (w : ℕ) × Span s from 0 r.end w × Capped w r.value
 
 -- what a reader of the rest of a number is handed: f fraction digits before the place i
 pub record Ready (s : List ℕ) (a : Acc) (f i : ℕ) : Type 0 where
@@ -246,25 +253,28 @@ pub record AtDigit (s : List ℕ) (q : ℕ) : Type 0 where
   pub digit : IsDigit (get_or s q 0)
 
 -- what the digits begin, and where the scanner stands then
-abbrev pub LeadSays : List ℕ → ℕ → LeadOf.Lead → Type 0
-LeadSays s q (Lead.Number a at) = Ready s a 0 at × ((m : ℕ) × Holds m a × Onto s q S.begin at (S.int q false m))
-LeadSays s q (Lead.Hex at) = (at ≤ length s) × Onto s q S.begin at (S.hex_mark q false)
-LeadSays s q (Lead.Hour v at) = (at ≤ length s) × (v < 100) × Onto s q S.begin at (field q (S.minute S.alone v) 2 0)
-LeadSays s q (Lead.Year v at) = (at ≤ length s) × (v < 10000) × Onto s q S.begin at (field q (S.month v) 2 0)
-LeadSays s q (Lead.NotGrammar at) = Reads s q S.begin (Err (NotGrammar at))
+abbrev pub LeadSays : List ℕ → ℕ → Result LeadOf.Lead NotGrammarOf.NotGrammar → Type 0
+LeadSays s q (Ok (Lead.Number x)) =
+    Ready s x.value 0 x.end × ((m : ℕ) × Holds m x.value × Onto s q S.begin x.end (S.int q false m))
+LeadSays s q (Ok (Lead.Hex at)) = (at ≤ length s) × Onto s q S.begin at (S.hex_mark q false)
+LeadSays s q (Ok (Lead.Hour x)) =
+    (x.end ≤ length s) × (x.value < 100) × Onto s q S.begin x.end (field q (S.minute S.alone x.value) 2 0)
+LeadSays s q (Ok (Lead.Year x)) =
+    (x.end ≤ length s) × (x.value < 10000) × Onto s q S.begin x.end (field q (S.month x.value) 2 0)
+LeadSays s q (Err e) = Reads s q S.begin (Err (NotGrammar e.place))
 
 -- what the byte b after n digits, the first of which is d, makes of them
 pub data Marks (n d b : ℕ) : MarkOf.Mark → Type 0 where
   colon : n ≡ 2 → b ≡ ch ":" → Marks n d b Mark.Colon
   dash : n ≡ 4 → b ≡ ch "-" → Marks n d b Mark.Dash
-  letter : n ≡ 1 → d ≡ ch "0" → (b ≡ ch "x") ⊎ (b ≡ ch "X") → Marks n d b Mark.X
+  letter : n ≡ 1 → d ≡ ch "0" → (b ≡ ch "X") ⊎ (b ≡ ch "x") → Marks n d b Mark.X
   other : (n ≡ 2 → b ≡ ch ":" → ⊥) → (n ≡ 4 → b ≡ ch "-" → ⊥) → (n ≡ 1 → d ≡ ch "0" → b ≡ ch "x" → ⊥)
       → (n ≡ 1 → d ≡ ch "0" → b ≡ ch "X" → ⊥) → Marks n d b Mark.Other
 
 -- digits that are no time: a number, unless a 0 goes before others
-pub data Plainly (d n : ℕ) (x : Acc) (at : ℕ) : LeadOf.Lead → Type 0 where
-  number : (d ≡ ch "0" → n ≤ 1) → Plainly d n x at (Lead.Number x at)
-  nothing : d ≡ ch "0" → 1 < n → Plainly d n x at (Lead.NotGrammar at)
+pub data Plainly (d n : ℕ) (x : Acc) (at : ℕ) : Result LeadOf.Lead NotGrammarOf.NotGrammar → Type 0 where
+  number : (d ≡ ch "0" → n ≤ 1) → Plainly d n x at (Ok (Lead.Number (taken x at)))
+  nothing : d ≡ ch "0" → 1 < n → Plainly d n x at (Err (record { place = at }))
 
 -- ---- time fields
 

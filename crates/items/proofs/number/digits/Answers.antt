@@ -1,59 +1,42 @@
 use mathlib.Core.Path.{refl}
 use native.Mathlib.Omega.{arith}
 use Rattle.items.specs.Between.NumberOrTime.{Span, Edge}
+use Rattle.items.proofs.NumberOrTimeLaws.{no_digit_there}
 use Rattle.items.proofs.NumberDigitLaws.{loop_next}
+use mathlib.Core.Path.{◌≡◌}
+use lib.ListN.{length}
 use Rattle.items.proofs.number.digits.Goals as goal
 
 pub loop-i-init : goal.loop-i-init
-loop-i-init c = (omega arith, omega arith, omega arith, λ m h. (m, Span.here, h))
+loop-i-init c = (c.requires.zeros, λ m h. (m, Span.here, h))
 
-pub bounds-s-i : goal.bounds-s-i
-bounds-s-i c = omega arith
-
-pub returns-then-b-lt48 : goal.returns-then-b-lt48
-returns-then-b-lt48 c = record {
-  low = c.loop-i.invariant.1;
-  high = c.loop-i.invariant.0;
-  edge = Edge.under c.if-b-lt48.true;
-  zeros = c.loop-i.invariant.2;
-  holds = c.loop-i.invariant.3;
-}
-
-pub returns-then-b-gt57 : goal.returns-then-b-gt57
-returns-then-b-gt57 c = record {
-  low = c.loop-i.invariant.1;
-  high = c.loop-i.invariant.0;
-  edge = Edge.past c.if-b-gt57.true;
-  zeros = c.loop-i.invariant.2;
-  holds = c.loop-i.invariant.3;
+pub returns-then-not-is_ascii_digit : goal.returns-then-not-is_ascii_digit
+returns-then-not-is_ascii_digit c = record {
+  low = omega arith;
+  high = omega arith;
+  edge = no_digit_there c.if-not-is_ascii_digit.ensures.cases;
+  zeros = c.loop-i.invariant.0;
+  holds = c.loop-i.invariant.1;
 }
 
 pub push-x-requires : goal.push-x-requires
-push-x-requires c = (omega arith, omega (arith, c.requires))
-
-pub overflow_add-i : goal.overflow_add-i
-overflow_add-i c = omega (arith, c.requires)
-
-pub loop-i-smaller : goal.loop-i-smaller
-loop-i-smaller c = omega arith
+push-x-requires c = let d = c.if-not-is_ascii_digit.ensures.cases in (omega arith, omega (arith, c.requires))
 
 pub loop-i-preserved : goal.loop-i-preserved
 loop-i-preserved c = (
-  omega arith,
-  omega arith,
   omega (arith, c.push-x.ensures.within),
   loop_next
       c.args.s.now c.args.from
       c.args.a c.loop-i.x c.push-x.result
-      c.loop-i.i _ refl c.loop-i.invariant.3
-      c.loop-i-test.true (omega arith) (omega arith) c.push-x.ensures.holds,
+      c.loop-i.i _ refl c.loop-i.invariant.1
+      c.loop-i-test.true c.if-not-is_ascii_digit.ensures.cases.0 c.if-not-is_ascii_digit.ensures.cases.1 c.push-x.ensures.holds,
 )
 
 pub returns : goal.returns
 returns c = record {
-  low = c.loop-i.invariant.1;
-  high = c.loop-i.invariant.0;
+  low = omega arith;
+  high = omega arith;
   edge = Edge.ends (omega arith);
-  zeros = c.loop-i.invariant.2;
-  holds = c.loop-i.invariant.3;
+  zeros = let e : length c.args.s.now ≡ c.loop-i.i = omega arith in rw e c.loop-i.invariant.0;
+  holds = let e : length c.args.s.now ≡ c.loop-i.i = omega arith in rw e c.loop-i.invariant.1;
 }

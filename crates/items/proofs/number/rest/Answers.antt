@@ -44,7 +44,7 @@ plain_digits-w-requires c = let h : c.args.at < length c.args.s.now =
 pub settle-requires-then-ends-2 : goal.settle-requires-then-ends-2
 settle-requires-then-ends-2 c = let z =
     c.held-then-ends-2.ensures.small (c.args.at +
-    (c.plain_digits-w.result.at - (c.args.at + 1)))
+    (c.plain_digits-w.result.end - (c.args.at + 1)))
     (span_small c.args.at c.plain_digits-w.ensures.span
     c.requires.1) in (
       omega (arith, z, c.plain_digits-w.ensures.low, c.plain_digits-w.ensures.high, c.requires.0.short),
@@ -64,7 +64,7 @@ returns-then-ends-2 c = let h : c.args.at < length
     c.args.v
     c.args.at c.plain_digits-w.result
     c.settle-then-ends-2.result h c.if-s-at-ne46.false c.plain_digits-w.ensures
-    c.held-then-ends-2.ensures.holds (subst (λ (b : Bool). EndsSays c.args.s.now c.plain_digits-w.result.at b) c.if-ends-2.true c.ends-2.ensures)
+    c.held-then-ends-2.ensures.holds (subst (λ (b : Bool). EndsSays c.args.s.now c.plain_digits-w.result.end b) c.if-ends-2.true c.ends-2.ensures)
     c.settle-then-ends-2.ensures
 
 pub decimal-requires-2 : goal.decimal-requires-2

@@ -7,24 +7,14 @@ use Rattle.items.proofs.number.shift.Goals as goal
 pub returns-then-c-eq0 : goal.returns-then-c-eq0
 returns-then-c-eq0 c = none_shifted _ _ c.if-c-eq0.true
 
-pub loop-i-init : goal.loop-i-init
-loop-i-init c = (omega arith, sym (mul-one _), c.ranges.c.fits)
+pub loop-init : goal.loop-init
+loop-init c = (sym (mul-one _), c.ranges.c.fits)
 
-pub returns-then-v-gt-TENTH : goal.returns-then-v-gt-TENTH
-returns-then-v-gt-TENTH c = over_shifted _ _ c.loop-i.i c.loop-i.v c.loop-i-test.true c.loop-i.invariant.1
-    c.if-v-gt-TENTH.true
+pub returns-in_err-v : goal.returns-in_err-v
+returns-in_err-v c = rw c.from_residual.ensures (over_shifted _ _ c.loop.counter c.loop.v c.loop-test.true c.loop.invariant.0 c.in_err-v.ensures)
 
-pub overflow_mul-v : goal.overflow_mul-v
-overflow_mul-v c = omega arith
-
-pub overflow_add-i : goal.overflow_add-i
-overflow_add-i c = omega arith
-
-pub loop-i-smaller : goal.loop-i-smaller
-loop-i-smaller c = omega arith
-
-pub loop-i-preserved : goal.loop-i-preserved
-loop-i-preserved c = (omega arith, omega (arith, tenfold c.args.c c.loop-i.i), omega arith)
+pub loop-preserved : goal.loop-preserved
+loop-preserved c = let o = c.in_ok-v.ensures in (omega (arith, o.0, o.1, tenfold c.args.c c.loop.counter), omega (arith, o.0, o.1))
 
 pub returns : goal.returns
-returns c = all_shifted _ _ c.loop-i.i c.loop-i.v (omega arith) c.loop-i.invariant.1 c.loop-i.invariant.2
+returns c = all_shifted _ _ c.loop.counter c.loop.v (omega arith) c.loop.invariant.0 c.loop.invariant.1

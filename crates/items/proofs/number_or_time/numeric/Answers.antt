@@ -1,29 +1,34 @@
 -- Each byte that may begin a number or a time value, and every other. Assumes nothing.
 use native.Mathlib.Omega.{arith}
-use Rattle.items.specs.Between.NumberOrTime.{Edge}
 use Rattle.items.proofs.NumberOrTimeAnswerLaws.{numeric_says}
 use Rattle.items.proofs.NumberOrTimeFirstLaws.{begin_plus, begin_minus, begin_other}
+use Rattle.items.specs.Between.NumberOrTime.{Edge}
 use Rattle.items.proofs.number_or_time.numeric.Goals as goal
+use Rattle.items.proofs.number_or_time.numeric.Goals.{in_default-via-then-this-lt48, in_default-via-else-this-lt48+else-this-lt58}
 
-pub returns-then-b-eq43 : goal.returns-then-b-eq43
-returns-then-b-eq43 c = numeric_says _ _ (omega arith) _ (begin_plus _ _ (omega arith) _ c.if-b-eq43.true c.signed.ensures)
+pub returns-in-43 : goal.returns-in-43
+returns-in-43 c = numeric_says _ _ (omega arith) _ (begin_plus _ _ (omega arith) _ c.in-43.is c.signed.ensures)
 
-pub returns-then-b-eq45 : goal.returns-then-b-eq45
-returns-then-b-eq45 c = numeric_says _ _ (omega arith) _ (begin_minus _ _ (omega arith) _ c.if-b-eq45.true c.signed-then-b-eq45.ensures)
+pub returns-in-45 : goal.returns-in-45
+returns-in-45 c = numeric_says _ _ (omega arith) _ (begin_minus _ _ (omega arith) _ c.in-45.is c.signed-in-45.ensures)
+
+pub returns-in-48-to-57 : goal.returns-in-48-to-57
+returns-in-48-to-57 c = numeric_says _ _ (omega arith) _ c.unsigned.ensures
 
 pub undigited-requires : goal.undigited-requires
-undigited-requires c = (omega arith, omega arith, Edge.under c.if-b-lt48.true)
+undigited-requires c = (
+  omega arith,
+  omega arith,
+  elim c.in_default.branch [
+    | in_default-via-then-this-lt48 w ↦ Edge.under (omega arith)
+    | in_default-via-else-this-lt48+else-this-lt58 w ↦ Edge.past (omega arith)
+  ],
+)
 
-pub returns-then-b-lt48 : goal.returns-then-b-lt48
-returns-then-b-lt48 c = numeric_says _ _ (omega arith) _ (begin_other _ _ (omega arith) _ (Edge.under c.if-b-lt48.true) c.if-b-eq43.false
-    c.if-b-eq45.false c.undigited.ensures)
-
-pub undigited-requires-then-b-gt57 : goal.undigited-requires-then-b-gt57
-undigited-requires-then-b-gt57 c = (omega arith, omega arith, Edge.past c.if-b-gt57.true)
-
-pub returns-then-b-gt57 : goal.returns-then-b-gt57
-returns-then-b-gt57 c = numeric_says _ _ (omega arith) _ (begin_other _ _ (omega arith) _ (Edge.past c.if-b-gt57.true)
-    c.if-b-eq43.false c.if-b-eq45.false c.undigited-then-b-gt57.ensures)
-
-pub returns : goal.returns
-returns c = numeric_says _ _ (omega arith) _ c.unsigned.ensures
+pub returns-in_default : goal.returns-in_default
+returns-in_default c = numeric_says _ _ (omega arith) _ (begin_other _ _ (omega arith) _
+    (elim c.in_default.branch [
+      | in_default-via-then-this-lt48 w ↦ Edge.under (omega arith)
+      | in_default-via-else-this-lt48+else-this-lt58 w ↦ Edge.past
+          (omega arith)
+    ]) (λ e. omega arith) (λ e. omega arith) c.undigited.ensures)

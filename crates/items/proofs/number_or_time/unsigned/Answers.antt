@@ -15,7 +15,7 @@ rest-requires c = (
       c.args.q c.if-s-q-eq48.false c.plain_digits-w.result
       c.plain_digits-w.ensures c.requires.digit
       c.requires.within (subst (λ (b : Bool).
-      TimelySays c.args.s.now c.plain_digits-w.result.at b) c.if-timely.false
+      TimelySays c.args.s.now c.plain_digits-w.result.end b) c.if-timely.false
       c.timely.ensures),
 )
 
@@ -25,4 +25,4 @@ returns c = plain_leads c.args.s.now
     c.plain_digits-w.result c.plain_digits-w.ensures
     c.requires.digit c.requires.within
     (subst (λ (b : Bool). TimelySays c.args.s.now
-    c.plain_digits-w.result.at b) c.if-timely.false c.timely.ensures) _ c.rest.ensures
+    c.plain_digits-w.result.end b) c.if-timely.false c.timely.ensures) _ c.rest.ensures
