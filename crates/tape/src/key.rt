@@ -94,10 +94,8 @@ fn closed(seen: &mut [u32], ends: &[usize], count: usize, index: usize) -> usize
         }
         if end % 2 == 1 {
             once::closed(seen);
-            depth -= 1;
-        } else {
-            depth -= 1;
         }
+        depth -= 1;
     }
     0
 }
@@ -118,27 +116,27 @@ fn step(
 {
     let w = four_words::words_at(tape, index * RECORD_SIZE);
     let high = w.high as usize;
-    if w.mark == four_words::KY {
-        if in_object(ends, depth) {
+    match w.mark {
+        four_words::KY if in_object(ends, depth) => {
             let end = high + w.mid as usize;
             note(tape, store, index, from, &store[high..end], seen);
-            return depth;
+            depth
         }
-        return depth;
+        four_words::OB => {
+            once::opened(seen);
+            ends[depth] = 2 * high + 1;
+            depth + 1
+        }
+        four_words::AR => {
+            ends[depth] = 2 * high;
+            depth + 1
+        }
+        _ => depth,
     }
-    if w.mark == four_words::OB {
-        once::opened(seen);
-        ends[depth] = 2 * high + 1;
-        return depth + 1;
-    }
-    if w.mark == four_words::AR {
-        ends[depth] = 2 * high;
-        return depth + 1;
-    }
-    depth
 }
 
-// One pass over the records below the bound.
+// One pass over the records below the bound. What ends at the bound is closed too: a `for` over the records would close it behind
+// the loop, and the call of `closed` would no longer be the only one.
 fn pass(tape: &[u8], store: &[u8], bound: usize, from: usize, seen: &mut [u32])
     requires { Standing tape.now store.now bound × Empty tape.now store.now from seen.old }
     ensures { Passed tape.now store.now bound from seen.new }

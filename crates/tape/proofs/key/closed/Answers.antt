@@ -1,6 +1,7 @@
 use native.Mathlib.Omega.{arith}
 use Rattle.tape.proofs.KeyWalkLaws.{closing_none, closing_sane, closing_room, closing_object, closing_array, closing_all}
 use Rattle.tape.proofs.key.closed.Goals as goal
+use Rattle.tape.proofs.key.closed.Goals.{then-end-eq1, else-end-eq1}
 
 pub loop-depth-init : goal.loop-depth-init
 loop-depth-init c = closing_none _ _ _ _
@@ -27,23 +28,14 @@ closed-requires c = closing_sane c.loop-depth.invariant
 pub overflow_sub-depth : goal.overflow_sub-depth
 overflow_sub-depth c = omega arith
 
-pub loop-depth-smaller-then-end-eq1 : goal.loop-depth-smaller-then-end-eq1
-loop-depth-smaller-then-end-eq1 c = omega arith
-
-pub loop-depth-preserved-then-end-eq1 : goal.loop-depth-preserved-then-end-eq1
-loop-depth-preserved-then-end-eq1 c = closing_object c.loop-depth.invariant
-    c.loop-depth-test.true c.if-end-index.false
-    c.if-end-eq1.true _ c.closed.ensures
-
-pub overflow_sub-depth-else-end-eq1 : goal.overflow_sub-depth-else-end-eq1
-overflow_sub-depth-else-end-eq1 c = omega arith
-
 pub loop-depth-smaller : goal.loop-depth-smaller
 loop-depth-smaller c = omega arith
 
 pub loop-depth-preserved : goal.loop-depth-preserved
-loop-depth-preserved c = closing_array c.loop-depth.invariant c.loop-depth-test.true c.if-end-index.false
-    c.if-end-eq1.false
+loop-depth-preserved c = elim c.if-end-eq1.branch [
+  | then-end-eq1 w ↦ rw w.seen-is (closing_object c.loop-depth.invariant c.loop-depth-test.true c.if-end-index.false w.if-end-eq1.true _ w.closed.ensures)
+  | else-end-eq1 w ↦ rw w.seen-is (closing_array c.loop-depth.invariant c.loop-depth-test.true c.if-end-index.false w.if-end-eq1.false)
+]
 
 pub shape_of-seen : goal.shape_of-seen
 shape_of-seen c = c.loop-depth.invariant.same_length

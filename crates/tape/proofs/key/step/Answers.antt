@@ -13,7 +13,7 @@ pub overflow_add-end : goal.overflow_add-end
 overflow_add-end c = omega (
   arith,
   key_inside (key_there c.requires.1
-      c.words_at-w.ensures c.if-w-eq-KY.true)
+      c.words_at-w.ensures c.in-31083.is)
       c.words_at-w.ensures,
 )
 
@@ -21,7 +21,7 @@ pub slice_bounds-note-end : goal.slice_bounds-note-end
 slice_bounds-note-end c = omega (
   arith,
   key_inside (key_there c.requires.1
-      c.words_at-w.ensures c.if-w-eq-KY.true)
+      c.words_at-w.ensures c.in-31083.is)
       c.words_at-w.ensures,
 )
 
@@ -29,19 +29,19 @@ pub note-requires : goal.note-requires
 note-requires c = (
   _,
   key_comes c.requires.1
-      c.words_at-w.ensures c.if-w-eq-KY.true
+      c.words_at-w.ensures c.in-31083.is
       (ready_inside c.requires.1
       c.in_object.ensures c.if-in_object.true),
 )
 
-pub returns-then-in_object : goal.returns-then-in_object
-returns-then-in_object c = λ bound h. walk_key h c.words_at-w.ensures
-    c.if-w-eq-KY.true
+pub returns-in-31083 : goal.returns-in-31083
+returns-in-31083 c = λ bound h. walk_key h c.words_at-w.ensures
+    c.in-31083.is
     (ready_inside h c.in_object.ensures c.if-in_object.true) _
     c.note.ensures
 
-pub returns-then-w-eq-KY : goal.returns-then-w-eq-KY
-returns-then-w-eq-KY c = λ bound h. walk_no_key h c.words_at-w.ensures c.if-w-eq-KY.true
+pub returns-in_default : goal.returns-in_default
+returns-in_default c = λ bound h. walk_no_key h c.words_at-w.ensures c.in-31083.is
     (ready_inside h c.in_object.ensures c.if-in_object.false)
 
 pub opened-requires : goal.opened-requires
@@ -51,45 +51,44 @@ pub overflow_mul-ends : goal.overflow_mul-ends
 overflow_mul-ends c = omega (
   arith,
   object_room c.requires.1
-      c.words_at-w.ensures c.if-w-eq-OB.true,
+      c.words_at-w.ensures c.in-25199.is,
 )
 
 pub overflow_add-ends : goal.overflow_add-ends
 overflow_add-ends c = omega (
   arith,
   object_room c.requires.1
-      c.words_at-w.ensures c.if-w-eq-OB.true,
+      c.words_at-w.ensures c.in-25199.is,
 )
 
 pub bounds-ends-depth : goal.bounds-ends-depth
 bounds-ends-depth c = omega (
   arith,
-  object_room c.requires.1 c.words_at-w.ensures c.if-w-eq-OB.true,
+  object_room c.requires.1 c.words_at-w.ensures c.in-25199.is,
   c.requires.1.walks.1.long,
 )
 
-pub returns-then-w-eq-OB : goal.returns-then-w-eq-OB
-returns-then-w-eq-OB c = λ bound h. walk_object h c.words_at-w.ensures
-    c.if-w-eq-OB.true _ c.opened.ensures
+pub returns-in-25199 : goal.returns-in-25199
+returns-in-25199 c = λ bound h. walk_object h c.words_at-w.ensures
+    c.in-25199.is _ c.opened.ensures
 
-pub overflow_mul-ends-then-w-eq-AR : goal.overflow_mul-ends-then-w-eq-AR
-overflow_mul-ends-then-w-eq-AR c = omega (
+pub overflow_mul-ends-in-29281 : goal.overflow_mul-ends-in-29281
+overflow_mul-ends-in-29281 c = omega (
   arith,
   array_room c.requires.1
-      c.words_at-w.ensures c.if-w-eq-AR.true,
+      c.words_at-w.ensures c.in-29281.is,
 )
 
-pub bounds-ends-depth-then-w-eq-AR : goal.bounds-ends-depth-then-w-eq-AR
-bounds-ends-depth-then-w-eq-AR c = omega (
+pub bounds-ends-depth-in-29281 : goal.bounds-ends-depth-in-29281
+bounds-ends-depth-in-29281 c = omega (
   arith,
   array_room c.requires.1
-      c.words_at-w.ensures c.if-w-eq-AR.true,
+      c.words_at-w.ensures c.in-29281.is,
   c.requires.1.walks.1.long,
 )
 
-pub returns-then-w-eq-AR : goal.returns-then-w-eq-AR
-returns-then-w-eq-AR c = λ bound h. walk_array h c.words_at-w.ensures c.if-w-eq-AR.true
+pub returns-in-29281 : goal.returns-in-29281
+returns-in-29281 c = λ bound h. walk_array h c.words_at-w.ensures c.in-29281.is
 
-pub returns : goal.returns
-returns c = λ bound h. walk_idle h c.words_at-w.ensures c.if-w-eq-KY.false
-    c.if-w-eq-AR.false c.if-w-eq-OB.false
+pub returns-in_default-2 : goal.returns-in_default-2
+returns-in_default-2 c = λ bound h. walk_idle h c.words_at-w.ensures (λ q. omega arith) (λ q. omega arith) (λ q. omega arith)
