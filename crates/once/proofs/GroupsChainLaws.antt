@@ -11,7 +11,7 @@ use borrow.Author.Tests.{eqb-true, eqb-false}
 use Rattle.std.specs.Prelude.{Option, Some, None}
 use Rattle.once.specs.Table.{Slot, room, newest_of, Table}
 use Rattle.once.specs.Groups.{flat, base_of, State, Holds, Sane, Owns, own, AboveMark, At, Next, Newest, Stands, Earlier, Placed, Tagged}
-use Rattle.once.proofs.GroupsLaws.{slot_at, table_fits, held, Owned, owned_is, no_table}
+use Rattle.once.proofs.GroupsLaws.{slot_at, table_fits, held, Owned, owned_is}
 
 pub head_of : {x y : Slot} {a b : List Slot} → x ∷ a ≡ y ∷ b → x ≡ y
 head_of e = cc
@@ -214,9 +214,6 @@ newest_it seen tag head n m e f o {r} w = ((λ y. absurd (omega arith)), λ s h.
         next_newest s (owned_is s (sym (o s h))) (room seen) tag (get_or seen head 0) r t.some
         (ap (λ (q : ℕ). get_or seen q 0) z ∙ t.heads (tag % room seen) (mod-lt tag t.some)) (rw h.base at w)
 
-pub newest_short : (seen : List ℕ) (tag : ℕ) → length seen < 12 → Newest seen tag None
-newest_short seen tag l = ((λ y. refl), λ s h. absurd (no_table seen s l h))
-
 pub newest_other : (seen : List ℕ) (tag : ℕ) → Owns seen false → Newest seen tag None
 newest_other seen tag o = ((λ y. refl), λ s h. next_none s (room seen) (tag % room seen) (length (flat s.groups)) (sym (o s h)))
 
@@ -238,11 +235,3 @@ tag_is seen j here e s h x t = ap (λ (q : ℕ). get_or seen q 0) (let i : here 
 
 pub stands_fits : (seen : List ℕ) (j : ℕ) → Stands seen j → (0 < j) × (12 + 4 * (j - 1) ≤ length seen) × (length seen < 2 ^ 32)
 stands_fits seen j w = let k = key_slot seen w.0 w.1.0 j w.1.1.0 w.1.1.1 in (k.3, k.4, k.5)
-
--- ---- from one slot of a chain to the next
-
-pub newest_stands : (seen : List ℕ) (tag : ℕ) (r : Option ℕ) (i : ℕ) → 12 ≤ length seen → Sane seen → Newest seen tag r → r ≡ Some i → Stands seen i
-newest_stands seen tag r i l w n e = let h = held seen l w in let q = (n.1 h.0 h.1).is i e in (h.0, (h.1, (q.0, q.1.0)))
-
-pub earlier_stands : (seen : List ℕ) (j : ℕ) (r : Option ℕ) (i : ℕ) → Stands seen j → Earlier seen j r → r ≡ Some i → Stands seen i
-earlier_stands seen j r i (s, (h, (x, a))) e f = let q = (e s h x a).is i f in (s, (h, (q.0, q.1.0)))

@@ -1,6 +1,6 @@
 -- The header, the slots of groups, and what each call does to them. Assumes nothing.
 use mathlib.Core.Path.{◌≡◌, refl, sym, ap, ap₂, ◌∙◌, subst}
-use mathlib.Core.Bool.{Bool, true, false, cond, not}
+use mathlib.Core.Bool.{Bool, true, false, cond}
 use mathlib.Core.Logic.{inl, inr}
 use mathlib.Core.List.{List, [], ◌∷◌, ◌++◌, append_assoc}
 use Prim.Native.Nat.{ℕ, suc, ◌+◌, ◌*◌, ◌-◌, ◌%◌, ◌<◌, ◌≤◌, ◌^◌}
@@ -293,26 +293,5 @@ upper_does seen = (
   },
 )
 
-pub upper_none : (seen : List ℕ) → get_or seen 2 0 ≤ 0 → Does upper seen seen
-unfolding upper
-upper_none seen z = (
-  refl,
-  λ s h. record {
-    table = h.table;
-    base = h.base;
-    from = h.from;
-    twice = h.twice;
-    stop = h.stop;
-    depth = let y : get_or seen 2 0 ≡ get_or seen 2 0 - 1 = omega arith in y ∙ ap (λ (x : ℕ). x - 1) h.depth;
-  },
-)
-
 pub then_does : (f g : State → State) (a b c : List ℕ) → Does f a b → Does g b c → Does (λ s. g (f s)) a c
 then_does f g a b c p q = (q.0 ∙ p.0, λ s h. q.1 (f s) (p.1 s h))
-
-pub owns_as : (seen : List ℕ) (r b : Bool) → r ≡ b → Owns seen r → Owns seen b
-owns_as seen r b e h = subst (λ (x : Bool). Owns seen x) e h
-
-pub owns_not : (seen : List ℕ) (r b : Bool) → not r ≡ b → Owns seen r → Owns seen (not b)
-owns_not seen true b e h = subst (λ (x : Bool). Owns seen (not x)) e h
-owns_not seen false b e h = subst (λ (x : Bool). Owns seen (not x)) e h

@@ -4,10 +4,9 @@ use mathlib.Core.Bool.{Bool, true, false, cond}
 use mathlib.Core.List.{List, [], ◌∷◌}
 use Prim.Native.Nat.{ℕ, zero, suc, ◌+◌, ◌*◌, ◌-◌, ◌/◌, ◌<◌, ◌≤◌, ◌^◌}
 use native.Mathlib.Omega.{arith}
-use lib.Dec.{eqb}
 use lib.ListN.{length, get_or, set, length-set, replicate, length-replicate}
 use lib.Seq.{get_or-set_same}
-use borrow.Author.Tests.{eqb-true, eqb-false, le-leb, eq-eqb, ne_eqb, lt-leb}
+use borrow.Author.Tests.{le-leb, eq-eqb, ne_eqb, lt-leb}
 use Rattle.once.specs.Table.{Slot, room, newest_of, Table, Pushes, Roomy}
 use Rattle.once.specs.Groups.{Group, flat, base_of, State, Holds, Sane, Does, Begun, start, Owns, own, add, need, taken_in, stopped_at, taken}
 use Rattle.once.specs.Groups.{noticed, marked, naming, Crowds, Names}
@@ -182,9 +181,6 @@ need_some d gs = go (own d gs)
     go true = omega arith
     go false = omega arith
 
-pub crowds_not : (seen : List ℕ) → Crowds seen false
-crowds_not seen e = absurd (let z : ◌≡◌ {A = ℕ} 0 1 = cc in omega arith)
-
 -- two slots are taken, so that a table of two would be full
 crowd_does : (seen : List ℕ) (x : Slot) → Crowds seen true → Does (taken 2 x) seen (set seen 5 x.0)
 crowd_does seen x w = let y = w refl in (
@@ -205,115 +201,47 @@ names_taken again x a b c p q = (room a, (inl refl, naming_does again x a b c p 
 
 -- ---- an empty table
 
-pub record Clearing (before seen : List ℕ) (from i : ℕ) : Type 0 where
-  pub len : length seen ≡ length before
-  pub top : get_or seen 0 0 ≡ 0
-  pub base : get_or seen 1 0 ≡ 0
-  pub depth : get_or seen 2 0 ≡ 0
-  pub since : get_or seen 3 0 ≡ from
-  pub twice : get_or seen 4 0 ≡ 0
-  pub stop : get_or seen 5 0 ≡ 0
-  pub heads : (h : ℕ) → h < i → get_or seen (11 + 4 * h) 0 ≡ 0
-
-abbrev pub headed : List ℕ → ℕ → List ℕ
-headed s from = set (set (set (set (set (set s 0 0) 1 0) 2 0) 3 from) 4 0) 5 0
-
-pub clear_begin : (s : List ℕ) (from : ℕ) → 12 ≤ length s → Clearing (headed s from) (headed s from) from 0
-clear_begin s from l =
-    let a = set s 0 0 in
-    let b = set (set s 0 0) 1 0 in
-    let c = set (set (set s 0 0) 1 0) 2 0 in
-    let d = set (set (set (set s 0 0) 1 0) 2 0) 3 from in
-    let e = set (set (set (set (set s 0 0) 1 0) 2 0) 3 from) 4 0 in
-    let n1 = length-set s 0 0 in
-    let n2 = length-set a 1 0 in
-    let n3 = length-set b 2 0 in
-    let n4 = length-set c 3 from in
-    let n5 = length-set d 4 0 in
-    record {
-      len = refl;
-      top = past e 5 0 0 (λ y. omega arith) ∙ past d 4 0 0 (λ y. omega arith) ∙ past c 3 0 from (λ y. omega arith) ∙ past b 2 0 0 (λ y. omega arith)
-          ∙ past a 1 0 0 (λ y. omega arith) ∙ get_or-set_same s 0 0 0 (omega arith);
-      base = past e 5 1 0 (λ y. omega arith) ∙ past d 4 1 0 (λ y. omega arith) ∙ past c 3 1 from (λ y. omega arith) ∙ past b 2 1 0 (λ y. omega arith)
-          ∙ get_or-set_same a 1 0 0 (omega (arith, n1));
-      depth = past e 5 2 0 (λ y. omega arith) ∙ past d 4 2 0 (λ y. omega arith) ∙ past c 3 2 from (λ y. omega arith)
-          ∙ get_or-set_same b 2 0 0 (omega (arith, n1, n2));
-      since = past e 5 3 0 (λ y. omega arith) ∙ past d 4 3 0 (λ y. omega arith) ∙ get_or-set_same c 3 from 0 (omega (arith, n1, n2, n3));
-      twice = past e 5 4 0 (λ y. omega arith) ∙ get_or-set_same d 4 0 0 (omega (arith, n1, n2, n3, n4));
-      stop = get_or-set_same e 5 0 0 (omega (arith, n1, n2, n3, n4, n5));
-      heads = λ h q. absurd (omega arith);
-    }
-
-less : (h i : ℕ) → h < i + 1 → (h ≡ i → ⊥) → h < i
-less h i q n = omega arith
-
-pub clear_on : (before seen : List ℕ) (from i : ℕ) → Clearing before seen from i → 11 + 4 * i < length seen
-    → Clearing before (set seen (11 + 4 * i) 0) from (i + 1)
-clear_on before seen from i c l = record {
-  len = length-set seen (11 + 4 * i) 0 ∙ c.len;
-  top = past seen (11 + 4 * i) 0 0 (λ y. omega arith) ∙ c.top;
-  base = past seen (11 + 4 * i) 1 0 (λ y. omega arith) ∙ c.base;
-  depth = past seen (11 + 4 * i) 2 0 (λ y. omega arith) ∙ c.depth;
-  since = past seen (11 + 4 * i) 3 0 (λ y. omega arith) ∙ c.since;
-  twice = past seen (11 + 4 * i) 4 0 (λ y. omega arith) ∙ c.twice;
-  stop = past seen (11 + 4 * i) 5 0 (λ y. omega arith) ∙ c.stop;
-  heads = λ h q. go h q (eqb h i) refl;
-}
-  where
-    go : (h : ℕ) → h < i + 1 → (t : Bool) → eqb h i ≡ t → get_or (set seen (11 + 4 * i) 0) (11 + 4 * h) 0 ≡ 0
-    go h q true e = let z = eqb-true h i e in ap (λ (y : ℕ). get_or (set seen (11 + 4 * i) 0) (11 + 4 * y) 0) z ∙ get_or-set_same seen (11 + 4 * i) 0 0 l
-    go h q false e = past seen (11 + 4 * i) (11 + 4 * h) 0 (λ y. eqb-false h i e (omega arith)) ∙ c.heads h (less h i q (λ y. eqb-false h i e y))
-
-pub clear_done : (before seen : List ℕ) (from i n : ℕ) → Clearing before seen from i → 12 ≤ length before → length before < 2 ^ 32 → n ≡ room before → n ≤ i
-    → Holds seen (start from)
-unfolding start flat base_of newest_of
-clear_done before seen from i n c l m e p = record {
-  table = record {
-    some = omega (arith, c.len);
-    size = refl;
-    short = omega (arith, c.len);
-    top = c.top;
-    few = omega arith;
-    slots = tt;
-    heads = λ h q. c.heads h (omega (arith, c.len));
-  };
-  base = c.base;
-  depth = c.depth;
-  from = c.since;
-  twice = c.twice;
-  stop = c.stop;
-}
-
-pub headed_length : (s : List ℕ) (from : ℕ) → length (headed s from) ≡ length s
-headed_length s from = simp length-set
-
-pub clear_all : (s seen : List ℕ) (from i n : ℕ) → Clearing (headed s from) seen from i → 12 ≤ length s → length s < 2 ^ 32 → n ≡ room s → n ≤ i
-    → Begun from s seen
-clear_all s seen from i n c l m e p =
-    let z = headed_length s from in
-    (c.len ∙ z, λ q. clear_done (headed s from) seen from i n c (omega arith) (omega arith) (e ∙ ap (λ (y : ℕ). (y - 8) / 4) (sym z)) p)
-
--- ---- a table of zeroes is an empty one
-
-abbrev zeroes : ℕ → List ℕ
-zeroes n = replicate n 0
-
-zero_at : (n i : ℕ) → get_or (zeroes n) i 0 ≡ 0
+-- a table of zeroes is one
+zero_at : (n i : ℕ) → get_or (replicate {A = ℕ} n 0) i 0 ≡ 0
 zero_at zero i = refl
 zero_at (suc n) zero = refl
 zero_at (suc n) (suc i) = zero_at n i
 
 pub zeroes_hold : (n : ℕ) → 12 ≤ n → n < 2 ^ 32 → Holds (replicate n 0) (start 0)
+unfolding start flat base_of newest_of
 zeroes_hold n l m =
-    clear_done (zeroes n) (zeroes n) 0 (room (zeroes n)) (room (zeroes n))
-    (record {
-      len = refl;
-      top = zero_at n 0;
+    let e = length-replicate {A = ℕ} n 0 in
+    record {
+      table = record {
+        some = omega arith;
+        size = refl;
+        short = omega arith;
+        top = zero_at n 0;
+        few = omega arith;
+        slots = tt;
+        heads = λ h q. zero_at n (11 + 4 * h);
+      };
       base = zero_at n 1;
       depth = zero_at n 2;
-      since = zero_at n 3;
+      from = zero_at n 3;
       twice = zero_at n 4;
       stop = zero_at n 5;
-      heads = λ h q. zero_at n (11 + 4 * h);
-    })
-    (omega (arith, length-replicate {A = ℕ} n 0)) (omega (arith, length-replicate {A = ℕ} n 0)) refl (omega arith)
+    }
+
+-- and then where keys are taken in from
+from_holds : (seen : List ℕ) (from : ℕ) → Holds seen (start 0) → Holds (set seen 3 from) (start from)
+unfolding start flat
+from_holds seen from h = record {
+  table = header_table seen [] 3 from (omega arith) (omega arith) h.table;
+  base = past seen 3 1 from (λ y. omega arith) ∙ h.base;
+  depth = past seen 3 2 from (λ y. omega arith) ∙ h.depth;
+  from = get_or-set_same seen 3 from 0 (omega (arith, long h.table));
+  twice = past seen 3 4 from (λ y. omega arith) ∙ h.twice;
+  stop = past seen 3 5 from (λ y. omega arith) ∙ h.stop;
+}
+
+pub begin_does : (before seen : List ℕ) (from : ℕ) → seen ≡ replicate (length before) 0 → 12 ≤ length before → length before < 2 ^ 32
+    → Begun from before (set seen 3 from)
+begin_does before seen from e l m =
+    let n = length-replicate {A = ℕ} (length before) 0 in
+    (length-set seen 3 from ∙ ap length e ∙ n, λ q. from_holds seen from (rw e (zeroes_hold (length before) l m)))

@@ -1,10 +1,8 @@
 // The keys of the open objects, in a lent table of numbers: a stack of slots, each a place and a tag, with a chain for each
 // bucket of tags. An object that has a key in it is a group of slots, under a mark. A list of fewer than 12 numbers is no
 // table: nothing is kept in it, and nothing found.
-// The first eight numbers are a header: 0 how many slots are taken, 1 one more than how many are below the innermost mark (0
-// for no mark), 2 how many objects are open, 3 from which place keys are taken in, 4 the first key that repeats one and 5 the
-// first that was not taken in (0 for none). Four numbers follow for each slot: its place, its tag, the next slot of its
-// chain, and the first slot of the chain whose number is the slot's.
+// The first eight numbers are a header. Four numbers follow for each slot: its place, its tag, the next slot of its chain, and
+// the first slot of the chain whose number is the slot's. Memory is lent, so 0 stands for none in the table.
 #![tactic(auto)]
 
 ghost use Rattle.std.specs.Prelude.{◌≡◌, ◌+◌, ◌*◌, ◌-◌, ◌/◌, ◌%◌, ◌^◌, ◌<◌, ◌≤◌, length, get_or};
@@ -13,6 +11,24 @@ ghost use Rattle.once.specs.Groups.{Sane, Set, Does, without, Begun, Opens, deep
 ghost use Rattle.once.specs.Groups.{AboveMark, Newest, Stands, Earlier, Placed, Tagged, marked, Crowds, Names, FromIs, TwiceIs, StopIs};
 ghost use Rattle.once.specs.Hash.{stirred, seed, mix, finish};
 ghost use Rattle.once.specs.Windows.{least as lesser, onward};
+
+// In the header: how many slots are taken.
+const TAKEN: usize = 0;
+
+// One more than how many slots are below the innermost mark; 0 for no mark.
+const BASE: usize = 1;
+
+// How many objects are open.
+const DEPTH: usize = 2;
+
+// From which place keys are taken in.
+const FROM: usize = 3;
+
+// The first key that repeats one; 0 for none.
+const TWICE: usize = 4;
+
+// The first key that was not taken in; 0 for none.
+const STOP: usize = 5;
 
 // How many keys of one object may stand in a chain, in a window from the first place on; one more for each so many places
 // before the window: keys made to stand in one chain of every window then end few of them.
@@ -49,7 +65,7 @@ fn push(seen: &mut [u32], place: u32, tag: u32)
     ensures { Pushes seen.old seen.new place tag }
 {
     let n = slots(seen.len());
-    let top = seen[0];
+    let top = seen[TAKEN];
     let head = bucket(tag, n);
     let link = seen[head];
     let at = slot(top);
@@ -57,7 +73,7 @@ fn push(seen: &mut [u32], place: u32, tag: u32)
     seen[at + 1] = tag;
     seen[at + 2] = link;
     seen[head] = top + 1;
-    seen[0] = top + 1;
+    seen[TAKEN] = top + 1;
 }
 
 // The newest slot less.
@@ -66,13 +82,13 @@ fn pop(seen: &mut [u32])
     ensures { Pops seen.old seen.new }
 {
     let n = slots(seen.len());
-    let top = seen[0] - 1;
+    let top = seen[TAKEN] - 1;
     let at = slot(top);
     let tag = seen[at + 1];
     let link = seen[at + 2];
     let head = bucket(tag, n);
     seen[head] = link;
-    seen[0] = top;
+    seen[TAKEN] = top;
 }
 
 // The newest slots less, down to so many.
@@ -80,7 +96,7 @@ fn drop(seen: &mut [u32], to: u32)
     requires { Above seen.old to }
     ensures { Drops seen.old seen.new to }
 {
-    while seen[0] > to {
+    while seen[TAKEN] > to {
         pop(seen);
     }
 }
@@ -90,22 +106,11 @@ pub fn begin(seen: &mut [u32], from: u32)
     requires { length seen.old < 2 ^ 32 }
     ensures { Begun from seen.old seen.new }
 {
-    let len = seen.len();
-    if len < 12 {
+    if seen.len() < 12 {
         return;
     }
-    let n = slots(len);
-    seen[0] = 0;
-    seen[1] = 0;
-    seen[2] = 0;
-    seen[3] = from;
-    seen[4] = 0;
-    seen[5] = 0;
-    let mut i = 0;
-    while i < n {
-        seen[11 + 4 * i] = 0;
-        i = i + 1;
-    }
+    seen.fill(0);
+    seen[FROM] = from;
 }
 
 // An object opens.
@@ -116,8 +121,7 @@ pub fn opened(seen: &mut [u32])
     if seen.len() < 12 {
         return;
     }
-    let depth = seen[2];
-    seen[2] = depth + 1;
+    seen[DEPTH] += 1;
 }
 
 // Whether the present object has a group: a key in the table.
@@ -125,12 +129,12 @@ fn owned(seen: &[u32]) -> bool
     requires { Set seen.now }
     ensures { Owns seen.now result }
 {
-    let base = seen[1];
+    let base = seen[BASE];
     if base == 0 {
         return false;
     }
     let mark = slot(base - 1);
-    seen[mark + 1] == seen[2]
+    seen[mark + 1] == seen[DEPTH]
 }
 
 // The present object's group goes.
@@ -141,11 +145,11 @@ fn leave(seen: &mut [u32])
     if !owned(seen) {
         return;
     }
-    let to = seen[1] - 1;
+    let to = seen[BASE] - 1;
     let mark = slot(to);
     let outer = seen[mark];
     drop(seen, to);
-    seen[1] = outer;
+    seen[BASE] = outer;
 }
 
 // An object closes.
@@ -157,10 +161,7 @@ pub fn closed(seen: &mut [u32])
         return;
     }
     leave(seen);
-    let depth = seen[2];
-    if depth > 0 {
-        seen[2] = depth - 1;
-    }
+    seen[DEPTH] = seen[DEPTH].saturating_sub(1);
 }
 
 // Where a link leads, if to a slot of the present object.
@@ -168,7 +169,7 @@ fn above_mark(seen: &[u32], link: u32) -> Option<u32>
     requires { 12 ≤ length seen.now }
     ensures { AboveMark (get_or seen.now 1 0) link result }
 {
-    if link > seen[1] {
+    if link > seen[BASE] {
         return Some(link);
     }
     None
@@ -226,28 +227,28 @@ pub fn take_in(seen: &mut [u32], tag: u32, place: u32)
     if len < 12 {
         return;
     }
-    if seen[5] != 0 {
+    if seen[STOP] != 0 {
         return;
     }
     let n = slots(len);
-    let top = seen[0];
+    let top = seen[TAKEN];
     if owned(seen) {
         if (top as usize) < n {
             push(seen, place, tag);
             return;
         }
-        seen[5] = place;
+        seen[STOP] = place;
         return;
     }
     if (top as usize) + 1 < n {
-        let base = seen[1];
-        let depth = seen[2];
+        let base = seen[BASE];
+        let depth = seen[DEPTH];
         push(seen, base, depth);
-        seen[1] = top + 1;
+        seen[BASE] = top + 1;
         push(seen, place, tag);
         return;
     }
-    seen[5] = place;
+    seen[STOP] = place;
 }
 
 // A key that repeats an earlier one: the first stays.
@@ -258,8 +259,8 @@ pub fn notice(seen: &mut [u32], place: u32)
     if seen.len() < 12 {
         return;
     }
-    if seen[4] == 0 {
-        seen[4] = place;
+    if seen[TWICE] == 0 {
+        seen[TWICE] = place;
     }
 }
 
@@ -281,14 +282,15 @@ fn crowded(seen: &[u32], tag: u32) -> bool
     if seen.len() < 12 {
         return false;
     }
-    if seen[5] != 0 {
+    if seen[STOP] != 0 {
         return false;
     }
-    let mut left = CHAIN_LIMIT + seen[3] / CHAIN_GROWTH;
-    if seen[0] <= left {
+    let mut left = CHAIN_LIMIT + seen[FROM] / CHAIN_GROWTH;
+    if seen[TAKEN] <= left {
         return false;
     }
     let mut at = newest(seen, tag);
+    // A count by hand: a `for` over it was tried, and takes a tenth longer where an object has many keys.
     while let Some(i) = at {
         left -= 1;
         if left == 0 {
@@ -307,7 +309,7 @@ pub fn named(seen: &mut [u32], tag: u32, place: u32, again: bool)
 {
     mark(seen, place, again);
     if crowded(seen, tag) {
-        seen[5] = place;
+        seen[STOP] = place;
         return;
     }
     take_in(seen, tag, place);
@@ -330,7 +332,7 @@ pub fn first_twice(seen: &[u32]) -> Option<usize>
     if seen.len() < 12 {
         return None;
     }
-    unless_zero(seen[4])
+    unless_zero(seen[TWICE])
 }
 
 // The first key that was not taken in.
@@ -340,7 +342,7 @@ pub fn stopped(seen: &[u32]) -> Option<usize>
     if seen.len() < 12 {
         return None;
     }
-    unless_zero(seen[5])
+    unless_zero(seen[STOP])
 }
 
 // The lesser of two places.
@@ -371,14 +373,14 @@ pub fn from(seen: &[u32]) -> u32
     if seen.len() < 12 {
         return 0;
     }
-    seen[3]
+    seen[FROM]
 }
 
 // The low half of a number, with its high bits in its low ones.
 fn stir(p: u64) -> u32
     ensures { result ≡ stirred p }
 {
-    let low = (p % 4294967296) as u32;
+    let low = (p & 0xFFFF_FFFF) as u32;
     low ^ (low >> 15)
 }
 

@@ -1,26 +1,21 @@
 -- `leave`: its slots go down to the mark. Assumes nothing.
-use mathlib.Core.Bool.{true, false}
 use native.Mathlib.Omega.{arith}
 use Rattle.once.proofs.GroupsLaws.{own_fits, own_above, leave_some, leave_none}
-use Rattle.once.proofs.GroupsLaws.{owns_not}
 use Rattle.once.proofs.leave.Goals as goal
 
 pub returns-then-not-owned : goal.returns-then-not-owned
-returns-then-not-owned c = leave_none c.args.seen.now (owns_not c.args.seen.now
-    c.owned.result true c.if-not-owned.true-raw c.owned.ensures)
+returns-then-not-owned c = leave_none c.args.seen.now c.if-not-owned.ensures
 
 pub overflow_sub-to : goal.overflow_sub-to
 overflow_sub-to c = (own_fits c.args.seen.now c.requires
-    (owns_not c.args.seen.now c.owned.result false c.if-not-owned.false-raw
-    c.owned.ensures)).0
+    c.if-not-owned.ensures).0
 
 pub offset_bounds-seen-mark : goal.offset_bounds-seen-mark
 offset_bounds-seen-mark c = omega (
   arith,
   c.slot-mark.ensures,
   own_fits c.args.seen.now
-      c.requires (owns_not c.args.seen.now
-      c.owned.result false c.if-not-owned.false-raw c.owned.ensures),
+      c.requires c.if-not-owned.ensures,
 )
 
 pub bounds-seen-mark : goal.bounds-seen-mark
@@ -28,21 +23,16 @@ bounds-seen-mark c = omega (
   arith,
   c.slot-mark.ensures,
   own_fits c.args.seen.now
-      c.requires (owns_not c.args.seen.now
-      c.owned.result false c.if-not-owned.false-raw c.owned.ensures),
+      c.requires c.if-not-owned.ensures,
 )
 
 pub drop-requires : goal.drop-requires
 drop-requires c = own_above c.args.seen.now
-    c.requires (owns_not
-    c.args.seen.now c.owned.result false
-    c.if-not-owned.false-raw c.owned.ensures)
+    c.requires c.if-not-owned.ensures
 
 pub returns : goal.returns
 returns c = leave_some c.args.seen.now
     c.requires
-    (owns_not c.args.seen.now
-    c.owned.result false
-    c.if-not-owned.false-raw c.owned.ensures)
+    c.if-not-owned.ensures
     c.slot-mark.result c.drop.new.seen c.slot-mark.ensures
     c.drop.ensures

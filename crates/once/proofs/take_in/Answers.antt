@@ -1,12 +1,11 @@
 -- `take_in`: a slot, two with a mark, or none. Assumes nothing.
 use mathlib.Core.Path.{◌∙◌}
-use mathlib.Core.Bool.{true, false}
 use Prim.Native.Nat.{◌+◌}
 use native.Mathlib.Omega.{arith}
 use lib.ListN.{get_or, length-set}
 use Rattle.once.specs.Table.{room}
 use Rattle.once.specs.Groups.{taken}
-use Rattle.once.proofs.GroupsLaws.{owns_as, short_does}
+use Rattle.once.proofs.GroupsLaws.{short_does}
 use Rattle.once.proofs.GroupsChainLaws.{set_short}
 use Rattle.once.proofs.GroupsTakingLaws.{take_stopped, take_own, take_new, full_own, full_new, roomy, roomy_more}
 use Rattle.once.proofs.take_in.Goals as goal
@@ -21,9 +20,6 @@ returns-then-seen-ne0 c = take_stopped c.args.seen.now (
   c.args.tag,
 ) c.if-seen-ne0.true
 
-pub overflow_cast-top : goal.overflow_cast-top
-overflow_cast-top c = omega (arith, c.slice_known-3-1.given 0)
-
 pub push-requires : goal.push-requires
 push-requires c = roomy c.args.seen.now
     c.slots-n.result c.if-len-lt12.false
@@ -37,23 +33,14 @@ returns-then-top-n c = take_own c.args.seen.now
     c.slots-n.result
     c.slots-n.ensures.0
     c.if-seen-ne0.false c.push.new.seen
-    (owns_as c.args.seen.now
-    c.owned.result true c.if-owned.true
-    c.owned.ensures) c.if-top-n.true c.push.ensures
+    c.if-owned.ensures c.if-top-n.true c.push.ensures
 
 pub returns-then-owned : goal.returns-then-owned
 returns-then-owned c = full_own c.args.seen.now
     c.args.place
     c.args.tag c.slots-n.result
     c.slots-n.ensures.0 c.if-seen-ne0.false
-    (owns_as c.args.seen.now c.owned.result true
-    c.if-owned.true c.owned.ensures) c.if-top-n.false
-
-pub overflow_cast-top-2 : goal.overflow_cast-top-2
-overflow_cast-top-2 c = omega (arith, c.slice_known-3-1.given 0)
-
-pub overflow_add-top : goal.overflow_add-top
-overflow_add-top c = omega (arith, c.slice_known-3-1.given 0)
+    c.if-owned.ensures c.if-top-n.false
 
 pub push-requires-then-top-n-2 : goal.push-requires-then-top-n-2
 push-requires-then-top-n-2 c = roomy c.args.seen.now
@@ -89,9 +76,7 @@ returns-then-top-n-2 c = take_new c.args.seen.now c.args.place c.args.tag
     c.slots-n.ensures.0
     c.if-seen-ne0.false
     c.push-then-top-n-2.new.seen c.push-then-top-n-2-2.new.seen
-    (owns_as c.args.seen.now c.owned.result false
-    c.if-owned.false
-    c.owned.ensures)
+    c.if-owned.ensures
     c.if-top-n-2.true
     c.push-then-top-n-2.ensures c.push-then-top-n-2-2.ensures
 
@@ -100,5 +85,4 @@ returns c = full_new c.args.seen.now
     c.args.place
     c.args.tag c.slots-n.result
     c.slots-n.ensures.0 c.if-seen-ne0.false
-    (owns_as c.args.seen.now c.owned.result false
-    c.if-owned.false c.owned.ensures) c.if-top-n-2.false
+    c.if-owned.ensures c.if-top-n-2.false
