@@ -1,34 +1,29 @@
 -- Hexadecimal digits, and hexadecimal numbers. Assumes nothing.
-use Rattle.std.specs.Prelude.{Ok, Err}
+use Rattle.std.specs.Prelude.{Err, Option, Some, None}
 use Prim.Native.Nat.{ℕ, ◌+◌, ◌*◌, ◌-◌, ◌≤◌, ◌<◌}
-use mathlib.Core.Path.{◌≡◌, refl, sym, ap, subst}
+use mathlib.Core.Path.{◌≡◌, refl, sym, subst}
 use mathlib.Core.Bool.{Bool, true, false, cond}
 use mathlib.Core.Logic.{inr}
 use mathlib.Core.List.{List}
 use native.Mathlib.Omega.{arith}
 use native.Mathlib.Numerals.{add-one}
 use lib.ListN.{length, get_or}
-use lib.IntN.{pos}
 use lib.Dec.{ltb, leb}
 use borrow.Author.Tests.{lt-ltb, le-ltb, ltb-true, ltb-false, leb-true, leb-false}
 use Rattle.rules.specs.Rfc3629.{In}
 use Rattle.meaning.specs.Letters.{ch}
 use Rattle.meaning.specs.Limits.{coefficient_limit}
-use Rattle.meaning.specs.declared.Number.TheVariants.{Finite}
 use Rattle.meaning.specs.declared.Refusal.TheVariants.{NotGrammar, BadNumber}
 use Rattle.grammar.specs.Characters.{Hexdig}
-use Rattle.grammar.specs.Numbers as G
 use Rattle.machine.specs.Scan.{breaks}
 use Rattle.machine.specs.Strings.{hex_of, no_digit}
 use Rattle.machine.specs.Numeric as S
 use Rattle.machine.specs.Numeric.{hex, hex_mark, settle}
 use Rattle.machine.proofs.Numeric.Rows.{found, hex_is}
-use Rattle.machine.proofs.Numeric.Value.{settle_to}
 use Rattle.items.specs.Between.Places.{byte_at}
-use Rattle.items.specs.Between.NumberOrTime.{Scanned, taken, Means, Tells, Reads, Closes, Holds, Settles, HexSpan, Kept, Hexed, Onto}
+use Rattle.items.specs.Between.NumberOrTime.{Scanned, Tells, Reads, Closes, Holds, Settles, HexSpan, HexKept, Hexed, Onto}
 use Rattle.items.specs.declared.number.Acc.{Acc}
-use Rattle.items.specs.declared.number.Hex.{Hex}
-use Rattle.items.specs.declared.Item.TheVariants as Item
+use Rattle.items.specs.declared.Taken.{Taken}
 use Rattle.items.proofs.PlacesLaws.{byte_in, byte_out}
 use Rattle.items.proofs.NumberOrTimeLaws.{took, halts, breaks_at, same, closes_by}
 
@@ -89,43 +84,35 @@ is_none (HexValue.none e) h = e
 
 -- ---- the loop over digits
 
-pub record HexLoop (s : List ℕ) (from v : ℕ) (o : Bool) (i : ℕ) : Type 0 where
-  pub low : from ≤ i
-  pub high : i ≤ length s
-  pub says : (w : ℕ) × HexSpan s from i w × Kept w v o
-  pub large : o ≡ true → 1152921504606846975 < v
+-- the digits so far have a value that is kept, or is too large
+abbrev pub HexLoop : List ℕ → ℕ → Option ℕ → ℕ → Type 0
+HexLoop s from v i = (w : ℕ) × HexSpan s from i w × HexKept w v
 
-pub hex_start : (s : List ℕ) (from : ℕ) → from ≤ length s → HexLoop s from 0 false from
-hex_start s from h = record { low = omega arith; high = h; says = (0, HexSpan.here, refl); large = λ e. let z : ◌≡◌ {A = ℕ} 0 1 = cc in absurd (omega arith) }
+module _ (s : List ℕ) (from : ℕ) (v : Option ℕ) (i : ℕ) (k : HexLoop s from v i) where
+  module _ (h : i < length s) (d : ℕ) (x : HexValue (get_or s i 0) d) where
+    pub hex_next : d < 16 → (u : Option ℕ) → ((w : ℕ) → HexKept w v → HexKept (16 * w + d) u) → HexLoop s from u (i + 1)
+    hex_next l u f = (
+      16 * k.0 + d,
+      subst (λ (j : ℕ). HexSpan s from j (16 * k.0 + d)) (sym (add-one i)) (HexSpan.next k.1 h (is_hex x l)),
+      f k.0 k.2,
+    )
 
-module _ (s : List ℕ) (from v : ℕ) (o : Bool) (i d : ℕ) (k : HexLoop s from v o i) (h : i < length s) (x : HexValue (get_or s i 0) d) where
-  more : d < 16 → HexSpan s from (i + 1) (16 * k.says.0 + d)
-  more l = subst (λ (j : ℕ). HexSpan s from j (16 * k.says.0 + d)) (sym (add-one i)) (HexSpan.next k.says.1 h (is_hex x l))
+  pub hex_stop : from ≤ i → i < length s → (d : ℕ) → HexValue (get_or s i 0) d → 16 ≤ d → Hexed s from (record { value = v; end = i })
+  hex_stop o h d x l = record { low = o; high = omega arith; edge = rw (byte_in s i h) (is_none x l); says = k }
 
-  pub hex_over : d < 16 → 1152921504606846975 < v → HexLoop s from v true (i + 1)
-  hex_over l u = record { low = omega (arith, k.low); high = omega arith; says = (16 * k.says.0 + d, more l, go o k.says.2); large = λ e. u }
-    where
-      go : (o : Bool) → Kept k.says.0 v o → coefficient_limit ≤ 16 * k.says.0 + d
-      go true e = omega arith
-      go false e = omega arith
+  pub hex_finish : from ≤ i → i ≡ length s → Hexed s from (record { value = v; end = length s })
+  hex_finish o e = rw (sym e) (record { low = o; high = omega arith; edge = rw (byte_out s i (omega arith)); says = k })
 
-  pub hex_more : d < 16 → v ≤ 1152921504606846975 → HexLoop s from (16 * v + d) o (i + 1)
-  hex_more l u = record {
-    low = omega (arith, k.low);
-    high = omega arith;
-    says = (16 * k.says.0 + d, more l, go o k.large k.says.2);
-    large = λ e. absurd (omega (arith, k.large e));
-  }
-    where
-      go : (o : Bool) → (o ≡ true → 1152921504606846975 < v) → Kept k.says.0 v o → Kept (16 * k.says.0 + d) (16 * v + d) o
-      go true f e = absurd (omega (arith, f refl))
-      go false f e = ap (λ (y : ℕ). 16 * y + d) e
+kept : {n v : ℕ} {o : Option ℕ} → HexKept n o → o ≡ Some v → (n ≡ v) × (v < coefficient_limit)
+kept {n} {v} k e = let h : HexKept n (Some v) = subst (λ (y : Option ℕ). HexKept n y) e k in (h.0, omega arith)
 
-  pub hex_stop : 16 ≤ d → Hexed s from (record { v = v; over = o; at = i })
-  hex_stop l = record { low = k.low; high = k.high; edge = rw (byte_in s i h) (is_none x l); says = k.says }
+-- a number that is kept fits
+pub hex_small : {s : List ℕ} {from v : ℕ} {w : Taken (Option ℕ)} → Hexed s from w → w.value ≡ Some v → v < coefficient_limit
+hex_small k e = (kept k.says.2 e).1
 
-pub hex_finish : (s : List ℕ) (from v : ℕ) (o : Bool) (i : ℕ) → HexLoop s from v o i → length s ≤ i → Hexed s from (record { v = v; over = o; at = i })
-hex_finish s from v o i k h = record { low = k.low; high = k.high; edge = rw (byte_out s i h); says = k.says }
+hex_low : {s : List ℕ} {i j w : ℕ} → HexSpan s i j w → i ≤ j
+hex_low HexSpan.here = omega arith
+hex_low (HexSpan.next x h e) = omega (arith, hex_low x)
 
 -- ---- a number
 
@@ -134,27 +121,31 @@ hex_span q g HexSpan.here = λ r k. k
 hex_span q g {s} (HexSpan.next {j = j} {w = w} {d = d} x h e) = λ r k.
     hex_span q g x r (took (hex q g (16 * w + d)) h (rw (hex_is e)) (subst (λ (y : ℕ). Reads s y (hex q g (16 * w + d)) r) (sym (add-one j)) k))
 
-module _ (s : List ℕ) (q : ℕ) (g : Bool) (from d : ℕ) (x : HexValue (byte_at s from) d) where
-  pub mark_none : 16 ≤ d → Reads s from (hex_mark q g) (Err (NotGrammar from))
-  mark_none l = breaks_at (rw (is_none x l))
+-- the first digit of some
+first : {s : List ℕ} {i j w : ℕ} → HexSpan s i j w → i < j → (d : ℕ) × Hexdig (get_or s i 0) d
+first HexSpan.here l = absurd (omega arith)
+first {s} {i} (HexSpan.next {j = j} {d = d} x h e) l = go (λ k. first x k) (ltb i j) refl
+  where
+    go : (i < j → (d : ℕ) × Hexdig (get_or s i 0) d) → (b : Bool) → ltb i j ≡ b → (d : ℕ) × Hexdig (get_or s i 0) d
+    go k true f = k (ltb-true i j f)
+    go k false f = let y : j ≡ i = omega (arith, hex_low x, ltb-false i j f) in (d, subst (λ (k : ℕ). Hexdig (get_or s k 0) d) y e)
 
-  module _ (l : d < 16) (w : Hex) (k : Hexed s from w) where
-    hex_on : (r : Scanned) → Closes w.at (S.on_hex q g k.says.0 S.no_hex) r → Reads s from (hex_mark q g) r
-    hex_on r c = same (hex q g 0) (rw (hex_is (is_hex x l))) (hex_span q g k.says.1 r (halts (S.on_hex q g k.says.0 S.no_hex) (rw k.edge) c))
+module _ (s : List ℕ) (q : ℕ) (g : Bool) (from : ℕ) (w : Taken (Option ℕ)) (k : Hexed s from w) where
+  pub mark_none : w.end ≡ from → Reads s from (hex_mark q g) (Err (NotGrammar from))
+  mark_none e = breaks_at (rw (subst (λ (i : ℕ). S.hex_of (byte_at s i) ≡ S.no_hex) e k.edge))
 
-    pub hex_large : w.over ≡ true → Reads s from (hex_mark q g) (Err (BadNumber q))
+  module _ (l : from < w.end) where
+    hex_on : (r : Scanned) → Closes w.end (S.on_hex q g k.says.0 S.no_hex) r → Reads s from (hex_mark q g) r
+    hex_on r c =
+        let h : from < length s = omega (arith, k.high) in
+        let d = first k.says.1 l in
+        same (hex q g 0) (rw (byte_in s from h, hex_is d.1)) (hex_span q g k.says.1 r (halts (S.on_hex q g k.says.0 S.no_hex) (rw k.edge) c))
+
+    pub hex_large : w.value ≡ None → Reads s from (hex_mark q g) (Err (BadNumber q))
     hex_large o =
-        let h : coefficient_limit ≤ k.says.0 = subst (λ (y : Bool). Kept k.says.0 w.v y) o k.says.2 in
+        let h : coefficient_limit ≤ k.says.0 = subst (λ (y : Option ℕ). HexKept k.says.0 y) o k.says.2 in
         hex_on (Err (BadNumber q)) (closes_by _ (breaks (BadNumber q)) (rw (le-ltb k.says.0 coefficient_limit h)) (record { tells = Tells.refused }))
 
-    module _ (o : w.over ≡ false) (u : w.v < coefficient_limit) where
-      hex_kept : (r : Scanned) → Closes w.at (settle q g w.v 0 0) r → Reads s from (hex_mark q g) r
-      hex_kept r c =
-          let h : k.says.0 ≡ w.v = subst (λ (y : Bool). Kept k.says.0 w.v y) o k.says.2 in
-          hex_on r (closes_by _ (settle q g w.v 0 0) (rw (h, lt-ltb w.v coefficient_limit u)) c)
-
-      pub hex_nought : w.v ≡ 0 → (r : Scanned) → r ≡ Ok (taken (Item.Number (Finite g 0 (pos 0))) w.at) → Reads s from (hex_mark q g) r
-      hex_nought z r e = rw e (hex_kept _ (closes_by _ _ (settle_to (G.Finite.nought z) q) (record { tells = Tells.item Means.number })))
-
-      pub hex_settled : (a : Acc) → Holds w.v a → (r : Scanned) → Settles q g a 0 0 w.at r → Reads s from (hex_mark q g) r
-      hex_settled a h r t = hex_kept r (t.closes w.v h)
+    pub hex_settled : (v : ℕ) → w.value ≡ Some v → (a : Acc) → Holds v a → (r : Scanned) → Settles q g a 0 0 w.end r → Reads s from (hex_mark q g) r
+    hex_settled v o a i r t =
+        let e = kept k.says.2 o in hex_on r (closes_by _ (settle q g v 0 0) (rw (e.0, lt-ltb v coefficient_limit (omega arith))) (t.closes v i))

@@ -7,16 +7,13 @@ ghost use Rattle.machine.specs.Numeric as Numeric;
 ghost use Rattle.machine.specs.Numeric.{dig};
 ghost use Rattle.items.specs.declared.Item.TheVariants as Item;
 ghost use Rattle.items.specs.Between.NumberOrTime.{DecimalSays, Reads, IsDigit, Place, Edge, Holds, Shifted, Digited, Capped};
-ghost use Rattle.items.specs.Between.NumberOrTime.{pushed, raised_by, Powered, Ready, From, Settles, PlainSays, EndsSays, Hexed, taken};
+ghost use Rattle.items.specs.Between.NumberOrTime.{pushed, raised_by, Powered, Ready, From, Settles, PlainSays, EndsSays, Hexed, HexKept, taken};
 
 use crate::{Item, NotGrammar, Scanned, Taken, hex_digit};
 use meaning::{COEFFICIENT_MOST, Number, POWER_LIMIT, Refusal};
 
 // After a number up to this, any digit fits.
 const SURE: u64 = COEFFICIENT_MOST / 10 - 1;
-
-// Sixteen times a number above this is no coefficient.
-const SIXTEENTH: u64 = COEFFICIENT_MOST / 16;
 
 // An exponent below this is exact.
 const EXACT: usize = 1000000000;
@@ -42,14 +39,6 @@ const OVER: Acc = Acc {
     over: true,
     z: 0,
 };
-
-// A hexadecimal number, whether it is 2^64 or more, and the place after it.
-#[derive(Clone, Copy)]
-pub struct Hex {
-    pub v: u64,
-    pub over: bool,
-    pub at: usize,
-}
 
 // The digit that must stand at a place.
 pub fn digit_here(s: &[u8], i: usize) -> Result<u8, NotGrammar>
@@ -351,27 +340,29 @@ pub fn rest(s: &[u8], q: usize, g: bool, v: u64, at: usize) -> Scanned
     decimal(s, q, g, held(v), at)
 }
 
-// The hexadecimal digits from a place on.
-fn hex_digits(s: &[u8], from: usize) -> Hex
+// One more hexadecimal digit, while the number fits.
+fn hex_more(v: Option<u64>, d: u8) -> Option<u64>
+    ensures { (w : ℕ) → HexKept w v → HexKept (16 * w + d) result }
+{
+    v?.checked_mul(16)?.checked_add(d as u64)
+}
+
+// The hexadecimal digits from a place on: their number where it is below 2^64, and the place after them.
+fn hex_digits(s: &[u8], from: usize) -> Taken<Option<u64>>
     requires { Place s.now from }
     ensures { Hexed s.now from result }
 {
-    let mut v: u64 = 0;
-    let mut over = false;
-    let mut i = from;
-    while i < s.len() {
+    let mut v = Some(0);
+    for i in from..s.len() {
         let Some(d) = hex_digit::hex(s[i]) else {
-            return Hex { v, over, at: i };
+            return Taken { value: v, end: i };
         };
-        if v > SIXTEENTH {
-            over = true;
-            i += 1;
-        } else {
-            v = 16 * v + d as u64;
-            i += 1;
-        }
+        v = hex_more(v, d);
     }
-    Hex { v, over, at: i }
+    Taken {
+        value: v,
+        end: s.len(),
+    }
 }
 
 // A hexadecimal number, after its mark. It must itself be below 2^64.
@@ -379,19 +370,14 @@ pub fn hexadecimal(s: &[u8], q: usize, g: bool, from: usize) -> Scanned
     requires { Place s.now from }
     ensures { Reads s.now from (Numeric.hex_mark q g) result }
 {
-    let Ok(_) = hex_digit::hex_at(s, from) else {
-        return Err(Refusal::NotGrammar(from));
-    };
     let w = hex_digits(s, from);
-    let v = w.v;
-    let at = w.at;
-    if w.over {
+    if w.end == from {
+        return Err(Refusal::NotGrammar(from));
+    }
+    let Some(v) = w.value else {
         return Err(Refusal::BadNumber(q));
-    }
-    if v == 0 {
-        return finite(g, 0, 0, at);
-    }
-    settle(q, g, stripped(v), 0, 0, at)
+    };
+    settle(q, g, held(v), 0, 0, w.end)
 }
 
 // After a first 0 under a sign.

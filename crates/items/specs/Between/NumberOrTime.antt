@@ -16,7 +16,6 @@ use Rattle.machine.specs.Scan.{Ran, ended, broke, unended, goes_on, ran}
 use Rattle.machine.specs.Numeric as S
 use Rattle.machine.specs.Numeric.{St, Res, Slot, Len, d1, d2, d3, d4, scan, dig, field}
 use Rattle.items.specs.declared.number.Acc.{Acc}
-use Rattle.items.specs.declared.number.Hex.{Hex}
 use Rattle.items.specs.declared.Item as ItemOf
 use Rattle.items.specs.declared.NotGrammar as NotGrammarOf
 use Rattle.items.specs.declared.Item.TheVariants as Item
@@ -209,11 +208,16 @@ abbrev pub Kept : ℕ → ℕ → Bool → Type 0
 Kept w v false = w ≡ v
 Kept w v true = coefficient_limit ≤ w
 
-pub record Hexed (s : List ℕ) (from : ℕ) (r : Hex) : Type 0 where
-  pub low : from ≤ r.at
-  pub high : r.at ≤ length s
-  pub edge : S.hex_of (byte_at s r.at) ≡ S.no_hex
-  pub says : (w : ℕ) × HexSpan s from r.at w × Kept w r.v r.over
+-- the same as an option
+abbrev pub HexKept : ℕ → Option ℕ → Type 0
+HexKept w (Some v) = (w ≡ v) × (w < coefficient_limit)
+HexKept w None = coefficient_limit ≤ w
+
+pub record Hexed (s : List ℕ) (from : ℕ) (r : Taken (Option ℕ)) : Type 0 where
+  pub low : from ≤ r.end
+  pub high : r.end ≤ length s
+  pub edge : S.hex_of (byte_at s r.end) ≡ S.no_hex
+  pub says : (w : ℕ) × HexSpan s from r.end w × HexKept w r.value
 
 -- ---- digits with no sign
 

@@ -1,11 +1,6 @@
 -- The digits so far have a value that is kept, or is too large. Assumes nothing.
-use Prim.Native.Nat.{◌-◌}
-use lib.ListN.{length}
 use Rattle.items.proofs.NumberHexLaws.{HexLoop}
 use Rattle.items.proofs.number.hex_digits.Given as goal
 
 abbrev pub invariant-loop-i : goal.invariant-loop-i
-invariant-loop-i l = HexLoop l.s l.from l.v l.over l.i
-
-abbrev pub decreases-loop-i : goal.decreases-loop-i
-decreases-loop-i l = length l.s - l.i
+invariant-loop-i l = HexLoop l.s l.from l.v l.i

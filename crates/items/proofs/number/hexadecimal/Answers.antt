@@ -1,20 +1,18 @@
 -- A digit must come; the value is judged before its zeros are taken off. Assumes nothing.
-use mathlib.Core.Path.{refl}
 use native.Mathlib.Omega.{arith}
-use Rattle.items.proofs.NumberHexLaws.{value_is, mark_none, hex_large, hex_nought, hex_settled}
+use Rattle.items.proofs.NumberHexLaws.{mark_none, hex_large, hex_small, hex_settled}
 use Rattle.items.proofs.number.hexadecimal.Goals as goal
 
+pub returns-then-w-from : goal.returns-then-w-from
+returns-then-w-from c = mark_none _ _ _ _ _ c.hex_digits-w.ensures c.if-w-from.true
+
 pub returns-in_default : goal.returns-in_default
-returns-in_default c = mark_none _ _ _ _ _ (value_is _ _ refl) c.in_default.ensures.0
+returns-in_default c = hex_large _ _ _ _ _ c.hex_digits-w.ensures (omega (arith, c.hex_digits-w.ensures.low)) c.in_default.is
 
-pub returns-then-w : goal.returns-then-w
-returns-then-w c = hex_large _ _ _ _ _ (value_is _ _ c.in-Ok.ensures.0) c.in-Ok.ensures.1 _ c.hex_digits-w.ensures c.if-w.true
-
-pub returns-then-v-eq0 : goal.returns-then-v-eq0
-returns-then-v-eq0 c = hex_nought _ _ _ _ _ (value_is _ _ c.in-Ok.ensures.0) c.in-Ok.ensures.1 _
-    c.hex_digits-w.ensures c.if-w.false (omega arith) c.if-v-eq0.true _ c.finite.ensures
+pub settle-requires : goal.settle-requires
+settle-requires c = let h = hex_small c.hex_digits-w.ensures c.in-Some.is in
+    (omega (arith, c.held.ensures.small 20 (omega arith)), omega arith, omega arith)
 
 pub returns : goal.returns
-returns c = hex_settled _ _ _ _ _ (value_is _ _ c.in-Ok.ensures.0) c.in-Ok.ensures.1 _
-    c.hex_digits-w.ensures c.if-w.false (omega arith) _ c.stripped.ensures.holds _
+returns c = hex_settled _ _ _ _ _ c.hex_digits-w.ensures (omega (arith, c.hex_digits-w.ensures.low)) _ c.in-Some.is _ c.held.ensures.holds _
     c.settle.ensures
