@@ -1,5 +1,6 @@
 -- What the calls for C are made of: a signed field that is passed on at 32 bits; a check in the bytes that C lends. Assumes nothing.
-use mathlib.Core.Path.{◌≡◌, ap, ◌∙◌, subst}
+use mathlib.Core.Path.{◌≡◌, refl, ap, ◌∙◌, subst}
+use mathlib.Core.Bool.{Bool, true, false}
 use mathlib.Core.List.{List}
 use Prim.Native.Nat.{ℕ, ◌<◌, ◌^◌}
 use native.Mathlib.Omega.{arith}
@@ -7,8 +8,9 @@ use lib.IntN.{ℤ}
 use lib.Signed.{mag}
 use lib.Seq.{sets}
 use mir.Syntax.{w16, w32}
-use mir.Val.{of_z, to_z, SFits, hbits}
+use mir.Val.{of_z, to_z, SFits, hbits, bool_byte}
 use mir.ValLaws.{to_z-of_z}
+use Rattle.meaning.specs.Bytes.{flag}
 use Rattle.arriving.specs.declared.Check.{Check}
 use Rattle.arriving.specs.Between.Packing.{packed, unpacked}
 use Rattle.lanternrung.specs.Told.{Keeps}
@@ -23,6 +25,11 @@ wider z h = record { sfits = omega arith }
 
 pub passed : (z : ℤ) → mag z < 2 ^ hbits w16 → to_z w32 (of_z w32 (to_z w16 (of_z w16 z))) ≡ z
 passed z h = ap (λ (x : ℤ). to_z w32 (of_z w32 x)) (same16 z h) ∙ to_z-of_z w32 z (wider z h)
+
+-- a bool as a number is 1 where it is set
+pub flag_is : (b : Bool) → bool_byte b ≡ flag b
+flag_is true = refl
+flag_is false = refl
 
 -- a check that was kept, by what it is
 pub keeps : (x y : Check) (s t : List ℕ) → x ≡ y → (t ≡ sets s 0 (packed x)) × (unpacked (packed x) ≡ x) → Keeps y s t

@@ -1,7 +1,6 @@
 // The calls for C and Rust (include/lanternrung.h), which crate `lanternrung_c` exports under these names. Each passes on the library's answer, as its
 // number and place (docs/FORMAT.md, 10.1).
 ghost use Rattle.std.specs.Prelude.{◌≡◌};
-ghost use Rattle.meaning.specs.Bytes.{flag};
 ghost use Rattle.lanternrung.specs.Told.{sizes_of, text_of, refused_fields, plain_fields, container_fields, number_fields};
 ghost use Rattle.lanternrung.specs.Told.{dated_fields, time_fields, fields_of};
 ghost use Rattle.lanternrung.specs.Told.{Utf8Told, DateTold, MeasureTold, ReadTold, LookTold, JaxnTold, JsonTold};
@@ -101,113 +100,47 @@ fn text_of(a: Written) -> Text
     }
 }
 
-// 1 if set.
-fn flag(b: bool) -> u32
-    ensures { result ≡ flag b }
-{
-    if b {
-        return 1;
-    }
-    0
-}
-
-// A refusal: all but its number and place are 0.
-fn refusal(why: Refusal) -> Fields
-    ensures { result ≡ refused_fields why }
-{
-    Fields {
-        refused: number(why),
-        place: place(why),
-        kind: 0,
-        flag: 0,
-        power: 0,
-        coefficient: 0,
-        length: 0,
-        start: 0,
-        year: 0,
-        month: 0,
-        day: 0,
-        offset: 0,
-        time: 0,
-        end: 0,
-        count: 0,
-    }
-}
+// A record of no kind, all of whose fields are 0.
+const NOTHING: Fields = Fields {
+    refused: 0,
+    place: 0,
+    kind: 0,
+    flag: 0,
+    power: 0,
+    coefficient: 0,
+    length: 0,
+    start: 0,
+    year: 0,
+    month: 0,
+    day: 0,
+    offset: 0,
+    time: 0,
+    end: 0,
+    count: 0,
+};
 
 // A record of this kind whose other fields are 0, but for these.
-fn plain(kind: u32, set: u32, length: u64, start: u64) -> Fields
-    ensures { result ≡ plain_fields kind set length start }
+fn plain(kind: u32, flag: u32, length: usize, start: usize) -> Fields
+    ensures { result ≡ plain_fields kind flag length start }
 {
     Fields {
-        refused: 0,
-        place: 0,
         kind,
-        flag: set,
-        power: 0,
-        coefficient: 0,
-        length,
-        start,
-        year: 0,
-        month: 0,
-        day: 0,
-        offset: 0,
-        time: 0,
-        end: 0,
-        count: 0,
+        flag,
+        length: length as u64,
+        start: start as u64,
+        ..NOTHING
     }
 }
 
 // An array or an object.
-fn container(kind: u32, count: u64, end: u64) -> Fields
+fn container(kind: u32, count: usize, end: usize) -> Fields
     ensures { result ≡ container_fields kind count end }
 {
     Fields {
-        refused: 0,
-        place: 0,
         kind,
-        flag: 0,
-        power: 0,
-        coefficient: 0,
-        length: 0,
-        start: 0,
-        year: 0,
-        month: 0,
-        day: 0,
-        offset: 0,
-        time: 0,
-        end,
-        count,
-    }
-}
-
-// Kind 3 if finite; otherwise kind 4, with flag 0 for NaN, 1 for Infinity and 2 for -Infinity.
-fn number_fields(n: Number) -> Fields
-    ensures { result ≡ number_fields n }
-{
-    match n {
-        Number::NotANumber => plain(4, 0, 0, 0),
-        Number::Infinite { minus } => plain(4, 1 + flag(minus), 0, 0),
-        Number::Finite {
-            minus,
-            coefficient,
-            power,
-        } => Fields {
-            refused: 0,
-            place: 0,
-            kind: 3,
-            flag: flag(minus),
-            power,
-            coefficient,
-            length: 0,
-            start: 0,
-            year: 0,
-            month: 0,
-            day: 0,
-            offset: 0,
-            time: 0,
-            end: 0,
-            count: 0,
-        },
+        end: end as u64,
+        count: count as u64,
+        ..NOTHING
     }
 }
 
@@ -216,63 +149,82 @@ fn dated(kind: u32, d: Date, clock: u64, offset: i32) -> Fields
     ensures { result ≡ dated_fields kind d clock offset }
 {
     Fields {
-        refused: 0,
-        place: 0,
         kind,
-        flag: 0,
-        power: 0,
-        coefficient: 0,
-        length: 0,
-        start: 0,
-        year: d.year as u32,
-        month: d.month as u32,
-        day: d.day as u32,
+        year: u32::from(d.year),
+        month: u32::from(d.month),
+        day: u32::from(d.day),
         offset,
         time: clock,
-        end: 0,
-        count: 0,
+        ..NOTHING
+    }
+}
+
+// A refusal: all but its number and place are 0.
+impl From<Refusal> for Fields {
+    ghost from_gives = { λ why r. r ≡ refused_fields why };
+
+    // Its number and place.
+    fn from(why: Refusal) -> Fields {
+        Fields {
+            refused: number(why),
+            place: place(why),
+            ..NOTHING
+        }
+    }
+}
+
+// Kind 3 if finite; otherwise kind 4, with flag 0 for NaN, 1 for Infinity and 2 for -Infinity.
+impl From<Number> for Fields {
+    ghost from_gives = { λ n r. r ≡ number_fields n };
+
+    // The sign, the power and the coefficient that the number has.
+    fn from(n: Number) -> Fields {
+        match n {
+            Number::NotANumber => plain(4, 0, 0, 0),
+            Number::Infinite { minus } => plain(4, 1 + u32::from(minus), 0, 0),
+            Number::Finite { minus, coefficient, power } => Fields {
+                kind: 3,
+                flag: u32::from(minus),
+                power,
+                coefficient,
+                ..NOTHING
+            },
+        }
     }
 }
 
 // Kinds 8 to 11, one for each time type.
-fn time_fields(t: Time) -> Fields
-    ensures { result ≡ time_fields t }
-{
-    match t {
-        Time::LocalDate(d) => dated(8, d, 0, 0),
-        Time::LocalTime(clock) => dated(
-            9,
-            Date {
-                year: 0,
-                month: 0,
-                day: 0,
-            },
-            clock,
-            0,
-        ),
-        Time::LocalDateTime { date: d, clock } => dated(10, d, clock, 0),
-        Time::OffsetDateTime {
-            date: d,
-            clock,
-            offset,
-        } => dated(11, d, clock, offset as i32),
+impl From<Time> for Fields {
+    ghost from_gives = { λ t r. r ≡ time_fields t };
+
+    // The parts that the time type has.
+    fn from(t: Time) -> Fields {
+        match t {
+            Time::LocalDate(d) => dated(8, d, 0, 0),
+            Time::LocalTime(clock) => Fields { kind: 9, time: clock, ..NOTHING },
+            Time::LocalDateTime { date, clock } => dated(10, date, clock, 0),
+            Time::OffsetDateTime { date, clock, offset } => dated(11, date, clock, i32::from(offset)),
+        }
     }
 }
 
 // A record's kind as its number, and the fields that the kind has.
-fn fields_of(r: Record) -> Fields
-    ensures { result ≡ fields_of r }
-{
-    match r {
-        Record::Null => plain(1, 0, 0, 0),
-        Record::Bool(b) => plain(2, flag(b), 0, 0),
-        Record::Number(n) => number_fields(n),
-        Record::Str { length, start } => plain(5, 0, length as u64, start as u64),
-        Record::Key { length, start } => plain(6, 0, length as u64, start as u64),
-        Record::Bin { length, start } => plain(7, 0, length as u64, start as u64),
-        Record::Time(t) => time_fields(t),
-        Record::Array { count, end } => container(12, count as u64, end as u64),
-        Record::Object { count, end } => container(13, count as u64, end as u64),
+impl From<Record> for Fields {
+    ghost from_gives = { λ record r. r ≡ fields_of record };
+
+    // The fields of each kind.
+    fn from(r: Record) -> Fields {
+        match r {
+            Record::Null => plain(1, 0, 0, 0),
+            Record::Bool(b) => plain(2, u32::from(b), 0, 0),
+            Record::Number(n) => Fields::from(n),
+            Record::Str { length, start } => plain(5, 0, length, start),
+            Record::Key { length, start } => plain(6, 0, length, start),
+            Record::Bin { length, start } => plain(7, 0, length, start),
+            Record::Time(t) => Fields::from(t),
+            Record::Array { count, end } => container(12, count, end),
+            Record::Object { count, end } => container(13, count, end),
+        }
     }
 }
 
@@ -327,8 +279,8 @@ pub fn lanternrung_look(tape: &[u8], store: &[u8], index: u64) -> Fields
     ensures { LookTold tape.now store.now index result }
 {
     match tape::look(tape, store, index as usize) {
-        Looked::Refused(why) => refusal(why),
-        Looked::Record(r) => fields_of(r),
+        Looked::Refused(why) => Fields::from(why),
+        Looked::Record(r) => Fields::from(r),
     }
 }
 

@@ -46,19 +46,19 @@ pub fn place(why: Refusal) -> u64
 {
     match why {
         Refusal::TextTooLong => LONGEST,
-        Refusal::NotUtf8(at) => at as u64,
-        Refusal::NotGrammar(at) => at as u64,
-        Refusal::BadEscape(at) => at as u64,
-        Refusal::BadTime(at) => at as u64,
-        Refusal::BadNumber(at) => at as u64,
-        Refusal::TooDeep(at) => at as u64,
-        Refusal::TapeTooShort(needed) => needed as u64,
-        Refusal::StoreTooShort(needed) => needed as u64,
-        Refusal::NotWellFormed(at) => at as u64,
-        Refusal::NoJsonForm(index) => index as u64,
-        Refusal::OutputTooShort(needed) => needed as u64,
-        Refusal::WrittenTooLong(size) => size as u64,
-        Refusal::NoSuchRecord(index) => index as u64,
-        Refusal::RepeatedKey(at) => at as u64,
+        Refusal::NotUtf8(place)
+        | Refusal::NotGrammar(place)
+        | Refusal::BadEscape(place)
+        | Refusal::BadTime(place)
+        | Refusal::BadNumber(place)
+        | Refusal::TooDeep(place)
+        | Refusal::TapeTooShort(place)
+        | Refusal::StoreTooShort(place)
+        | Refusal::NotWellFormed(place)
+        | Refusal::NoJsonForm(place)
+        | Refusal::OutputTooShort(place)
+        | Refusal::WrittenTooLong(place)
+        | Refusal::NoSuchRecord(place)
+        | Refusal::RepeatedKey(place) => place as u64,
     }
 }

@@ -5,11 +5,8 @@ use native.Mathlib.Omega.{arith}
 use mir.Syntax.{w32}
 use mir.ValLaws.{to_z-of_z}
 use Rattle.lanternrung.specs.Told.{plain_fields, number_fields}
-use Rattle.meaning.proofs.Records.{flag_small}
-use Rattle.lanternrung.proofs.exports.number_fields.Goals as goal
-
-pub overflow_add-flag : goal.overflow_add-flag
-overflow_add-flag c = omega (arith, c.flag.ensures, flag_small c.in-Infinite.minus)
+use Rattle.lanternrung.proofs.ToldLaws.{flag_is}
+use Rattle.lanternrung.proofs.exports.FieldsFromNumber.from.Goals as goal
 
 pub returns-in-NotANumber : goal.returns-in-NotANumber
 unfolding number_fields
@@ -17,13 +14,15 @@ returns-in-NotANumber c = c.plain.ensures ∙ sym (ap number_fields c.in-NotANum
 
 pub returns-in-Infinite : goal.returns-in-Infinite
 unfolding number_fields
-returns-in-Infinite c = c.plain-in-Infinite.ensures ∙ ap (λ (x : ℕ). plain_fields 4 (1 + x) 0 0) c.flag.ensures
+returns-in-Infinite c = c.plain-in-Infinite.ensures
+    ∙ ap (λ (x : ℕ). plain_fields 4 (1 + x) 0 0) (c.from.ensures ∙ flag_is c.in-Infinite.minus)
     ∙ sym (ap number_fields c.in-Infinite.is)
 
 pub returns-in-Finite : goal.returns-in-Finite
 unfolding number_fields
 returns-in-Finite c = rw (
-  c.flag-in-Finite.ensures,
-  to_z-of_z w32 c.in-Finite.power (record { sfits = c.in-Finite.known_told-in-Finite-1-own.given.1.1.0.1 }),
+  c.from-in-Finite.ensures,
+  flag_is c.in-Finite.minus,
+  to_z-of_z w32 c.in-Finite.power (record { sfits = omega arith }),
   c.in-Finite.is,
 )
