@@ -10,8 +10,9 @@ use lib.ListN.{length, length-append}
 use borrow.Author.Tests.{leb-false}
 use Rattle.rules.specs.Rfc3629.{Judged}
 use Rattle.rules.proofs.Outcomes.{utf8_fault}
-use Rattle.rules.specs.declared.Utf8Answer.{Utf8Answer}
-use Rattle.rules.specs.declared.Utf8Answer.TheVariants.{Done, IllFormed}
+use Rattle.std.specs.Prelude.{Result}
+use Rattle.std.specs.Prelude as Std
+use Rattle.rules.specs.declared.IllFormed.{IllFormed}
 use Rattle.rules.specs.Between.Decided.{judged}
 use Rattle.rules.proofs.Decided.{judged_is}
 use Rattle.meaning.specs.Letters.{letters, ch}
@@ -513,10 +514,10 @@ read_kept (b ∷ t) p c h =
     let e : p + suc (length t) ≡ suc p + length t = omega arith in
     rw e (read_kept t (suc p) (step p c b) (step_kept p c b h))
 
-fault_place : (t : List ℕ) (a : Utf8Answer) → Judged t a → VerdictKept (length t) (decoded a t)
+fault_place : (t : List ℕ) (a : Result (Unit {0}) IllFormed) → Judged t a → VerdictKept (length t) (decoded a t)
 unfolding decoded reading
-fault_place t Done j = let e : 0 + length t ≡ length t = omega arith in rw e at (read_kept t 0 (at (base want) depth_limit []) tt)
-fault_place t (IllFormed k) j = let f = utf8_fault j in omega (arith, simp length-append at (ap length f.split), f.place)
+fault_place t (Std.Ok v) j = let e : 0 + length t ≡ length t = omega arith in rw e at (read_kept t 0 (at (base want) depth_limit []) tt)
+fault_place t (Std.Err k) j = let f = utf8_fault j in omega (arith, simp length-append at (ap length f.split), f.place)
 
 -- every refusal's place is at most the text's length
 pub place_within : (t : List ℕ) → VerdictKept (length t) (verdict t)

@@ -7,8 +7,9 @@ use native.Mathlib.Omega.{arith}
 use lib.Dec.{leb}
 use lib.ListN.{length}
 use borrow.Author.Tests.{le-leb, leb-true}
-use Rattle.rules.specs.declared.Utf8Answer.{Utf8Answer}
-use Rattle.rules.specs.declared.Utf8Answer.TheVariants.{Done, IllFormed}
+use Rattle.std.specs.Prelude.{Result}
+use Rattle.std.specs.Prelude as Std
+use Rattle.rules.specs.declared.IllFormed.{IllFormed}
 use Rattle.rules.specs.Between.Decided.{judged}
 use Rattle.rules.proofs.Decided.{judged_done, done_judged}
 use Rattle.meaning.specs.Limits.{text_limit, depth_limit}
@@ -42,9 +43,9 @@ pub sound : (t : List ℕ) (m : Meaning) → verdict t ≡ Ok m → Loose true t
 unfolding verdict decoded
 sound t m e = by_length (leb (length t) text_limit) refl e
   where
-    by_utf8 : length t ≤ text_limit → (a : Utf8Answer) → judged t ≡ a → decoded a t ≡ Ok m → Loose true t m
-    by_utf8 l Done f g = derives t m (judged_done f) l g
-    by_utf8 l (IllFormed k) f g = absurd (refused g)
+    by_utf8 : length t ≤ text_limit → (a : Result (Unit {0}) IllFormed) → judged t ≡ a → decoded a t ≡ Ok m → Loose true t m
+    by_utf8 l (Std.Ok v) f g = derives t m (judged_done f) l g
+    by_utf8 l (Std.Err k) f g = absurd (refused g)
 
     by_length : (x : Bool) → leb (length t) text_limit ≡ x → cond x (decoded (judged t) t) (No TextTooLong) ≡ Ok m → Loose true t m
     by_length true f g = by_utf8 (leb-true _ _ f) (judged t) refl g

@@ -9,8 +9,9 @@ use lib.Dec.{leb}
 use lib.ListN.{length}
 use borrow.Author.Tests.{le-leb, lt-leb, leb-true, leb-false}
 use Rattle.rules.specs.Rfc3629.{Octets, Judged, ill}
-use Rattle.rules.specs.declared.Utf8Answer.{Utf8Answer}
-use Rattle.rules.specs.declared.Utf8Answer.TheVariants.{Done, IllFormed}
+use Rattle.std.specs.Prelude.{Result}
+use Rattle.std.specs.Prelude as Std
+use Rattle.rules.specs.declared.IllFormed.{IllFormed}
 use Rattle.rules.specs.Between.Decided.{judged}
 use Rattle.rules.proofs.Decided.{judged_is, judged_done, done_judged}
 use Rattle.rules.proofs.Outcomes.{one_outcome_utf8, utf8_fault}
@@ -81,7 +82,7 @@ one_refusal {t} {r} {s} o x y = same_no (sym ((refusals t o r).1 x) ∙ (refusal
 no_not_ok : {r : Refusal} {m : Meaning} → Ok m ≡ No r → ⊥
 no_not_ok e = let z : ◌≡◌ {A = ℕ} 0 1 = cc in omega arith
 
-short_verdict : (t : List ℕ) (a : Utf8Answer) → length t ≤ text_limit → judged t ≡ a → verdict t ≡ decoded a t
+short_verdict : (t : List ℕ) (a : Result (Unit {0}) IllFormed) → length t ≤ text_limit → judged t ≡ a → verdict t ≡ decoded a t
 unfolding verdict
 short_verdict t a l e = rw (le-leb (length t) text_limit l, e)
 
@@ -89,9 +90,9 @@ from_verdict : (t : List ℕ) (r : Refusal) → verdict t ≡ No r → LooseRefu
 unfolding verdict decoded
 from_verdict t r e = by_length (leb (length t) text_limit) refl e
   where
-    by_utf8 : length t ≤ text_limit → (a : Utf8Answer) → judged t ≡ a → decoded a t ≡ No r → LooseRefused t r
-    by_utf8 l Done f g = let o = judged_done f in LooseRefused.refused l o ((refusals t o r).0 g)
-    by_utf8 l (IllFormed k) f g = subst (LooseRefused t) (same_no g) (not_utf8 l (utf8_fault (subst (Judged t) f (judged_is t))))
+    by_utf8 : length t ≤ text_limit → (a : Result (Unit {0}) IllFormed) → judged t ≡ a → decoded a t ≡ No r → LooseRefused t r
+    by_utf8 l (Std.Ok v) f g = let o = judged_done f in LooseRefused.refused l o ((refusals t o r).0 g)
+    by_utf8 l (Std.Err k) f g = subst (LooseRefused t) (same_no g) (not_utf8 l (utf8_fault (subst (Judged t) f (judged_is t))))
 
     by_length : (x : Bool) → leb (length t) text_limit ≡ x → cond x (decoded (judged t) t) (No TextTooLong) ≡ No r → LooseRefused t r
     by_length true f g = by_utf8 (leb-true _ _ f) (judged t) refl g
@@ -100,8 +101,8 @@ from_verdict t r e = by_length (leb (length t) text_limit) refl e
 to_verdict : (t : List ℕ) (r : Refusal) → LooseRefused t r → verdict t ≡ No r
 unfolding verdict decoded
 to_verdict t r (too_long h) = rw (lt-leb (length t) text_limit h)
-to_verdict t r (not_utf8 {k = k} l f) = short_verdict t (IllFormed k) l (one_outcome_utf8 (judged_is t) (ill f refl))
-to_verdict t r (LooseRefused.refused l o x) = short_verdict t Done l (done_judged o) ∙ (refusals t o r).1 x
+to_verdict t r (not_utf8 {k = k} l f) = short_verdict t (Std.Err (record { place = k })) l (one_outcome_utf8 (judged_is t) (ill f refl))
+to_verdict t r (LooseRefused.refused l o x) = short_verdict t (Std.Ok tt) l (done_judged o) ∙ (refusals t o r).1 x
 
 pub loose_refusals : (t : List ℕ) (r : Refusal) → (verdict t ≡ No r) ↔ LooseRefused t r
 loose_refusals t r = (from_verdict t r, to_verdict t r)
