@@ -7,13 +7,20 @@ use native.Mathlib.Decide.{dec_lt, ℕ_discrete}
 use native.Mathlib.Omega.{arith}
 use lib.Count.{count_leading_zeros}
 use lib.Dec.{eqb, leb, ltb}
-use lib.ListN.{length, get_or}
+use lib.ListN.{length, get_or, take, drop, length-drop}
 use borrow.Author.Tests.{eqb-true, eqb-false, leb-true, leb-false, le-leb, lt-ltb, le-ltb}
-use Rattle.rules.specs.Rfc3629.{Octets, Judged, done}
-use Rattle.rules.specs.Between.Posts.{Passed, CharAt, Tails, Tailed, tailed, broken}
+use Rattle.std.specs.Bool.{then_some}
+use Rattle.std.proofs.lemmas.List.{get_or-take, get_or-drop, length-take-le}
+use Rattle.std.specs.List.{AllWithin, HoldsAt}
+use Rattle.std.specs.Bool.{MatchBool}
+use Rattle.rules.specs.Rfc3629.{Tail, Octets, Judged, done, ill}
+use Rattle.rules.specs.Between.Posts.{Lead, Passed, CharAt, Tails, low_of, high_of}
+use Rattle.rules.specs.Between.Tests.{Decides, holds, fails}
 use Rattle.rules.specs.Between.Decided.{ones, conj, bounds, is_wide, length_at, fault_from, judged}
+use Rattle.std.specs.declared.option.Option.{Option}
+use Rattle.std.specs.declared.option.Option.TheVariants.{Some, None}
 use Rattle.std.specs.declared.result.Result.TheVariants.{Ok, Err}
-use Rattle.rules.proofs.Places.{step1, down⁻, Wide, no_char, ascii_char, back2, back3, back4}
+use Rattle.rules.proofs.Places.{step1, down, down⁻, led, no_wide_lead, Wide, no_char, ascii_char, back2, back3, back4}
 use Rattle.rules.proofs.Outcomes.{one_outcome_utf8, utf8_done}
 use Rattle.rules.proofs.Runs.{passed_none, passed_char, char_room, fault_at_lem, all_passed}
 
@@ -103,29 +110,76 @@ ascii a e = go (dec_lt a 256)
     go (no h) = let z : 255 - a ≡ 0 = omega arith in absurd (omega (arith, rw z at e))
 
 -- a character of as many bytes as the first says
-by_count : (s : List ℕ) (i n : ℕ) → Wide s i n → CharAt s i n
+by_count : (s : List ℕ) (i n : ℕ) → Wide s i n → CharAt s i (Some n)
 by_count s i n w = go (ℕ_discrete n 2) (ℕ_discrete n 3)
   where
-    go : Dec (n ≡ 2) → Dec (n ≡ 3) → CharAt s i n
+    go : Dec (n ≡ 2) → Dec (n ≡ 3) → CharAt s i (Some n)
     go (yes e) q = rw e (back2 s i (subst (Wide s i) e w))
     go (no f) (yes e) = rw e (back3 s i (subst (Wide s i) e w))
     go (no f) (no g) = let e : n ≡ 4 = omega arith in rw e (back4 s i (subst (Wide s i) e w))
 
 -- where all but the tails is known
-pub by_tails : (s : List ℕ) (i n r : ℕ) → (n ≡ 0 → ⊥) → n ≡ ones (get_or s i 0) → (Tails s i n → Wide s i n) → Tailed s i n r → CharAt s i r
-by_tails s i n r z e f (tailed t) = by_count s i n (f t)
-by_tails s i n r z e f (broken g) =
-    no_char s i (λ q. z (e ∙ q)) (λ m w. let v = subst (Wide s i) (w.count ∙ sym e) w in g (record { third = v.third; fourth = v.fourth }))
+-- where all but the tails is known: whether each byte from the third on is one
+pub by_tails : (s : List ℕ) (i n : ℕ) (r : Bool) → Lead (get_or s i 0) n → (n ≡ 1 → ⊥) → i + n ≤ length s → low_of (get_or s i 0) ≤ get_or s (i + 1) 0
+    → get_or s (i + 1) 0 ≤ high_of (get_or s i 0) → Decides (Tails s i n) r → CharAt s i (then_some r n)
+by_tails s i n true x f h l u (holds t) =
+    let z = led x f in
+    by_count s i n record {
+      two = z.0;
+      four = z.1;
+      fits = h;
+      count = z.2;
+      from = z.3;
+      to = z.4;
+      low = l;
+      high = u;
+      third = t.third;
+      fourth = t.fourth;
+    }
+by_tails s i n false x f h l u (fails g) = no_wide_lead s i n x f (λ w. g (record { third = w.third; fourth = w.fourth }))
+
+-- the bytes from the third on, as a slice
+module _ (s : List ℕ) (i n : ℕ) (l : 2 ≤ n) (u : n ≤ 4) (f : i + n ≤ length s) where
+  abbrev pub behind : List ℕ
+  behind = take (i + n - (i + 2)) (drop (i + 2) s)
+
+  so_many : length behind ≡ n - 2
+  so_many = omega (arith, length-take-le (i + n - (i + 2)) (drop (i + 2) s) (omega (arith, length-drop (i + 2) s)))
+
+  here : (k j : ℕ) → k < n - 2 → j ≡ i + 2 + k → get_or behind k 0 ≡ get_or s j 0
+  here k j h e = rw e (get_or-take (i + n - (i + 2)) (drop (i + 2) s) k 0 (omega arith) ∙ get_or-drop (i + 2) s k 0)
+
+  tail_at : (k j : ℕ) → k < n - 2 → j ≡ i + 2 + k → Tail (get_or behind k 0) → (0x80 ≤ get_or s j 0) × (get_or s j 0 ≤ 0xBF)
+  tail_at k j h e t = let z = here k j h e in omega arith
+
+  no_tail_at : (k : ℕ) → k < n - 2 → (Tail (get_or behind k 0) → ⊥) → Tails s i n → Dec (k ≡ 0) → ⊥
+  no_tail_at k h f t (yes e) = let z = here k (i + 2) h (omega arith) in let p = t.third (omega arith) in f (omega arith)
+  no_tail_at k h f t (no e) = let z = here k (i + 3) h (omega arith) in let p = t.fourth (omega arith) in f (omega arith)
+
+  pub all_tails : (r : Bool) → MatchBool r (AllWithin Tail behind 0 (length behind)) ((k : ℕ) × (k < length behind) × HoldsAt (λ b. Tail b → ⊥) behind k)
+      → Decides (Tails s i n) r
+  all_tails true x = holds (record {
+    third = λ h. tail_at 0 (i + 2) (omega arith) (omega arith) (x 0 0 (omega arith) (omega (arith, so_many)));
+    fourth = λ h. tail_at 1 (i + 3) (omega arith) (omega arith) (x 1 0 (omega arith) (omega (arith, so_many)));
+  })
+  all_tails false (k, h, g) = fails (λ t. no_tail_at k (omega (arith, so_many)) (g 0) t (ℕ_discrete k 0))
+
+no_ascii : (s : List ℕ) (i : ℕ) → (ones (get_or s i 0) ≡ 0 → ⊥) → 0x80 ≤ get_or s i 0
+no_ascii s i z = go (dec_lt (get_or s i 0) 0x80)
+  where
+    go : Dec (get_or s i 0 < 0x80) → 0x80 ≤ get_or s i 0
+    go (yes h) = absurd (z (omega (arith, down step1 (get_or s i 0) (omega arith) h)))
+    go (no h) = omega arith
 
 pub length_is : (s : List ℕ) (i : ℕ) → i < length s → CharAt s i (length_at s i)
 unfolding length_at
 length_is s i h = go (eqb (ones (get_or s i 0)) 0) refl (is_wide s i (ones (get_or s i 0))) refl
   where
     go : (x : Bool) → eqb (ones (get_or s i 0)) 0 ≡ x → (y : Bool) → is_wide s i (ones (get_or s i 0)) ≡ y
-        → CharAt s i (cond x 1 (cond y (ones (get_or s i 0)) 0))
+        → CharAt s i (cond x (Some 1) (cond y (Some (ones (get_or s i 0))) None))
     go true e y f = ascii_char s i h (ascii (get_or s i 0) (eqb-true _ _ e))
     go false e true f = by_count s i (ones (get_or s i 0)) (is_wide_lem s i _ refl f)
-    go false e false f = no_char s i (eqb-false _ _ e) (λ n w. differ (sym f ∙ ap (is_wide s i) (sym w.count) ∙ wide_is s i n w))
+    go false e false f = no_char s i (no_ascii s i (eqb-false _ _ e)) (λ n w. differ (sym f ∙ ap (is_wide s i) (sym w.count) ∙ wide_is s i n w))
       where
         differ : false ≡ true → ⊥
         differ g = subst (λ (x : Bool). cond x ⊥ Unit) g tt
@@ -133,16 +187,16 @@ length_is s i h = go (eqb (ones (get_or s i 0)) 0) refl (is_wide s i (ones (get_
 fault_is : (f : ℕ) (s : List ℕ) (i : ℕ) → Passed s i → length s ≤ i + f → Judged s (fault_from f s i)
 unfolding fault_from
 fault_is zero s i p h = all_passed s i p (omega arith)
-fault_is (suc f) s i p h = go (fault_is f s (i + length_at s i)) (leb (length s) i) refl (eqb (length_at s i) 0) refl
+fault_is (suc f) s i p h = go (λ n q l. fault_is f s (i + n) q l) (leb (length s) i) refl (length_at s i) (λ l. length_is s i l)
   where
-    go : (Passed s (i + length_at s i) → length s ≤ i + length_at s i + f → Judged s (fault_from f s (i + length_at s i))) → (x : Bool) → leb (length s) i ≡ x
-        → (y : Bool) → eqb (length_at s i) 0 ≡ y → Judged s (cond x (Ok tt) (cond y (Err (record { place = i })) (fault_from f s (i + length_at s i))))
-    go k true e y g = all_passed s i p (leb-true _ _ e)
-    go k false e true g = fault_at_lem s i _ p (leb-false _ _ e) (length_is s i (leb-false _ _ e)) (eqb-true _ _ g)
-    go k false e false g =
-        let c = length_is s i (leb-false _ _ e) in
-        let z = eqb-false _ _ g in
-        k (passed_char s i (length_at s i) p c z) (omega (arith, char_room c z))
+    go : ((n : ℕ) → Passed s (i + n) → length s ≤ i + n + f → Judged s (fault_from f s (i + n))) → (x : Bool) → leb (length s) i ≡ x
+        → (o : Option ℕ) → (i < length s → CharAt s i o)
+        → Judged s (cond x (Ok tt) (elim o [ None ↦ Err (record { place = i }) | Some n ↦ fault_from f s (i + n) ]))
+    go r true e o k = all_passed s i p (leb-true _ _ e)
+    go r false e None k = let l = leb-false _ _ e in ill (fault_at_lem s i p l (k l)) refl
+    go r false e (Some n) k =
+        let c = k (leb-false _ _ e) in
+        r n (passed_char s i n p c) (omega (arith, char_room c))
 
 pub judged_is : (s : List ℕ) → Judged s (judged s)
 unfolding judged

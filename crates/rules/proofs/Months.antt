@@ -1,7 +1,7 @@
 -- Leap years, the days of a month, and that the test of a date that computes is right. Assumes nothing.
 use mathlib.Core.Path.{◌≡◌, refl, sym, ◌∙◌, subst}
 use mathlib.Core.Bool.{Bool, true, false, cond, not}
-use Prim.Native.Nat.{ℕ, zero, suc, ◌%◌, ◌≤◌, ◌<◌}
+use Prim.Native.Nat.{ℕ, zero, suc, ◌%◌, ◌≤◌}
 use native.Mathlib.Decide.{ℕ_discrete, dec_le}
 use native.Mathlib.Omega.{arith}
 use lib.Dec.{eqb, leb}
@@ -9,10 +9,12 @@ use borrow.Author.Tests.{eq-eqb, ne_eqb, le-leb, lt-leb, leb-true}
 use Rattle.rules.specs.Rfc3339.{Leap, fourth, fourth_hundred, Days, january, february_normal, february_leap, march, april, may, june, july, august}
 use Rattle.rules.specs.Rfc3339.{september, october, november, december, Date, Dated, done}
 use Rattle.rules.specs.Rfc3339
-use Rattle.rules.specs.Between.Decided.{is_leap, long_or_short, days_of, is_date}
+use Rattle.rules.specs.Between.Decided.{is_leap, long_or_short, days_of, day_of, is_date}
 use Rattle.rules.specs.Between.Posts.{Lasts, month, no_month}
 use Rattle.rules.specs.Between.Tests.{Decides, holds, fails}
-use Rattle.std.specs.declared.result.Result.TheVariants.{Ok, Err}
+use Rattle.std.specs.declared.option.Option.{Option}
+use Rattle.std.specs.declared.option.Option.TheVariants.{Some, None}
+use Rattle.std.specs.declared.result.Result.TheVariants.{Err}
 use Rattle.rules.specs.declared.NoDate.{NoDate}
 
 -- ---- leap years, as the code tests them
@@ -55,21 +57,12 @@ is_month october = omega arith
 is_month november = omega arith
 is_month december = omega arith
 
-pub past_december : (y m : ℕ) → 12 < m → Lasts y m 0
-past_december y m h = no_month (λ n x. omega (arith, is_month x))
-
-february : (y : ℕ) (l : Bool) → Decides (Leap y) l → Lasts y 2 (cond l 29 28)
-february y true (holds x) = month (february_leap x)
-february y false (fails f) = month (february_normal f)
-
-pub february_is : (y m : ℕ) {k l : Bool} → m ≡ 2 → k ≡ l → Decides (Leap y) k → Lasts y m (cond l 29 28)
-february_is y m {k} {l} e f i = rw (e, ← f) (february y k i)
-
-pub before_january : (y m : ℕ) → m < 1 → Lasts y m 0
-before_january y m h = no_month (λ n x. omega (arith, is_month x))
+pub february_is : (y m : ℕ) (l : Bool) → m ≡ 2 → Decides (Leap y) l → Lasts y m (Some (cond l 29 28))
+february_is y m true e (holds x) = rw e (month (february_leap x))
+february_is y m false e (fails f) = rw e (month (february_normal f))
 
 -- each month but February
-pub by_rule : (y m : ℕ) → 1 ≤ m → m ≤ 12 → (m ≡ 2 → ⊥) → Lasts y m (long_or_short m)
+pub by_rule : (y m : ℕ) → 1 ≤ m → m ≤ 12 → (m ≡ 2 → ⊥) → Lasts y m (Some (long_or_short m))
 by_rule y zero l h f = absurd (omega arith)
 by_rule y (suc zero) l h f = month january
 by_rule y (suc (suc zero)) l h f = absurd (f refl)
@@ -85,9 +78,21 @@ by_rule y (suc (suc (suc (suc (suc (suc (suc (suc (suc (suc (suc zero)))))))))))
 by_rule y (suc (suc (suc (suc (suc (suc (suc (suc (suc (suc (suc (suc zero)))))))))))) l h f = month december
 by_rule y (suc (suc (suc (suc (suc (suc (suc (suc (suc (suc (suc (suc (suc m))))))))))))) l h f = absurd (omega arith)
 
+-- what `days` answers, arm by arm
+pub leap_february : (y m : ℕ) → m ≡ 2 → Decides (Leap y) true → Lasts y m (Some 29)
+leap_february y m e x = february_is y m true e x
+
+pub normal_february : (y m : ℕ) → m ≡ 2 → Decides (Leap y) false → Lasts y m (Some 28)
+normal_february y m e x = february_is y m false e x
+
+pub out_of_year : (y m : ℕ) → ((1 ≤ m) × (m ≤ 12) → ⊥) → Lasts y m None
+out_of_year y m f = no_month (λ n x. f (is_month x))
+
+pub ruleset arms = (leap_february, normal_february, by_rule, out_of_year)
+
 -- ---- one answer
 
-days_are : {y m n : ℕ} {l : Bool} → Decides (Leap y) l → Days y m n → n ≡ days_of l m
+days_are : {y m n : ℕ} {l : Bool} → Decides (Leap y) l → Days y m n → Some n ≡ days_of l m
 days_are i january = refl
 days_are (holds x) (february_normal f) = absurd (f x)
 days_are (fails g) (february_normal f) = refl
@@ -114,16 +119,11 @@ leap_is y = go (ℕ_discrete (y % 4) 0) (ℕ_discrete (y % 100) 0)
     go (yes e) (yes f) = rw (eq-eqb (y % 4) 0 e, eq-eqb (y % 100) 0 f) (leap_hundred y e f)
 
 pub same_days : {y m a b : ℕ} → Days y m a → Days y m b → a ≡ b
-same_days {y} p q = days_are (leap_is y) p ∙ sym (days_are (leap_is y) q)
+same_days {y} p q = let e = days_are (leap_is y) p ∙ sym (days_are (leap_is y) q) in cc
 
 -- what the days of a month decide of a day
-pub too_late : (y m d n : ℕ) → Lasts y m n → n < d → {e : NoDate} → Dated y m d (Err e)
-too_late y m d n (month x) h {e} = Rfc3339.none (λ t. omega (arith, same_days x t.month)) refl
-too_late y m d n (no_month f) h {e} = Rfc3339.none (λ t. f t.days t.month) refl
-
-pub a_date : (y m d n : ℕ) → y ≤ 9999 → 1 ≤ d → Lasts y m n → d ≤ n → Dated y m d (Ok tt)
-a_date y m d n a b (month x) h = done (record { year = a; days = n; month = x; from = b; to = h }) refl
-a_date y m d n a b (no_month f) h = absurd (omega arith)
+pub no_day : (y m d n : ℕ) → Lasts y m (Some n) → ((1 ≤ d) × (d ≤ n) → ⊥) → {e : NoDate} → Dated y m d (Err e)
+no_day y m d n (month x) f = Rfc3339.none (λ t. f (t.from, omega (arith, same_days x t.month))) refl
 
 -- ---- whether three numbers are a date, as a test that computes
 
@@ -132,34 +132,27 @@ unfolding is_date
 date_is {y} {m} {d} t =
     rw (le-leb y 9999 t.year, le-leb 1 d t.from, ← days_are (leap_is y) t.month) (le-leb d t.days t.to)
 
-is_days : {y m n : ℕ} → Lasts y m n → 0 < n → Days y m n
-is_days (month x) h = x
-is_days (no_month f) h = absurd (omega arith)
-
 pub days_stand : (y m : ℕ) → Lasts y m (days_of (is_leap y) m)
 days_stand y m = go (ℕ_discrete m 2) (dec_le 1 m) (dec_le m 12)
   where
     go : Dec (m ≡ 2) → Dec (1 ≤ m) → Dec (m ≤ 12) → Lasts y m (days_of (is_leap y) m)
-    go (yes e) q p = rw (eq-eqb m 2 e) (february_is y m e refl (leap_is y))
-    go (no f) (no l) p = rw (ne_eqb m 2 f, lt-leb 1 m (omega arith)) (before_january y m (omega arith))
-    go (no f) (yes l) (no h) = rw (ne_eqb m 2 f, le-leb 1 m l, lt-leb m 12 (omega arith)) (past_december y m (omega arith))
+    go (yes e) q p = rw (eq-eqb m 2 e) (february_is y m (is_leap y) e (leap_is y))
+    go (no f) (no l) p = rw (ne_eqb m 2 f, lt-leb 1 m (omega arith)) (out_of_year y m (λ p. omega arith))
+    go (no f) (yes l) (no h) = rw (ne_eqb m 2 f, le-leb 1 m l, lt-leb m 12 (omega arith)) (out_of_year y m (λ p. omega arith))
     go (no f) (yes l) (yes h) = rw (ne_eqb m 2 f, le-leb 1 m l, le-leb m 12 h) (by_rule y m l h f)
 
 both : (a b : Bool) → cond a b false ≡ true → (a ≡ true) × (b ≡ true)
 both true b e = (refl, e)
 both false b e = absurd (subst (λ (x : Bool). cond x ⊥ Unit) e tt)
 
+-- a day of a month that has so many
+by_days : {y m d : ℕ} (o : Option ℕ) → Lasts y m o → day_of d o ≡ true → y ≤ 9999 → 1 ≤ d → Date y m d
+by_days {d = d} (Some n) (month x) e h f = record { year = h; days = n; month = x; from = f; to = leb-true d n e }
+by_days None l e h f = absurd (subst (λ (x : Bool). cond x ⊥ Unit) e tt)
+
 pub is_date_lem : {y m d : ℕ} → is_date y m d ≡ true → Date y m d
 unfolding is_date
 is_date_lem {y} {m} {d} e =
     let p = both (leb y 9999) _ e in
     let q = both (leb 1 d) _ p.1 in
-    let f = leb-true 1 d q.0 in
-    let t = leb-true d (days_of (is_leap y) m) q.1 in
-    record {
-      year = leb-true y 9999 p.0;
-      days = days_of (is_leap y) m;
-      month = is_days (days_stand y m) (omega arith);
-      from = f;
-      to = t;
-    }
+    by_days (days_of (is_leap y) m) (days_stand y m) q.1 (leb-true y 9999 p.0) (leb-true 1 d q.0)

@@ -1,5 +1,5 @@
 -- Bytes each of which may follow the three before it are UTF-8 up to the beginning of the last character. Assumes nothing.
-use mathlib.Core.Path.{◌≡◌, refl, sym, ap, ◌∙◌}
+use mathlib.Core.Path.{◌≡◌, sym, ap, ◌∙◌}
 use mathlib.Core.List.{List, ◌∷◌, ◌++◌}
 use Prim.Native.Nat.{ℕ, zero, suc, ◌+◌, ◌-◌, ◌≤◌, ◌<◌}
 use native.Mathlib.Decide.{dec_lt, ℕ_discrete}
@@ -7,9 +7,9 @@ use native.Mathlib.Omega.{arith}
 use lib.ListN.{length, get_or, take, drop, take-append-drop, length-drop}
 use lib.Seq.{length-take-le}
 use Rattle.rules.specs.Rfc3629.{Char}
-use Rattle.rules.specs.Between.Posts.{AtMost, Ascii, Passed, CharAt, char, gap, low_of, high_of}
-use Rattle.rules.specs.Between.Beside.{Greater, IsTail, Wanted, Barred, Beside, Clean, Topped, BlockIs, plain, wide, faulty, Open, whole, one, two, three}
-use Rattle.rules.specs.Between.Beside.{Begun}
+use Rattle.rules.specs.Between.Posts.{AtMost, Ascii, Passed, CharAt, char, low_of, high_of}
+use Rattle.rules.specs.Between.Beside.{IsTail, Wanted, Barred, Beside, Clean, Topped, BlockIs, plain, wide, faulty, Open, whole, one, two, three}
+use Rattle.std.specs.declared.option.Option.TheVariants.{Some}
 use Rattle.rules.specs.declared.blocks.Block.{Block}
 use Rattle.rules.specs.declared.blocks.Block.TheVariants.{Plain, Wide}
 use Rattle.rules.proofs.Characters.{short}
@@ -99,7 +99,7 @@ at_same : (s : List ℕ) {i j : ℕ} → i ≡ j → get_or s i 0 ≡ get_or s j
 at_same s e = ap (λ (k : ℕ). get_or s k 0) e
 
 next1 : (s : List ℕ) (m n : ℕ) → n ≡ m + 1 → Passed s m → n ≤ length s → get_or s m 0 < 0x80 → Passed s n
-next1 s m n en p f h = rw en (passed_char s m 1 p (ascii_char s m (omega arith) h) (λ z. omega arith))
+next1 s m n en p f h = rw en (passed_char s m 1 p (ascii_char s m (omega arith) h))
 
 next2 : (s : List ℕ) (m i n : ℕ) → i ≡ m + 1 → n ≡ m + 2 → Passed s m → n ≤ length s
     → 0xC2 ≤ get_or s m 0 → get_or s m 0 < 0xE0 → 0x80 ≤ get_or s i 0 → get_or s i 0 ≤ 0xBF → Passed s n
@@ -107,14 +107,14 @@ next2 s m i n ei en p f a b c d =
     let g = at_same s ei in
     let u = up step2 (get_or s m 0) (omega arith) (omega arith) in let v = down step3 (get_or s m 0) (omega arith) (omega arith) in
     let q = Places.plain (get_or s m 0) (λ x. omega arith) (λ x. omega arith) (λ x. omega arith) (λ x. omega arith) in
-    rw en (passed_char s m 2 p (back2 s m (omega arith)) (λ z. omega arith))
+    rw en (passed_char s m 2 p (back2 s m (omega arith)))
 
 next3 : (s : List ℕ) (m i j n : ℕ) → i ≡ m + 1 → j ≡ m + 2 → n ≡ m + 3 → Passed s m → n ≤ length s → 0xE0 ≤ get_or s m 0 → get_or s m 0 < 0xF0
     → low_of (get_or s m 0) ≤ get_or s i 0 → get_or s i 0 ≤ high_of (get_or s m 0) → 0x80 ≤ get_or s j 0 → get_or s j 0 ≤ 0xBF → Passed s n
 next3 s m i j n ei ej en p f a b lo hi c d =
     let g = at_same s ei in let h = at_same s ej in
     let u = up step3 (get_or s m 0) (omega arith) (omega arith) in let v = down step4 (get_or s m 0) (omega arith) (omega arith) in
-    rw en (passed_char s m 3 p (back3 s m (omega arith)) (λ z. omega arith))
+    rw en (passed_char s m 3 p (back3 s m (omega arith)))
 
 next4 : (s : List ℕ) (m i j k n : ℕ) → i ≡ m + 1 → j ≡ m + 2 → k ≡ m + 3 → n ≡ m + 4 → Passed s m → n ≤ length s
     → 0xF0 ≤ get_or s m 0 → get_or s m 0 ≤ 0xF4 → low_of (get_or s m 0) ≤ get_or s i 0 → get_or s i 0 ≤ high_of (get_or s m 0)
@@ -122,7 +122,7 @@ next4 : (s : List ℕ) (m i j k n : ℕ) → i ≡ m + 1 → j ≡ m + 2 → k �
 next4 s m i j k n ei ej ek en p f a b lo hi c d x y =
     let g = at_same s ei in let h = at_same s ej in let l = at_same s ek in
     let u = up step4 (get_or s m 0) (omega arith) (omega arith) in let v = down step5 (get_or s m 0) (omega arith) (omega arith) in
-    rw en (passed_char s m 4 p (back4 s m (omega arith)) (λ z. omega arith))
+    rw en (passed_char s m 4 p (back4 s m (omega arith)))
 
 -- ---- one byte more
 
@@ -200,12 +200,6 @@ module _ (s : List ℕ) (here : ℕ) (c : Clean s here 32) (t : Topped s here 32
 -- ---- where a character begins
 
 module _ {s : List ℕ} {h : ℕ} where
-  pub open_room : Open s h → h + 3 ≤ length s
-  open_room (whole p a b c) = p.within
-  open_room (one p f a b c) = f
-  open_room (two p f a b c d) = f
-  open_room (three p f a b c d x y) = f
-
   pub back_one : Open s h → 0xC0 ≤ get_or s (h + 2) 0 → Passed s (h + 2)
   back_one (whole p a b c) l = absurd (omega arith)
   back_one (one p f a b c) l = p
@@ -217,12 +211,6 @@ module _ {s : List ℕ} {h : ℕ} where
   back_two (one p f a b c) l u = absurd (omega arith)
   back_two (two p f a b c d) l u = p
   back_two (three p f a b c d x y) l u = absurd (omega (arith, high_most (get_or s h 0)))
-
-  pub back_three : Open s h → 0xF0 ≤ get_or s h 0 → get_or s (h + 1) 0 < 0xE0 → get_or s (h + 2) 0 < 0xC0 → Passed s h
-  back_three (whole p a b c) l u v = absurd (omega arith)
-  back_three (one p f a b c) l u v = absurd (omega arith)
-  back_three (two p f a b c d) l u v = absurd (omega arith)
-  back_three (three p f a b c d x y) l u v = p
 
   pub back_none : Open s h → get_or s h 0 < 0xF0 → get_or s (h + 1) 0 < 0xE0 → get_or s (h + 2) 0 < 0xC0 → Passed s (h + 3)
   back_none (whole p a b c) l u v = p
@@ -246,27 +234,6 @@ open_ascii s h to o a l =
 
     least : (k : ℕ) → h ≤ k → k < to → get_or s k 0 < 0xC0
     least k m n = omega (arith, a.each k m n)
-
--- ---- what the loop over a block has passed
-
-pub clean_none : (s : List ℕ) (at : ℕ) → Clean s at 0
-clean_none s at = record { each = λ k h. absurd (omega arith) }
-
-module _ (s : List ℕ) (at n : ℕ) where
-  clean_more : Clean s at n → Beside (get_or s (at + n) 0) (get_or s (at + n + 1) 0) (get_or s (at + n + 2) 0) (get_or s (at + n + 3) 0) → Clean s at (n + 1)
-  clean_more c x = record { each = λ k h. go k h (ℕ_discrete k n) }
-    where
-      go : (k : ℕ) → k < n + 1 → Dec (k ≡ n) → Beside (get_or s (at + k) 0) (get_or s (at + k + 1) 0) (get_or s (at + k + 2) 0) (get_or s (at + k + 3) 0)
-      go k h (yes e) = rw e x
-      go k h (no e) = c.each k (omega arith)
-
-  -- the greater of two is 0 where both are
-  pub clean_next : {a f m : ℕ} → Greater a f m → (a ≡ 0 → Clean s at n)
-      → (f ≡ 0 → Beside (get_or s (at + n) 0) (get_or s (at + n + 1) 0) (get_or s (at + n + 2) 0) (get_or s (at + n + 3) 0)) → m ≡ 0 → Clean s at (n + 1)
-  clean_next g c x e = clean_more (c (omega arith)) (x (omega arith))
-
-  pub clean_all : n ≤ 32 → 32 ≤ n → Clean s at n → Clean s at 32
-  clean_all l u c = let z : n ≡ 32 = omega arith in rw z at c
 
 -- ---- a whole block
 
@@ -386,28 +353,15 @@ module _ (s : List ℕ) (i : ℕ) where
       let w : Places.Wide s i n = rw l at (Places.wide s i c (drop n (drop i s)) (sym (take-append-drop n (drop i s))) (λ z. p (sym l ∙ z))) in
       after_wide n x w (ℕ_discrete n 2) (ℕ_discrete n 3)
 
-  pub settled_char : (n : ℕ) → Settled s i → CharAt s i n → (n ≡ 0 → ⊥) → Settled s (i + n)
-  settled_char n x (char q f c) h = after_char n x f c (ℕ_discrete n 1)
-  settled_char n x (gap g) h = absurd (h refl)
+  pub settled_char : (n : ℕ) → Settled s i → CharAt s i (Some n) → Settled s (i + n)
+  settled_char n x (char q f c) = after_char n x f c (ℕ_discrete n 1)
 
-  pub begun_here : Passed s i → Settled s i → Begun s i
-  begun_here p x =
-      record {
-        passed = p;
-        opened = λ l.
-            whole_at s (i - 3) (i - 2) (i - 1) i (omega arith) (omega arith) (omega arith) p
-            (x.third (i - 3) (omega arith)) (x.prior (i - 2) (omega arith)) (x.last (i - 1) (omega arith));
-      }
+  pub opened : Passed s i → Settled s i → 3 ≤ i → Open s (i - 3)
+  opened p x l =
+      whole_at s (i - 3) (i - 2) (i - 1) i (omega arith) (omega arith) (omega arith) p
+      (x.third (i - 3) (omega arith)) (x.prior (i - 2) (omega arith)) (x.last (i - 1) (omega arith))
 
 -- ---- one turn of the loop over blocks
-
--- a block that ends with the text begins before the place that is known, and ends after it
-pub ahead : (at end here : ℕ) → (at ≤ end → here ≡ at) → (end ≤ at → here ≡ end) → at < end + 32 → at < here + 32
-ahead at end here f g l = go (dec_lt at end)
-  where
-    go : Dec (at < end) → at < here + 32
-    go (yes h) = omega (arith, f (omega arith))
-    go (no h) = omega (arith, g (omega arith))
 
 module _ (s : List ℕ) (here at : ℕ) (l : here ≤ at) (u : at ≤ here + 32) (f : here + 35 ≤ length s) (o : Open s at) where
   pub wide_on : {r : Block} → BlockIs s here r → r ≡ Wide → Open s (here + 32)

@@ -98,12 +98,6 @@ one_outcome_date {y} {m} {d} {a} {b} p q = same_date_answer a b (said p q)
 
 -- ---- the calls for C
 
-pub utf8_told : (s : List ℕ) (a : Result (Unit {0}) IllFormed) → Judged s a → Utf8Told s (number_said (utf8_said a)) (place_said (utf8_said a))
-utf8_told s a j = record { answer = a; judged = j; number_is = refl; place_is = refl }
-
-pub date_told : (y m d : ℕ) (a : Result (Unit {0}) NoDate) → Dated y m d a → DateTold y m d (number_said (date_said a)) (place_said (date_said a))
-date_told y m d a j = record { answer = a; dated = j; number_is = refl; place_is = refl }
-
 pub one_outcome_utf8_told : {s : List ℕ} {n p m q : ℕ} → Utf8Told s n p → Utf8Told s m q → (n ≡ m) × (p ≡ q)
 one_outcome_utf8_told t u =
     let e = ap utf8_said (one_outcome_utf8 t.judged u.judged) in

@@ -1,5 +1,5 @@
 -- A character as bounds on the bytes at a place: what `char_at` tests. Assumes nothing.
-use mathlib.Core.Path.{◌≡◌, refl, sym, ap, ◌∙◌}
+use mathlib.Core.Path.{◌≡◌, refl, sym, ap, ◌∙◌, subst}
 use mathlib.Core.Bool.{Bool}
 use mathlib.Core.List.{List, [], ◌∷◌, ◌++◌}
 use Prim.Native.Nat.{ℕ, suc, ◌+◌, ◌≤◌, ◌<◌}
@@ -13,7 +13,8 @@ use lib.Seq.{get_or-drop, drop-cons}
 use borrow.Author.Tests.{ne_eqb, le-leb, lt-leb, leb-true, leb-false}
 use Rattle.rules.specs.Rfc3629.{Char, utf8_1, utf8_2, utf8_3a, utf8_3b, utf8_3c, utf8_3d, utf8_4a, utf8_4b, utf8_4c, NoChar}
 use Rattle.rules.specs.Between.Decided.{ones}
-use Rattle.rules.specs.Between.Posts.{CharAt, char, gap, low_of, high_of}
+use Rattle.rules.specs.Between.Posts.{Lead, one, two, three, four, CharAt, char, gap, low_of, high_of}
+use Rattle.std.specs.declared.option.Option.TheVariants.{Some, None}
 use Rattle.rules.proofs.Computed.{every, below, agree, agreed}
 use Rattle.rules.proofs.Characters.{short}
 
@@ -106,6 +107,33 @@ pub record Wide (s : List ℕ) (i n : ℕ) : Type 0 where
   pub third : 3 ≤ n → (0x80 ≤ get_or s (i + 2) 0) × (get_or s (i + 2) 0 ≤ 0xBF)
   pub fourth : 4 ≤ n → (0x80 ≤ get_or s (i + 3) 0) × (get_or s (i + 3) 0 ≤ 0xBF)
 
+pub ruleset leads = (one, two, three, four)
+
+-- of a character of two bytes and more
+pub led : {a n : ℕ} → Lead a n → (n ≡ 1 → ⊥) → (2 ≤ n) × (n ≤ 4) × (n ≡ ones a) × (0xC2 ≤ a) × (a ≤ 0xF4)
+led (one x) f = absurd (f refl)
+led {a} (two x y) f = let u = up step2 a (omega arith) (omega arith) in let v = down step3 a (omega arith) (omega arith) in omega arith
+led {a} (three x y) f = let u = up step3 a (omega arith) (omega arith) in let v = down step4 a (omega arith) (omega arith) in omega arith
+led {a} (four x y) f = let u = up step4 a (omega arith) (omega arith) in let v = down step5 a (omega arith) (omega arith) in omega arith
+
+pub led_one : {a n : ℕ} → Lead a n → n ≡ 1 → a < 0x80
+led_one (one x) e = omega arith
+led_one (two x y) e = absurd (omega arith)
+led_one (three x y) e = absurd (omega arith)
+led_one (four x y) e = absurd (omega arith)
+
+lead_wide : {s : List ℕ} {i : ℕ} (n : ℕ) → Wide s i n → Lead (get_or s i 0) n
+lead_wide {s} {i} n w = go (ℕ_discrete n 2) (ℕ_discrete n 3)
+  where
+    a : get_or s i 0 < 256
+    a = omega arith
+
+    go : Dec (n ≡ 2) → Dec (n ≡ 3) → Lead (get_or s i 0) n
+    go (yes e) q = let v = down⁻ step3 (get_or s i 0) a (omega arith) in rw e (two (omega arith) (omega arith))
+    go (no f) (yes e) =
+        let u = up⁻ step3 (get_or s i 0) a (omega arith) in let v = down⁻ step4 (get_or s i 0) a (omega arith) in rw e (three (omega arith) (omega arith))
+    go (no f) (no g) = let u = up⁻ step4 (get_or s i 0) a (omega arith) in let e : n ≡ 4 = omega arith in rw e (four (omega arith) (omega arith))
+
 -- the bytes at a place, by what stands there
 module _ (s : List ℕ) (i : ℕ) where
   pub at_first_lem : (t : List ℕ) → drop i s ≡ t → get_or s i 0 ≡ get_or t 0 0
@@ -174,7 +202,7 @@ module _ (s : List ℕ) (i : ℕ) where
       omega arith
 
   -- no character stands where the byte is no ASCII and no bounds hold
-  no_wide : (ones (get_or s i 0) ≡ 0 → ⊥) → ((n : ℕ) → Wide s i n → ⊥) → NoChar (drop i s)
+  no_wide : 0x80 ≤ get_or s i 0 → ((n : ℕ) → Wide s i n → ⊥) → NoChar (drop i s)
   no_wide z f c r x e = go (ℕ_discrete (length c) 1)
     where
       go : Dec (length c ≡ 1) → ⊥
@@ -182,11 +210,21 @@ module _ (s : List ℕ) (i : ℕ) where
       go (yes h) =
           let q = short x (omega arith) in
           let a : get_or s i 0 ≡ q.byte = at_first_lem (q.byte ∷ r) (e ∙ ap (λ (l : List ℕ). l ++ r) q.is) in
-          let v = down step1 (get_or s i 0) (omega arith) (omega arith) in
-          z (omega arith)
+          omega arith
 
-  pub no_char : (ones (get_or s i 0) ≡ 0 → ⊥) → ((n : ℕ) → Wide s i n → ⊥) → CharAt s i 0
+  pub no_char : 0x80 ≤ get_or s i 0 → ((n : ℕ) → Wide s i n → ⊥) → CharAt s i None
   no_char z f = gap (no_wide z f)
+
+  -- where no character begins with the byte, and where none of as many bytes stands
+  pub no_lead : ((n : ℕ) → Lead (get_or s i 0) n → ⊥) → CharAt s i None
+  no_lead f = no_char (go (dec_lt (get_or s i 0) 0x80)) (λ n w. f n (lead_wide n w))
+    where
+      go : Dec (get_or s i 0 < 0x80) → 0x80 ≤ get_or s i 0
+      go (yes h) = absurd (f 1 (one (omega arith)))
+      go (no h) = omega arith
+
+  pub no_wide_lead : (n : ℕ) → Lead (get_or s i 0) n → (n ≡ 1 → ⊥) → (Wide s i n → ⊥) → CharAt s i None
+  no_wide_lead n x f g = let z = led x f in no_char (omega arith) (λ m w. g (subst (Wide s i) (w.count ∙ sym z.2) w))
 
   -- the bytes that are taken
   take_1 : i + 1 ≤ length s → take 1 (drop i s) ≡ get_or s i 0 ∷ []
@@ -212,16 +250,16 @@ module _ (s : List ℕ) (i : ℕ) where
       )
 
   -- the bounds give the rule
-  pub ascii_char : i < length s → get_or s i 0 < 0x80 → CharAt s i 1
+  pub ascii_char : i < length s → get_or s i 0 < 0x80 → CharAt s i (Some 1)
   ascii_char h l = char {n = 1} (omega arith) (omega arith) (rw (take_1 (omega arith)) (utf8_1 {a = get_or s i 0} (omega arith)))
 
-  pub back2 : Wide s i 2 → CharAt s i 2
+  pub back2 : Wide s i 2 → CharAt s i (Some 2)
   back2 w =
       let v = down⁻ step3 (get_or s i 0) (omega arith) (omega arith) in
       let p = plain (get_or s i 0) (λ x. omega arith) (λ x. omega arith) (λ x. omega arith) (λ x. omega arith) in
       char {n = 2} (omega arith) w.fits (rw (take_2 w.fits) (utf8_2 {a = get_or s i 0} {b = get_or s (i + 1) 0} (omega arith) (omega arith)))
 
-  pub back3 : Wide s i 3 → CharAt s i 3
+  pub back3 : Wide s i 3 → CharAt s i (Some 3)
   back3 w = char {n = 3} (omega arith) w.fits (rw (take_3 w.fits) (go (get_or s i 0) (get_or s (i + 1) 0) (get_or s (i + 2) 0) refl refl refl
       (ℕ_discrete (get_or s i 0) 0xE0) (ℕ_discrete (get_or s i 0) 0xED) (dec_lt (get_or s i 0) 0xED)))
     where
@@ -251,7 +289,7 @@ module _ (s : List ℕ) (i : ℕ) where
           let l = plain (get_or s i 0) p (λ x. omega (arith, v)) q (λ x. omega (arith, v)) in
           utf8_3d {a = a} {b = b} {c = c} (omega (arith, u, v, t)) (omega (arith, u, v, t)) (omega (arith, u, v, t))
 
-  pub back4 : Wide s i 4 → CharAt s i 4
+  pub back4 : Wide s i 4 → CharAt s i (Some 4)
   back4 w = char {n = 4} (omega arith) w.fits (rw (take_4 w.fits) (go (get_or s i 0) (get_or s (i + 1) 0) (get_or s (i + 2) 0) (get_or s (i + 3) 0) refl refl
       refl
       refl (ℕ_discrete (get_or s i 0) 0xF0) (ℕ_discrete (get_or s i 0) 0xF4)))

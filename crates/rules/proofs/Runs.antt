@@ -7,24 +7,15 @@ use native.Mathlib.Nat.{le_antisymm}
 use native.Mathlib.Omega.{arith}
 use lib.ListN.{length, get_or, take, drop, take-append-drop, length-drop}
 use lib.Seq.{take-suc, take-add, take-length, length-take-le}
-use Rattle.rules.specs.Rfc3629.{utf8_1, NoChar, Octets, none, Fault, Judged, done, ill}
+use Rattle.rules.specs.Rfc3629.{utf8_1, NoChar, Octets, none, Fault, Judged, done}
+use Rattle.std.specs.Option.{ok_or}
+use Rattle.std.specs.declared.option.Option.{Option}
+use Rattle.std.specs.declared.option.Option.TheVariants.{Some, None}
+use Rattle.std.specs.declared.result.Result.{Result}
 use Rattle.std.specs.declared.result.Result.TheVariants.{Ok, Err}
+use Rattle.rules.specs.declared.IllFormed.{IllFormed}
 use Rattle.rules.specs.Between.Posts.{AtMost, Ascii, Passed, CharAt, char, gap}
 use Rattle.rules.proofs.Characters.{join, one}
-
-pub at_most_none : (s : List ℕ) (at r : ℕ) → AtMost s at 0 r
-at_most_none s at r = record { each = λ k h. absurd (omega arith) }
-
--- one byte more, under a bound that is no less
-pub at_most_more : (s : List ℕ) (at n r q : ℕ) → AtMost s at n r → r ≤ q → get_or s (at + n) 0 ≤ q → AtMost s at (n + 1) q
-at_most_more s at n r q m l h = record { each = λ k b. go k b (ℕ_discrete k n) }
-  where
-    go : (k : ℕ) → k < n + 1 → Dec (k ≡ n) → get_or s (at + k) 0 ≤ q
-    go k b (yes e) = rw e h
-    go k b (no e) = omega (arith, m.each k (omega arith))
-
-pub at_most_all : (s : List ℕ) (at n r : ℕ) → n ≤ 32 → 32 ≤ n → AtMost s at n r → AtMost s at 32 r
-at_most_all s at n r l h m = subst (λ (k : ℕ). AtMost s at k r) (le_antisymm l h) m
 
 pub ascii_none : (s : List ℕ) (from : ℕ) → from ≤ length s → Ascii s from from
 ascii_none s from h = record { behind = omega arith; within = h; each = λ k a b. absurd (omega arith) }
@@ -81,13 +72,11 @@ passed_ascii s i to p a = record { within = a.within; good = octets_run s i to p
 pub passed_run : (s : List ℕ) (i to : ℕ) → Passed s i → i < length s → get_or s i 0 < 0x80 → Ascii s (i + 1) to → Passed s to
 passed_run s i to p h b a = passed_ascii s i to p (ascii_join s i (i + 1) to (ascii_more s i i (ascii_none s i p.within) h b) a)
 
-pub char_room : {s : List ℕ} {i n : ℕ} → CharAt s i n → (n ≡ 0 → ⊥) → (0 < n) × (i + n ≤ length s)
-char_room (char p f x) h = (p, f)
-char_room (gap g) h = absurd (h refl)
+pub char_room : {s : List ℕ} {i n : ℕ} → CharAt s i (Some n) → (0 < n) × (i + n ≤ length s)
+char_room (char p f x) = (p, f)
 
-pub passed_char : (s : List ℕ) (i n : ℕ) → Passed s i → CharAt s i n → (n ≡ 0 → ⊥) → Passed s (i + n)
-passed_char s i n p (char q f x) h = record { within = f; good = rw (take-add i n s) (join p.good (one x)) }
-passed_char s i n p (gap g) h = absurd (h refl)
+pub passed_char : (s : List ℕ) (i n : ℕ) → Passed s i → CharAt s i (Some n) → Passed s (i + n)
+passed_char s i n p (char q f x) = record { within = f; good = rw (take-add i n s) (join p.good (one x)) }
 
 fault : (s : List ℕ) (i : ℕ) → Passed s i → i < length s → NoChar (drop i s) → Fault s i
 fault s i p h g =
@@ -101,9 +90,18 @@ fault s i p h g =
       bad = g;
     }
 
-pub fault_at_lem : (s : List ℕ) (i n : ℕ) → Passed s i → i < length s → CharAt s i n → n ≡ 0 → Judged s (Err (record { place = i }))
-fault_at_lem s i n p h (char q f x) e = absurd (omega arith)
-fault_at_lem s i n p h (gap g) e = ill (fault s i p h g) refl
+pub fault_at_lem : (s : List ℕ) (i : ℕ) → Passed s i → i < length s → CharAt s i None → Fault s i
+fault_at_lem s i p h (gap g) = fault s i p h g
+
+-- what `ok_or` makes of a character's length
+pub char_ok : {s : List ℕ} {i n : ℕ} (e : IllFormed) (o : Option ℕ) {r : Result ℕ IllFormed} → CharAt s i o → r ≡ ok_or o e → r ≡ Ok n → CharAt s i (Some n)
+char_ok {s} {i} {n} e (Some m) x p q = let z : m ≡ n = cc in rw z at x
+char_ok e None x p q = let z : ◌≡◌ {A = ℕ} 0 1 = cc in absurd (omega arith)
+
+pub char_err : {s : List ℕ} {i : ℕ} (d : IllFormed) (o : Option ℕ) {r : Result ℕ IllFormed} → Passed s i → i < length s → CharAt s i o
+    → r ≡ ok_or o (record { place = i }) → r ≡ Err d → Fault s d.place
+char_err d (Some m) p h x q e = let z : ◌≡◌ {A = ℕ} 0 1 = cc in absurd (omega arith)
+char_err {s} {i} d None p h x q e = let z : d.place ≡ i = cc in rw z (fault_at_lem s i p h x)
 
 pub all_passed : (s : List ℕ) (i : ℕ) → Passed s i → length s ≤ i → Judged s (Ok tt)
 all_passed s i p h = done (subst Octets (ap (λ (k : ℕ). take k s) (le_antisymm p.within h) ∙ take-length s) p.good) refl

@@ -10,22 +10,16 @@ fn is_leap(year: u64) -> bool
     year % 4 == 0 && (year % 100 != 0 || year % 400 == 0)
 }
 
-// The days of a month, or 0 where the number is no month. February has its own rule; of the others, up to July the odd ones have 31 days and
-// from August on the even ones, and the rest have 30: `month / 8` is 0 up to July and 1 from August on.
-pub(crate) fn days(year: u64, month: u64) -> u64
+// The days of a month, or none where the number is no month. February has its own rule; of the others, up to July the odd ones have 31 days and
+// from August on the even ones, and the rest have 30: `month / 8` is 0 up to July and 1 from August on. One arm for both is faster than one for each.
+#[tactic(auto, using(crate::proofs::Months::arms))]
+pub(crate) fn days(year: u64, month: u64) -> Option<u64>
     ensures { Lasts year month result }
 {
-    if month < 1 {
-        return 0;
+    match month {
+        2 if is_leap(year) => Some(29),
+        2 => Some(28),
+        1..=12 => Some(30 + (month + month / 8) % 2),
+        _ => None,
     }
-    if month > 12 {
-        return 0;
-    }
-    if month == 2 {
-        if is_leap(year) {
-            return 29;
-        }
-        return 28;
-    }
-    30 + (month + month / 8) % 2
 }

@@ -23,16 +23,12 @@ pub struct NoDate;
 pub fn utf8(s: &[u8]) -> Result<(), IllFormed>
     ensures { Judged s.now result }
 {
-    let mut i = blocks::passed(s);
+    let mut i = blocks::passed(s)?;
     while i < s.len() {
         if s[i] < 0x80 {
             i = octets::ascii_bytes(s, i + 1);
         } else {
-            let n = octets::char_at(s, i);
-            if n == 0 {
-                return Err(IllFormed { place: i });
-            }
-            i += n;
+            i += octets::char_at(s, i).ok_or(IllFormed { place: i })?;
         }
     }
     Ok(())
@@ -42,14 +38,8 @@ pub fn utf8(s: &[u8]) -> Result<(), IllFormed>
 pub fn date(year: u64, month: u64, day: u64) -> Result<(), NoDate>
     ensures { Dated year month day result }
 {
-    if year > 9999 {
-        return Err(NoDate);
+    match calendar::days(year, month) {
+        Some(days) if year <= 9999 && (1..=days).contains(&day) => Ok(()),
+        _ => Err(NoDate),
     }
-    if day < 1 {
-        return Err(NoDate);
-    }
-    if day > calendar::days(year, month) {
-        return Err(NoDate);
-    }
-    Ok(())
 }

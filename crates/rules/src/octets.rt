@@ -1,6 +1,6 @@
 // Runs of ASCII, and one character.
-ghost use Rattle.std.specs.Prelude.{◌≡◌, ◌+◌, ◌≤◌, ◌<◌, length};
-ghost use Rattle.rules.specs.Between.Posts.{AtMost, Ascii, CharAt, Tailed, low_of, high_of};
+ghost use Rattle.std.specs.Prelude.{◌≡◌, ℕ, ◌+◌, ◌≤◌, ◌<◌, length, MatchOption};
+ghost use Rattle.rules.specs.Between.Posts.{AtMost, Ascii, Lead, CharAt, low_of, high_of};
 
 // The greatest of the 32 bytes at `at`. There is no early exit, so that it is compiled to vector instructions.
 pub(crate) fn greatest(s: &[u8], at: usize) -> u8
@@ -8,13 +8,8 @@ pub(crate) fn greatest(s: &[u8], at: usize) -> u8
     ensures { AtMost s.now at 32 result }
 {
     let mut most: u8 = 0;
-    let mut k: usize = 0;
-    while k < 32 {
-        let b = s[at + k];
-        if most < b {
-            most = b;
-        }
-        k += 1;
+    for b in &s[at..at + 32] {
+        most = most.max(*b);
     }
     most
 }
@@ -24,14 +19,12 @@ pub(crate) fn ascii_bytes(s: &[u8], from: usize) -> usize
     requires { from ≤ length s.now }
     ensures { Ascii s.now from result }
 {
-    let mut i = from;
-    while i < s.len() {
+    for i in from..s.len() {
         if s[i] >= 0x80 {
             return i;
         }
-        i += 1;
     }
-    i
+    s.len()
 }
 
 // The place after the blocks of 32 bytes from `from` on that are ASCII, no byte alone.
@@ -50,6 +43,7 @@ pub(crate) fn ascii_blocks(s: &[u8], from: usize) -> usize
 }
 
 // The least second byte after the first byte a: no overlong form of three or four bytes.
+#[tactic(auto, unfolding(crate::specs::Between::Posts::low_of))]
 fn low(a: u8) -> u8
     ensures { result ≡ low_of a }
 {
@@ -61,6 +55,7 @@ fn low(a: u8) -> u8
 }
 
 // The greatest second byte after the first byte a: no surrogate, and nothing above 10FFFF.
+#[tactic(auto, unfolding(crate::specs::Between::Posts::high_of))]
 fn high(a: u8) -> u8
     ensures { result ≡ high_of a }
 {
@@ -71,66 +66,33 @@ fn high(a: u8) -> u8
     }
 }
 
-// n where each of the n bytes at `at` from the third on is a tail, 80 to BF, else 0; n is 2 to 4.
-fn tails(s: &[u8], at: usize, n: usize) -> usize
-    requires { (2 ≤ n) × (n ≤ 4) × (at + n ≤ length s.now) }
-    ensures { Tailed s.now at n result }
+// How many bytes a character has that begins with the byte a, or none where none begins so.
+#[tactic(auto, using(crate::proofs::Places::leads))]
+fn lead(a: u8) -> Option<usize>
+    ensures { MatchOption result ((n : ℕ) → Lead a n → ⊥) (λ n. Lead a n) }
 {
-    if n == 2 {
-        return n;
+    match a {
+        0x00..=0x7F => Some(1),
+        0xC2..=0xDF => Some(2),
+        0xE0..=0xEF => Some(3),
+        0xF0..=0xF4 => Some(4),
+        _ => None,
     }
-    let c = s[at + 2];
-    if c < 0x80 {
-        return 0;
-    }
-    if c > 0xBF {
-        return 0;
-    }
-    if n == 3 {
-        return n;
-    }
-    let d = s[at + 3];
-    if d < 0x80 {
-        return 0;
-    }
-    if d > 0xBF {
-        return 0;
-    }
-    n
 }
 
-// The length of the character at `at`, or 0 where none stands there. The count of leading one bits in the first byte
-// gives the length: 0 means one byte, 2 to 4 that many.
-pub(crate) fn char_at(s: &[u8], at: usize) -> usize
+// The length of the character at `at`, or none where none stands there.
+pub(crate) fn char_at(s: &[u8], at: usize) -> Option<usize>
     requires { at < length s.now }
     ensures { CharAt s.now at result }
 {
     let a = s[at];
-    let n = u8::leading_zeros(!a) as usize;
-    if n == 0 {
-        return 1;
+    let n = lead(a)?;
+    if n == 1 {
+        return Some(n);
     }
-    if n < 2 {
-        return 0;
+    if s.len() - at < n || !(low(a)..=high(a)).contains(&s[at + 1]) {
+        return None;
     }
-    if n > 4 {
-        return 0;
-    }
-    if s.len() - at < n {
-        return 0;
-    }
-    if a < 0xC2 {
-        return 0;
-    }
-    if a > 0xF4 {
-        return 0;
-    }
-    let b = s[at + 1];
-    if b < low(a) {
-        return 0;
-    }
-    if b > high(a) {
-        return 0;
-    }
-    tails(s, at, n)
+    let tails = s[at + 2..at + n].iter().all(|b| (0x80..=0xBF).contains(b));
+    tails.then_some(n)
 }

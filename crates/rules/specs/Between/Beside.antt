@@ -1,14 +1,8 @@
 -- What the functions over blocks of bytes promise of UTF-8 (docs/FORMAT.md, 1.1). Assumes nothing.
-use Rattle.std.specs.Prelude.{◌≡◌, List, ℕ, ◌+◌, ◌-◌, ◌≤◌, ◌<◌, length, get_or}
+use Rattle.std.specs.Prelude.{◌≡◌, List, ℕ, ◌+◌, ◌≤◌, ◌<◌, length, get_or}
 use Rattle.rules.specs.Between.Posts.{Ascii, Passed, low_of, high_of}
 use Rattle.rules.specs.declared.blocks.Block.{Block}
 use Rattle.rules.specs.declared.blocks.Block.TheVariants.{Plain, Wide, Faulty}
-
--- the greater of two, as far as it is used
-pub record Greater (a b r : ℕ) : Type 0 where
-  pub left : a ≤ r
-  pub right : b ≤ r
-  pub none : a ≡ 0 → b ≡ 0 → r ≡ 0
 
 -- r is 255 where b is a tail, else 0
 pub record IsTail (b r : ℕ) : Type 0 where
@@ -61,8 +55,3 @@ pub data Open (s : List ℕ) (h : ℕ) : Type 0 where
   three : Passed s h → h + 3 ≤ length s → 0xF0 ≤ get_or s h 0 → get_or s h 0 ≤ 0xF4
       → low_of (get_or s h 0) ≤ get_or s (h + 1) 0 → get_or s (h + 1) 0 ≤ high_of (get_or s h 0)
       → 0x80 ≤ get_or s (h + 2) 0 → get_or s (h + 2) 0 ≤ 0xBF → Open s h
-
--- all is UTF-8 up to the place i, and where it has three bytes before it, the last character has ended there
-pub record Begun (s : List ℕ) (i : ℕ) : Type 0 where
-  pub passed : Passed s i
-  pub opened : 3 ≤ i → Open s (i - 3)

@@ -1,5 +1,5 @@
 -- What the functions below `utf8` and `date` (docs/FORMAT.md, 1.1 and 6) promise their callers. Assumes nothing.
-use Rattle.std.specs.Prelude.{cond, List, ℕ, ◌+◌, ◌≤◌, ◌<◌, eqb, length, get_or, take, drop}
+use Rattle.std.specs.Prelude.{cond, List, ℕ, ◌+◌, ◌≤◌, ◌<◌, eqb, length, get_or, take, drop, Option, Some, None}
 use Rattle.rules.specs.Rfc3629.{Char, NoChar, Octets}
 use Rattle.rules.specs.Rfc3339.{Days}
 
@@ -18,20 +18,22 @@ pub record Passed (s : List ℕ) (i : ℕ) : Type 0 where
   pub within : i ≤ length s
   pub good : Octets (take i s)
 
--- the character at the place i has n bytes, or none stands there and n is 0
-pub data CharAt (s : List ℕ) (i : ℕ) : ℕ → Type 0 where
-  char : {n : ℕ} → 0 < n → i + n ≤ length s → Char (take n (drop i s)) → CharAt s i n
-  gap : NoChar (drop i s) → CharAt s i 0
+-- a character that begins with the byte a has n bytes
+pub data Lead (a : ℕ) : ℕ → Type 0 where
+  one : a ≤ 0x7F → Lead a 1
+  two : 0xC2 ≤ a → a ≤ 0xDF → Lead a 2
+  three : 0xE0 ≤ a → a ≤ 0xEF → Lead a 3
+  four : 0xF0 ≤ a → a ≤ 0xF4 → Lead a 4
+
+-- the character at the place i has n bytes, or none stands there
+pub data CharAt (s : List ℕ) (i : ℕ) : Option ℕ → Type 0 where
+  char : {n : ℕ} → 0 < n → i + n ≤ length s → Char (take n (drop i s)) → CharAt s i (Some n)
+  gap : NoChar (drop i s) → CharAt s i None
 
 -- of the n bytes at the place i, at most four, each from the third on is a tail
 pub record Tails (s : List ℕ) (i n : ℕ) : Type 0 where
   pub third : 3 ≤ n → (0x80 ≤ get_or s (i + 2) 0) × (get_or s (i + 2) 0 ≤ 0xBF)
   pub fourth : 4 ≤ n → (0x80 ≤ get_or s (i + 3) 0) × (get_or s (i + 3) 0 ≤ 0xBF)
-
--- a test of that: n, or 0
-pub data Tailed (s : List ℕ) (i n : ℕ) : ℕ → Type 0 where
-  tailed : Tails s i n → Tailed s i n n
-  broken : (Tails s i n → ⊥) → Tailed s i n 0
 
 -- the least and the greatest second byte after the first byte a, of three or four
 unfoldable pub low_of : ℕ → ℕ
@@ -40,7 +42,7 @@ low_of a = cond (eqb a 0xE0) 0xA0 (cond (eqb a 0xF0) 0x90 0x80)
 unfoldable pub high_of : ℕ → ℕ
 high_of a = cond (eqb a 0xED) 0x9F (cond (eqb a 0xF4) 0x8F 0xBF)
 
--- the days of the month, or 0 where the number is no month
-pub data Lasts (y m : ℕ) : ℕ → Type 0 where
-  month : {n : ℕ} → Days y m n → Lasts y m n
-  no_month : ((n : ℕ) → Days y m n → ⊥) → Lasts y m 0
+-- the days of the month, or none where the number is no month
+pub data Lasts (y m : ℕ) : Option ℕ → Type 0 where
+  month : {n : ℕ} → Days y m n → Lasts y m (Some n)
+  no_month : ((n : ℕ) → Days y m n → ⊥) → Lasts y m None

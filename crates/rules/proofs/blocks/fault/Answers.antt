@@ -5,11 +5,5 @@ use Rattle.rules.proofs.blocks.fault.Goals as goal
 
 pub returns : goal.returns
 returns c = λ e.
-    beside c.wanted.ensures
-    c.tail.ensures
-    (c.differ-number.ensures (omega arith))
-    c.barred3.ensures
-    c.barred4.ensures
-    (c.equal.ensures (omega arith))
-    (c.equal-2.ensures (omega arith))
-    (c.equal-3.ensures (omega arith)) (c.equal-4.ensures (omega arith))
+    beside c.wanted.ensures c.tail.ensures (c.differ-number.ensures (omega arith)) c.barred.ensures c.barred-2.ensures
+    (c.equal.ensures (omega arith)) (c.equal-2.ensures (omega arith)) (c.equal-3.ensures (omega arith)) (c.equal-4.ensures (omega arith))
