@@ -158,7 +158,10 @@ pub fn character(s: &[u8], at: usize) -> Result<Taken<Option<u32>>, NotGrammar>
     requires { (at < length s.now) × (get_or s.now at 0 ≡ ch "\\") }
     ensures { CharSays s.now at result }
 {
-    let first = escape_at(s, at)?;
+    let first = match escape_at(s, at) {
+        Ok(first) => first,
+        Err(e) => return Err(e),
+    };
     match first.value {
         Escape::Half(w) => unit(s, first.end, w),
         Escape::Code(c) => Ok(Taken {
@@ -280,7 +283,10 @@ fn inner(s: &[u8], q: u8, store: &mut [u8], at: usize) -> Result<Taken<usize>, B
                 }),
             };
         }
-        let escape = character(s, e)?;
+        let escape = match character(s, e) {
+            Ok(escape) => escape,
+            Err(at) => return Err(Broken::from(at)),
+        };
         match escape.value {
             Some(c) => out = store::encode(c, store, out),
             None => bad = bad.or(Some(e)),

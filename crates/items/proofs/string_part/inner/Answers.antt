@@ -21,8 +21,8 @@ returns-in-None c = let t = round_plain c.loop-bad.invariant c.plain_end-e.ensur
 
 pub loop-bad-preserved-in-Some-value : goal.loop-bad-preserved-in-Some-value
 loop-bad-preserved-in-Some-value c = let t = round_plain c.loop-bad.invariant c.plain_end-e.ensures c.copy.ensures in
-    round_char t (rw c.in-Some-value.is at c.in_ok-escape.ensures) c.encode-out.ensures.0 c.encode-out.ensures.1
+    round_char t (rw c.in-Some-value.is at c.in-Ok.ensures) c.encode-out.ensures.0 c.encode-out.ensures.1
 
 pub loop-bad-preserved : goal.loop-bad-preserved
 loop-bad-preserved c = let t = round_plain c.loop-bad.invariant c.plain_end-e.ensures c.copy.ensures in
-    rw c.or-bad.ensures (round_lone t (rw c.in-None-value.is at c.in_ok-escape.ensures))
+    rw c.or-bad.ensures (round_lone t (rw c.in-None-value.is at c.in-Ok.ensures))
