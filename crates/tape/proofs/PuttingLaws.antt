@@ -78,6 +78,14 @@ put_part t part vs p e z h q =
     ∙ sym (append_assoc (take p t) vs (drop (p + length vs) t))
     ∙ sym (sets-eq vs t p (omega arith))
 
+pub same_length : (t u vs : List ℕ) (p : ℕ) → u ≡ sets t p vs → length u ≡ length t
+same_length t u vs p e = ap length e ∙ length-sets t p vs
+
+-- a number's bytes
+pub put_number : (t part : List ℕ) (w n p e : ℕ) → e ≡ p + w → e ≤ length t → part ≡ le w n
+    → take p t ++ (part ++ drop (e - p) (drop p t)) ≡ sets t p (le w n)
+put_number t part w n p e z h q = put_part t part (le w n) p e (omega (arith, le_length w n)) h q
+
 -- a record, by its four numbers
 pub put_by_words : (t part : List ℕ) (index e : ℕ) (r : Record) (w : Words) → Written r w → index < whole_records t → e ≡ index * 16 + 16
     → part ≡ four_words w.mark w.low w.mid w.high

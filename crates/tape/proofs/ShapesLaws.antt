@@ -1,16 +1,16 @@
 -- A record's four numbers: they make its bytes, and they are of no other record. Assumes nothing.
 use mathlib.Core.Path.{◌≡◌, refl, sym, ap, ap₂, ◌∙◌, subst}
-use mathlib.Core.Bool.{Bool, true, false, cond}
+use mathlib.Core.Bool.{Bool, true, false, cond, ◌&&◌}
 use Rattle.std.proofs.Common.{Some, None}
 use Prim.Native.Nat.{ℕ, ◌+◌, ◌*◌, ◌/◌, ◌%◌, ◌^◌, ◌≤◌, ◌<◌}
 use native.Mathlib.Decide.{dec_le}
 use native.Mathlib.Omega.{arith}
-use lib.Dec.{eqb}
+use lib.Dec.{eqb, leb}
 use lib.IntN.{ℤ}
 use mir.Syntax.{w16, w32}
-use mir.Val.{of_z, to_z}
+use mir.Val.{of_z, to_z, bool_byte}
 use mir.ValLaws.{to_z-of_z, of_z-to_z, to_z-Fits}
-use borrow.Author.Tests.{eq-eqb, ne_eqb}
+use borrow.Author.Tests.{eq-eqb, ne_eqb, eqb-true, eqb-false, leb-true}
 use Rattle.meaning.specs.declared.Number.{Number}
 use Rattle.meaning.specs.declared.Number.TheVariants.{Finite, NotANumber, Infinite}
 use Rattle.meaning.specs.declared.Date.{Date}
@@ -28,6 +28,10 @@ flag_small true = omega arith
 flag_small false = omega arith
 
 -- ---- from a record to its numbers
+
+pub bool_flag : (b : Bool) (n : ℕ) → n ≡ bool_byte b → n ≡ flag b
+bool_flag true n e = e
+bool_flag false n e = e
 
 -- what the types of the fields say of a date
 abbrev pub DateFits : Record → Type 0
@@ -173,11 +177,15 @@ module _ (w : Words) where
   unfolding mark_of low_of mid_of high_of
   object_words m l = record { mark_is = m; low_is = l; mid_is = refl; high_is = refl }
 
-  pub not_common : Common w false
-  not_common = record { worded = λ e. let z : ◌≡◌ {A = ℕ} 0 1 = cc in absurd (omega arith) }
+  pub common_finite : w.mark ≡ mark "n" "b" → w.mid < 2 ^ 32 → Common w (leb w.low 1)
+  common_finite m f = record { worded = λ e. subst (λ (x : Record). Worded x w) (sym (only_finite _ _ _ _ m)) (finite_words m (leb-true _ _ e) f) }
 
-  pub is_common : {r : Record} {b : Bool} → only_record w ≡ r → Worded r w → Common w b
-  is_common e g = record { worded = λ t. subst (λ (x : Record). Worded x w) (sym e) g }
+  pub common_zero : {r : Record} → only_record w ≡ r → (w.low ≡ 0 → Worded r w) → Common w (eqb w.low 0)
+  common_zero o g = record { worded = λ e. subst (λ (x : Record). Worded x w) (sym o) (g (eqb-true _ _ e)) }
+
+-- two have the same numbers, by a test
+abbrev pub alike : Words → Words → Bool
+alike v w = eqb v.mark w.mark && (eqb v.low w.low && (eqb v.mid w.mid && eqb v.high w.high))
 
 -- so where that one has other numbers, there is none
 module _ (w v : Words) (r : Record) (is : r ≡ record_of w.mark w.low w.mid w.high) (g : Worded r v) where
@@ -195,6 +203,17 @@ module _ (w v : Words) (r : Record) (is : r ≡ record_of w.mark w.low w.mid w.h
 
   pub other_high : (v.high ≡ w.high → ⊥) → Shaped w None
   other_high n = junk_by (λ s f e h. n (h.high_is ∙ sym e.high_is))
+
+  pub other_words : false ≡ alike v w → Shaped w None
+  other_words e = by (eqb v.mark w.mark) (eqb v.low w.low) (eqb v.mid w.mid) (eqb v.high w.high) refl refl refl refl (sym e)
+    where
+      by : (a b c d : Bool) → eqb v.mark w.mark ≡ a → eqb v.low w.low ≡ b → eqb v.mid w.mid ≡ c → eqb v.high w.high ≡ d
+          → a && (b && (c && d)) ≡ false → Shaped w None
+      by false b c d h i j k e = other_mark (eqb-false _ _ h)
+      by true false c d h i j k e = other_low (eqb-false _ _ i)
+      by true true false d h i j k e = other_mid (eqb-false _ _ j)
+      by true true true false h i j k e = other_high (eqb-false _ _ k)
+      by true true true true h i j k e = let z : ◌≡◌ {A = ℕ} 0 1 = cc in absurd (omega arith)
 
 -- ---- the record that may have these numbers fits its places
 
@@ -227,11 +246,21 @@ record_of_fits w l =
     (by_cond Fit (eqb w.mark (mark "o" "b")) _ _ (mid, high) tt)))))))))))
 
 -- the numbers agree: there is a record
-pub same_words : (w v : Words) (r : Record) → Loaded w → r ≡ record_of w.mark w.low w.mid w.high → Worded r v
-    → v.mark ≡ w.mark → v.low ≡ w.low → v.mid ≡ w.mid → v.high ≡ w.high → Shaped w (Some r)
-same_words w v r l is g a b c d =
-    shaped (subst Fit (sym is) (record_of_fits w l))
-    (record { mark_is = sym a ∙ g.mark_is; low_is = sym b ∙ g.low_is; mid_is = sym c ∙ g.mid_is; high_is = sym d ∙ g.high_is })
+pub same_words : (w v : Words) (r : Record) → Loaded w → r ≡ record_of w.mark w.low w.mid w.high → Worded r v → true ≡ alike v w → Shaped w (Some r)
+same_words w v r l is g e =
+    let a = both_true _ _ (sym e) in
+    let b = both_true _ _ a.1 in
+    let c = both_true _ _ b.1 in
+    shaped (subst Fit (sym is) (record_of_fits w l)) (record {
+      mark_is = sym (eqb-true _ _ a.0) ∙ g.mark_is;
+      low_is = sym (eqb-true _ _ b.0) ∙ g.low_is;
+      mid_is = sym (eqb-true _ _ c.0) ∙ g.mid_is;
+      high_is = sym (eqb-true _ _ c.1) ∙ g.high_is;
+    })
+  where
+    both_true : (p q : Bool) → p && q ≡ true → (p ≡ true) × (q ≡ true)
+    both_true true q e = (refl, e)
+    both_true false q e = let z : ◌≡◌ {A = ℕ} 0 1 = cc in absurd (omega arith)
 
 pub common_shape : (w : Words) (r : Record) {b : Bool} → Loaded w → Common w b → b ≡ true → r ≡ only_record w → Shaped w (Some r)
 common_shape w r l c t e = shaped (subst Fit (sym e) (record_of_fits w l)) (subst (λ (x : Record). Worded x w) (sym e) (c.worded t))

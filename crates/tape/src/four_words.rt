@@ -2,7 +2,7 @@
 ghost use Rattle.std.specs.Prelude.{◌≡◌, ◌+◌, ◌≤◌, ◌<◌, ◌^◌, length};
 ghost use Rattle.meaning.specs.declared.Record.{Record};
 ghost use Rattle.meaning.specs.Between.Words.{month_day, four_words, FitDate};
-ghost use Rattle.tape.specs.Between.Shapes.{Written, Holds, Loaded, not_finite, date_of, container_of, time_of, bytes_of};
+ghost use Rattle.tape.specs.Between.Shapes.{Written, Holds, Loaded, not_finite, finite, date_of};
 ghost use Rattle.tape.specs.Between.Shapes.{only_record, Common, Shaped, words_at};
 
 use crate::{Words, little_endian};
@@ -36,34 +36,34 @@ pub const AR: u64 = b'a' as u64 + b'r' as u64 * 256;
 pub const OB: u64 = b'o' as u64 + b'b' as u64 * 256;
 
 // Mark `nb` with sign, power and coefficient; or `nx` with 0 for NaN, 1 for Infinity and 2 for -Infinity.
-fn number_words(n: Number) -> Words
-    ensures { Written (Record.Number n) result }
-{
-    match n {
-        Number::Finite {
-            minus,
-            coefficient,
-            power,
-        } => {
-            Words {
+impl From<Number> for Words {
+    ghost from_gives = { λ n w. Written (Record.Number n) w };
+
+    fn from(n: Number) -> Words {
+        match n {
+            Number::Finite {
+                minus,
+                coefficient,
+                power,
+            } => Words {
                 mark: NB,
-                low: little_endian::flag(minus),
-                mid: little_endian::bits32(power) as u64,
+                low: u64::from(minus),
+                mid: u64::from(power.cast_unsigned()),
                 high: coefficient,
-            }
+            },
+            Number::NotANumber => Words {
+                mark: NX,
+                low: 0,
+                mid: 0,
+                high: 0,
+            },
+            Number::Infinite { minus } => Words {
+                mark: NX,
+                low: 0,
+                mid: 1 + u64::from(minus),
+                high: 0,
+            },
         }
-        Number::NotANumber => Words {
-            mark: NX,
-            low: 0,
-            mid: 0,
-            high: 0,
-        },
-        Number::Infinite { minus } => Words {
-            mark: NX,
-            low: 0,
-            mid: 1 + little_endian::flag(minus),
-            high: 0,
-        },
     }
 }
 
@@ -71,46 +71,43 @@ fn number_words(n: Number) -> Words
 fn month_day(d: Date, offset: u16) -> u64
     ensures { (result ≡ month_day d offset) × FitDate d }
 {
-    let month = d.month as u64;
-    let day = d.day as u64;
-    let bits = offset as u64;
-    month + day * 256 + bits * 65536
+    u64::from(d.month) + u64::from(d.day) * 256 + u64::from(offset) * 65536
 }
 
 // The four numbers of a time value; the parts that its type has not are 0.
-fn time_words(t: Time) -> Words
-    ensures { Written (Record.Time t) result }
-{
-    match t {
-        Time::LocalDate(d) => Words {
-            mark: LD,
-            low: d.year as u64,
-            mid: month_day(d, 0),
-            high: 0,
-        },
-        Time::LocalTime(clock) => Words {
-            mark: LT,
-            low: 0,
-            mid: 0,
-            high: clock,
-        },
-        Time::LocalDateTime { date: d, clock } => Words {
-            mark: DT,
-            low: d.year as u64,
-            mid: month_day(d, 0),
-            high: clock,
-        },
-        Time::OffsetDateTime {
-            date: d,
-            clock,
-            offset,
-        } => {
-            Words {
-                mark: OD,
-                low: d.year as u64,
-                mid: month_day(d, little_endian::bits16(offset)),
+impl From<Time> for Words {
+    ghost from_gives = { λ t w. Written (Record.Time t) w };
+
+    fn from(t: Time) -> Words {
+        match t {
+            Time::LocalDate(d) => Words {
+                mark: LD,
+                low: u64::from(d.year),
+                mid: month_day(d, 0),
+                high: 0,
+            },
+            Time::LocalTime(clock) => Words {
+                mark: LT,
+                low: 0,
+                mid: 0,
                 high: clock,
-            }
+            },
+            Time::LocalDateTime { date: d, clock } => Words {
+                mark: DT,
+                low: u64::from(d.year),
+                mid: month_day(d, 0),
+                high: clock,
+            },
+            Time::OffsetDateTime {
+                date: d,
+                clock,
+                offset,
+            } => Words {
+                mark: OD,
+                low: u64::from(d.year),
+                mid: month_day(d, offset.cast_unsigned()),
+                high: clock,
+            },
         }
     }
 }
@@ -128,40 +125,42 @@ fn two_words(mark: u64, first: usize, second: usize) -> Words
 }
 
 // The four numbers of a record.
-pub fn words_of(r: Record) -> Words
-    ensures { Written r result }
-{
-    match r {
-        Record::Null => Words {
-            mark: NU,
-            low: 0,
-            mid: 0,
-            high: 0,
-        },
-        Record::Bool(b) => Words {
-            mark: BO,
-            low: 0,
-            mid: little_endian::flag(b),
-            high: 0,
-        },
-        Record::Number(n) => number_words(n),
-        Record::Str { length, start } => two_words(ST, length, start),
-        Record::Key { length, start } => two_words(KY, length, start),
-        Record::Bin { length, start } => two_words(BY, length, start),
-        Record::Time(t) => time_words(t),
-        Record::Array { count, end } => two_words(AR, count, end),
-        Record::Object { count, end } => two_words(OB, count, end),
+impl From<Record> for Words {
+    ghost from_gives = { λ r w. Written r w };
+
+    fn from(r: Record) -> Words {
+        match r {
+            Record::Null => Words {
+                mark: NU,
+                low: 0,
+                mid: 0,
+                high: 0,
+            },
+            Record::Bool(b) => Words {
+                mark: BO,
+                low: 0,
+                mid: u64::from(b),
+                high: 0,
+            },
+            Record::Number(n) => Words::from(n),
+            Record::Str { length, start } => two_words(ST, length, start),
+            Record::Key { length, start } => two_words(KY, length, start),
+            Record::Bin { length, start } => two_words(BY, length, start),
+            Record::Time(t) => Words::from(t),
+            Record::Array { count, end } => two_words(AR, count, end),
+            Record::Object { count, end } => two_words(OB, count, end),
+        }
     }
 }
 
-// The sixteen bytes of four numbers.
+// The sixteen bytes of four numbers: of each as many low ones as it has place for.
 pub fn put_words(bytes: &mut [u8], w: Words)
     requires { length bytes.old ≡ 16 }
     ensures { bytes.new ≡ four_words w.mark w.low w.mid w.high }
 {
-    little_endian::store2(bytes, 0, w.mark);
-    little_endian::store2(bytes, 2, w.low);
-    little_endian::store4(bytes, 4, w.mid);
+    bytes[0..2].copy_from_slice(&((w.mark % 65536) as u16).to_le_bytes());
+    bytes[2..4].copy_from_slice(&((w.low % 65536) as u16).to_le_bytes());
+    bytes[4..8].copy_from_slice(&((w.mid % 4294967296) as u32).to_le_bytes());
     little_endian::store8(bytes, 8, w.high);
 }
 
@@ -169,13 +168,23 @@ pub fn put_words(bytes: &mut [u8], w: Words)
 fn not_finite(mid: u64) -> Number
     ensures { result ≡ not_finite mid }
 {
-    if mid == 0 {
-        return Number::NotANumber;
+    match mid {
+        0 => Number::NotANumber,
+        2 => Number::Infinite { minus: true },
+        _ => Number::Infinite { minus: false },
     }
-    if mid == 2 {
-        return Number::Infinite { minus: true };
+}
+
+// A finite number: its sign in byte 2, its power in bytes 4-7, its coefficient in bytes 8-15.
+fn finite(w: Words) -> Number
+    requires { Loaded w }
+    ensures { result ≡ finite w.low w.mid w.high }
+{
+    Number::Finite {
+        minus: w.low == 1,
+        coefficient: w.high,
+        power: (w.mid as u32).cast_signed(),
     }
-    Number::Infinite { minus: false }
 }
 
 // The year is in bytes 2-3, the month in byte 4, the day in byte 5.
@@ -190,96 +199,36 @@ fn date_of(low: u64, mid: u64) -> Date
     }
 }
 
-// The container with these four numbers; null where the mark is no container's.
-fn container_of(w: Words) -> Record
-    ensures { result ≡ container_of w.mark w.mid w.high }
-{
-    let mark = w.mark;
-    let count = w.mid as usize;
-    let end = w.high as usize;
-    if mark == AR {
-        return Record::Array { count, end };
-    }
-    if mark == OB {
-        return Record::Object { count, end };
-    }
-    Record::Null
-}
-
-// The time with these four numbers, or a container.
-fn time_of(w: Words) -> Record
-    requires { Loaded w }
-    ensures { result ≡ time_of w.mark w.low w.mid w.high }
-{
-    let mark = w.mark;
-    let low = w.low;
-    let mid = w.mid;
-    let high = w.high;
-    if mark == LD {
-        return Record::Time(Time::LocalDate(date_of(low, mid)));
-    }
-    if mark == LT {
-        return Record::Time(Time::LocalTime(high));
-    }
-    if mark == DT {
-        return Record::Time(Time::LocalDateTime {
-            date: date_of(low, mid),
-            clock: high,
-        });
-    }
-    if mark == OD {
-        return Record::Time(Time::OffsetDateTime {
-            date: date_of(low, mid),
-            clock: high,
-            offset: little_endian::signed16((mid / 65536) as u16),
-        });
-    }
-    container_of(w)
-}
-
-// The record with bytes in the store that has these four numbers, or a time or a container.
-fn bytes_of(w: Words) -> Record
-    requires { Loaded w }
-    ensures { result ≡ bytes_of w.mark w.low w.mid w.high }
-{
-    let mark = w.mark;
-    let length = w.mid as usize;
-    let start = w.high as usize;
-    if mark == ST {
-        return Record::Str { length, start };
-    }
-    if mark == KY {
-        return Record::Key { length, start };
-    }
-    if mark == BY {
-        return Record::Bin { length, start };
-    }
-    time_of(w)
-}
-
 // The record with these four numbers, if there is one; what they must be beside the mark is not tested here.
 fn record_of(w: Words) -> Record
     requires { Loaded w }
     ensures { result ≡ only_record w }
 {
-    let mark = w.mark;
-    let low = w.low;
-    let mid = w.mid;
-    let high = w.high;
-    if mark == BO {
-        return Record::Bool(mid == 1);
+    let (mid, high) = (w.mid, w.high);
+    let (length, start) = (mid as usize, high as usize);
+    let (count, end) = (length, start);
+    match w.mark {
+        BO => Record::Bool(mid == 1),
+        NB => Record::Number(finite(w)),
+        NX => Record::Number(not_finite(mid)),
+        ST => Record::Str { length, start },
+        KY => Record::Key { length, start },
+        BY => Record::Bin { length, start },
+        LD => Record::Time(Time::LocalDate(date_of(w.low, mid))),
+        LT => Record::Time(Time::LocalTime(high)),
+        DT => Record::Time(Time::LocalDateTime {
+            date: date_of(w.low, mid),
+            clock: high,
+        }),
+        OD => Record::Time(Time::OffsetDateTime {
+            date: date_of(w.low, mid),
+            clock: high,
+            offset: ((mid / 65536) as u16).cast_signed(),
+        }),
+        AR => Record::Array { count, end },
+        OB => Record::Object { count, end },
+        _ => Record::Null,
     }
-    if mark == NB {
-        return Record::Number(Number::Finite {
-            minus: low == 1,
-            coefficient: high,
-            power: little_endian::signed32(mid as u32),
-        });
-    }
-    if mark == NX {
-        return Record::Number(not_finite(mid));
-    }
-    bytes_of(w)
 }
 
 // The same. Keys, strings, numbers and containers, which fill most tapes, come first: so much is compiled into the
@@ -288,40 +237,19 @@ fn common_record(w: Words) -> Record
     requires { Loaded w }
     ensures { result ≡ only_record w }
 {
-    let mark = w.mark;
-    let low = w.low;
-    let mid = w.mid;
-    let high = w.high;
-    let length = mid as usize;
-    let start = high as usize;
-    let count = length;
-    let end = start;
-    if mark == KY {
-        return Record::Key { length, start };
+    let (length, start) = (w.mid as usize, w.high as usize);
+    let (count, end) = (length, start);
+    match w.mark {
+        KY => Record::Key { length, start },
+        ST => Record::Str { length, start },
+        NB => Record::Number(finite(w)),
+        AR => Record::Array { count, end },
+        OB => Record::Object { count, end },
+        _ => {
+            let r = record_of(w);
+            r
+        }
     }
-    if mark == ST {
-        return Record::Str { length, start };
-    }
-    if mark == NB {
-        return Record::Number(Number::Finite {
-            minus: low == 1,
-            coefficient: high,
-            power: little_endian::signed32(mid as u32),
-        });
-    }
-    if mark == AR {
-        return Record::Array { count, end };
-    }
-    if mark == OB {
-        return Record::Object { count, end };
-    }
-    let r = record_of(Words {
-        mark,
-        low,
-        mid,
-        high,
-    });
-    r
 }
 
 // The record with these four numbers, or none: a record's own numbers are these, or no record has them.
@@ -330,20 +258,7 @@ fn any_shape(w: Words) -> Option<Record>
     ensures { Shaped w result }
 {
     let r = record_of(w);
-    let own = words_of(r);
-    if own.mark != w.mark {
-        return None;
-    }
-    if own.low != w.low {
-        return None;
-    }
-    if own.mid != w.mid {
-        return None;
-    }
-    if own.high != w.high {
-        return None;
-    }
-    Some(r)
+    if Words::from(r) == w { Some(r) } else { None }
 }
 
 // Whether these are the numbers of a key, a string, a number or a container: their unnamed bytes are zero.
@@ -351,29 +266,11 @@ fn common(w: Words) -> bool
     requires { Loaded w }
     ensures { Common w result }
 {
-    let mark = w.mark;
-    if mark == NB {
-        if w.low > 1 {
-            return false;
-        }
-        return true;
+    match w.mark {
+        NB => w.low <= 1,
+        KY | ST | AR | OB => w.low == 0,
+        _ => false,
     }
-    if w.low != 0 {
-        return false;
-    }
-    if mark == KY {
-        return true;
-    }
-    if mark == ST {
-        return true;
-    }
-    if mark == AR {
-        return true;
-    }
-    if mark == OB {
-        return true;
-    }
-    false
 }
 
 // The same as of any record, the common ones first.
@@ -393,15 +290,16 @@ pub fn words_at(tape: &[u8], at: usize) -> Words
     requires { at + 16 ≤ length tape.now }
     ensures { result ≡ words_at tape.now at }
 {
-    let mark = little_endian::load2(tape, at);
-    let low = little_endian::load2(tape, at + 2);
-    let mid = little_endian::load4(tape, at + 4);
-    let high = little_endian::load8(tape, at + 8);
     Words {
-        mark,
-        low,
-        mid,
-        high,
+        mark: u64::from(u16::from_le_bytes([tape[at], tape[at + 1]])),
+        low: u64::from(u16::from_le_bytes([tape[at + 2], tape[at + 3]])),
+        mid: u64::from(u32::from_le_bytes([
+            tape[at + 4],
+            tape[at + 5],
+            tape[at + 6],
+            tape[at + 7],
+        ])),
+        high: little_endian::load8(tape, at + 8),
     }
 }
 

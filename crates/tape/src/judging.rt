@@ -13,7 +13,7 @@ ghost use Rattle.tape.specs.Between.Judging.{Formed, Sized, ended_of, Judges};
 ghost use Rattle.tape.specs.Between.Shapes.{Loaded};
 ghost use Rattle.tape.specs.Between.Turns.{value_due, key_due, counted, pass_of, open_of, leaf_of, bytes_end, Tested, LeafIs, TurnIs};
 
-use crate::{Words, fields, four_words, key, little_endian};
+use crate::{Words, fields, four_words, key};
 use meaning::{DEPTH_LIMIT, RECORD_LIMIT, RECORD_SIZE, Record, Refusal, STORE_LIMIT};
 
 // What is still to come in what is open is one number, `rest`: twice the records that are still to stand in it, not counting
@@ -105,7 +105,7 @@ fn number(w: Words, at: usize) -> Option<Turn>
     requires { Loaded w }
     ensures { Tested ((w.low ≤ 1) × GoodFinite w.high (to_z w32 w.mid)) (Some (Turn.Pass at)) result }
 {
-    if w.low <= 1 && fields::good_finite(w.high, little_endian::signed32(w.mid as u32)) {
+    if w.low <= 1 && fields::good_finite(w.high, (w.mid as u32).cast_signed()) {
         return Some(Turn::Pass(at));
     }
     None

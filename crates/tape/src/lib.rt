@@ -17,7 +17,7 @@ pub use judging::judge;
 use meaning::{RECORD_SIZE, Record, Refusal};
 
 // A record's sixteen bytes as four numbers of 2, 2, 4 and 8 bytes.
-#[derive(Clone, Copy)]
+#[derive(Clone, Copy, PartialEq, Eq)]
 struct Words {
     mark: u64,
     low: u64,
@@ -34,7 +34,7 @@ pub fn put_record(tape: &mut [u8], index: usize, r: Record)
     if index < whole {
         let at = index * RECORD_SIZE;
         let end = at + RECORD_SIZE;
-        four_words::put_words(&mut tape[at..end], four_words::words_of(r));
+        four_words::put_words(&mut tape[at..end], Words::from(r));
     }
 }
 

@@ -6,7 +6,7 @@ use Rattle.tape.proofs.put_record.Goals as goal
 
 pub returns-then-index-whole : goal.returns-then-index-whole
 returns-then-index-whole c = put_by_words c.args.tape.now _
-    c.args.index _ _ _ c.words_of.ensures
+    c.args.index _ _ _ c.from.ensures
     (omega (arith, c.if-index-whole.true)) refl c.put_words.ensures
 
 pub returns-else-index-whole : goal.returns-else-index-whole

@@ -42,37 +42,27 @@ pub record Loaded (w : Words) : Type 0 where
 unfoldable pub not_finite : ℕ → Number
 not_finite mid = cond (eqb mid 0) NotANumber (cond (eqb mid 2) (Infinite true) (Infinite false))
 
+abbrev pub finite : ℕ → ℕ → ℕ → Number
+finite low mid high = Finite (eqb low 1) high (to_z w32 mid)
+
 abbrev pub date_of : ℕ → ℕ → Date
 date_of low mid = record { year = low; month = mid % 256; day = mid / 256 % 256 }
 
--- the one record that may have these four numbers: a container or null; or else a time; or else one with bytes in the
--- store; any
-abbrev pub container_of : ℕ → ℕ → ℕ → Record
-container_of a mid high =
-    cond (eqb a (mark "a" "r")) (Record.Array mid high)
-    (cond (eqb a (mark "o" "b")) (Record.Object mid high) Record.Null)
-
-abbrev pub time_of : ℕ → ℕ → ℕ → ℕ → Record
-time_of a low mid high =
-    cond (eqb a (mark "l" "d")) (Record.Time (LocalDate (date_of low mid)))
-    (cond (eqb a (mark "l" "t")) (Record.Time (LocalTime high))
-    (cond (eqb a (mark "d" "t")) (Record.Time (LocalDateTime (date_of low mid) high))
-    (cond (eqb a (mark "o" "d")) (Record.Time (OffsetDateTime (date_of low mid) high (to_z w16 (mid / 65536))))
-    (container_of a mid high))))
-
-abbrev pub bytes_of : ℕ → ℕ → ℕ → ℕ → Record
-bytes_of a low mid high =
-    cond (eqb a (mark "s" "t")) (Record.Str mid high)
-    (cond (eqb a (mark "k" "y")) (Record.Key mid high)
-    (cond (eqb a (mark "b" "y")) (Record.Bin mid high)
-    (time_of a low mid high)))
-
+-- the one record that may have these four numbers; null where the mark is no record's
 unfoldable pub record_of : ℕ → ℕ → ℕ → ℕ → Record
 record_of a low mid high =
     cond (eqb a (mark "b" "o")) (Record.Bool (eqb mid 1))
-    (cond (eqb a (mark "n" "b")) (Record.Number (Finite (eqb low 1) high (to_z w32 mid)))
+    (cond (eqb a (mark "n" "b")) (Record.Number (finite low mid high))
     (cond (eqb a (mark "n" "x")) (Record.Number (not_finite mid))
-    (bytes_of a low mid high)))
+    (cond (eqb a (mark "s" "t")) (Record.Str mid high)
+    (cond (eqb a (mark "k" "y")) (Record.Key mid high)
+    (cond (eqb a (mark "b" "y")) (Record.Bin mid high)
+    (cond (eqb a (mark "l" "d")) (Record.Time (LocalDate (date_of low mid)))
+    (cond (eqb a (mark "l" "t")) (Record.Time (LocalTime high))
+    (cond (eqb a (mark "d" "t")) (Record.Time (LocalDateTime (date_of low mid) high))
+    (cond (eqb a (mark "o" "d")) (Record.Time (OffsetDateTime (date_of low mid) high (to_z w16 (mid / 65536))))
+    (cond (eqb a (mark "a" "r")) (Record.Array mid high)
+    (cond (eqb a (mark "o" "b")) (Record.Object mid high) Record.Null)))))))))))
 
 abbrev pub only_record : Words → Record
 only_record w = record_of w.mark w.low w.mid w.high

@@ -1,16 +1,18 @@
--- `four_words::not_finite`: by its tests. Assumes nothing.
-use borrow.Author.Tests.{eq-eqb, ne_eqb}
+-- `four_words::not_finite`: by cases. Assumes nothing.
+use mathlib.Core.Path.{refl}
+use native.Mathlib.Omega.{arith}
+use borrow.Author.Tests.{ne_eqb}
 use Rattle.tape.specs.Between.Shapes.{not_finite}
 use Rattle.tape.proofs.four_words.not_finite.Goals as goal
 
-pub returns-then-mid-eq0 : goal.returns-then-mid-eq0
+pub returns-in-0 : goal.returns-in-0
 unfolding not_finite
-returns-then-mid-eq0 c = simp (eq-eqb _ _ c.if-mid-eq0.true)
+returns-in-0 c = rw c.in-0.is refl
 
-pub returns-then-mid-eq2 : goal.returns-then-mid-eq2
+pub returns-in-2 : goal.returns-in-2
 unfolding not_finite
-returns-then-mid-eq2 c = simp (ne_eqb _ _ c.if-mid-eq0.false, eq-eqb _ _ c.if-mid-eq2.true)
+returns-in-2 c = rw c.in-2.is refl
 
-pub returns : goal.returns
+pub returns-in_default : goal.returns-in_default
 unfolding not_finite
-returns c = simp (ne_eqb _ _ c.if-mid-eq0.false, ne_eqb _ _ c.if-mid-eq2.false)
+returns-in_default c = simp (ne_eqb c.args.mid 0 (λ q. omega arith), ne_eqb c.args.mid 2 (λ q. omega arith))

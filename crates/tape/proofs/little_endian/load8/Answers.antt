@@ -1,14 +1,11 @@
--- `little_endian::load8`: its halves. Assumes nothing.
+-- `little_endian::load8`: byte by byte. Assumes nothing.
+use mathlib.Core.Path.{sym, ◌∙◌}
+use Prim.Native.Nat.{◌+◌}
 use native.Mathlib.Omega.{arith}
-use Rattle.tape.proofs.LittleEndianLaws.{got}
+use Rattle.tape.proofs.LittleEndianLaws.{get_eight}
 use Rattle.tape.proofs.little_endian.load8.Goals as goal
 
-pub overflow_mul-result : goal.overflow_mul-result
-overflow_mul-result c = omega (arith, c.load4.ensures.1, c.load4-2.ensures.1)
-
-pub overflow_add-result : goal.overflow_add-result
-overflow_add-result c = omega (arith, c.load4.ensures.1, c.load4-2.ensures.1)
-
 pub returns : goal.returns
-returns c = got 4 4 c.args.bytes.now c.args.at _ _ c.load4.ensures.0
-    c.load4-2.ensures.0
+returns c = let i = c.args.at in
+    c.from_le_bytes.ensures ∙ sym (get_eight c.args.bytes.now i (i + 1) (i + 2) (i + 3) (i + 4) (i + 5) (i + 6) (i + 7) (omega arith) (omega arith)
+    (omega arith) (omega arith) (omega arith) (omega arith) (omega arith))

@@ -1,8 +1,8 @@
--- `four_words::words_of`: by cases. Assumes nothing.
+-- `Words::from` of a record: by cases. Assumes nothing.
 use mathlib.Core.Path.{refl}
 use Rattle.meaning.specs.Between.Words.{mark_of, low_of, mid_of, high_of}
-use Rattle.tape.proofs.ShapesLaws.{written, written_as}
-use Rattle.tape.proofs.four_words.words_of.Goals as goal
+use Rattle.tape.proofs.ShapesLaws.{bool_flag, written, written_as}
+use Rattle.tape.proofs.four_words.WordsFromRecord.from.Goals as goal
 
 pub returns-in-Null : goal.returns-in-Null
 unfolding mark_of low_of mid_of high_of
@@ -10,11 +10,11 @@ returns-in-Null c = rw c.in-Null.is (written _ _ tt (record { mark_is = refl; lo
 
 pub returns-in-Bool : goal.returns-in-Bool
 unfolding mark_of low_of mid_of high_of
-returns-in-Bool c = rw c.in-Bool.is (written _ _ tt (record { mark_is = refl; low_is = refl; mid_is = c.flag.ensures; high_is = refl }))
+returns-in-Bool c = rw c.in-Bool.is (written _ _ tt (record { mark_is = refl; low_is = refl; mid_is = bool_flag _ _ c.from.ensures; high_is = refl }))
 
 pub returns-in-Number : goal.returns-in-Number
 unfolding mark_of low_of mid_of high_of
-returns-in-Number c = rw c.in-Number.is c.number_words.ensures
+returns-in-Number c = rw c.in-Number.is c.from-in-Number.ensures
 
 pub returns-in-Str : goal.returns-in-Str
 unfolding mark_of low_of mid_of high_of
@@ -30,7 +30,7 @@ returns-in-Bin c = rw c.in-Bin.is (written_as _ _ tt c.two_words-in-Bin.ensures)
 
 pub returns-in-Time : goal.returns-in-Time
 unfolding mark_of low_of mid_of high_of
-returns-in-Time c = rw c.in-Time.is c.time_words.ensures
+returns-in-Time c = rw c.in-Time.is c.from-in-Time.ensures
 
 pub returns-in-Array : goal.returns-in-Array
 unfolding mark_of low_of mid_of high_of
