@@ -15,8 +15,8 @@ use Rattle.rules.specs.Rfc3339.{Dated}
 use Rattle.rules.specs.Between.Tests.{Decides}
 use Rattle.rules.proofs.TestsLaws.{by_test}
 use Rattle.rules.proofs.Outcomes.{date_done_lem, date_none}
-use Rattle.rules.specs.declared.DateAnswer.{DateAnswer}
-use Rattle.rules.specs.declared.DateAnswer.TheVariants.{Done, NoDate}
+use Rattle.std.specs.Prelude.{Result}
+use Rattle.rules.specs.declared.NoDate.{NoDate}
 use Rattle.rules.specs.Between.Decided.{is_date}
 use Rattle.rules.proofs.Months.{date_is, is_date_lem}
 use Rattle.meaning.specs.Letters.{ch}
@@ -107,10 +107,10 @@ module _ (s : List ℕ) (i mark : ℕ) (f : Field) where
 
 -- ---- the check
 
-pub date_yes : {y m d : ℕ} {r : DateAnswer} → Dated y m d r → r ≡ Done → true ≡ is_date y m d
+pub date_yes : {y m d : ℕ} {r : Result (Unit {0}) NoDate} {u : Unit {0}} → Dated y m d r → r ≡ Ok u → true ≡ is_date y m d
 date_yes {y} {m} {d} x e = sym (date_is (date_done_lem (subst (Dated y m d) e x)))
 
-pub date_no : {y m d : ℕ} {r : DateAnswer} → Dated y m d r → r ≡ NoDate → false ≡ is_date y m d
+pub date_no : {y m d : ℕ} {r : Result (Unit {0}) NoDate} {n : NoDate} → Dated y m d r → r ≡ Err n → false ≡ is_date y m d
 date_no {y} {m} {d} x e = go (is_date y m d) refl
   where
     go : (b : Bool) → is_date y m d ≡ b → false ≡ is_date y m d

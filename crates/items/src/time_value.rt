@@ -12,7 +12,6 @@ ghost use Rattle.items.specs.Between.NumberOrTime.{Reads, Closes, Place, TwoSays
 
 use crate::{Item, Scanned, Taken};
 use meaning::{Date, FRACTION_DIGITS, Refusal, SECOND, Time};
-use rules::DateAnswer;
 
 // A field of two digits and the place after it, or the byte that no rule allows.
 #[derive(Clone, Copy)]
@@ -111,8 +110,8 @@ fn is_date(d: Date) -> bool
     ensures { result ≡ Numeric.ok_date d }
 {
     match rules::date(d.year as u64, d.month as u64, d.day as u64) {
-        DateAnswer::Done => true,
-        DateAnswer::NoDate => false,
+        Ok(()) => true,
+        Err(_) => false,
     }
 }
 
