@@ -1,6 +1,5 @@
 pub mod LaidLaws
 pub mod ByteOrDigitLaws
-pub mod NumberSignLaws
 pub mod NumberFormLaws
 pub mod PiecesLaws
 pub mod PlainRunLaws

@@ -8,10 +8,11 @@ use native.Mathlib.Nat.{lt_of_not-le}
 use native.Mathlib.Omega.{arith}
 use lib.IntN.{ℤ, pos, negsuc, nat_abs}
 use lib.ListN.{length, length-append}
+use lib.Signed.{lt_z}
 use mir.Syntax.{w32}
 use mir.Val.{SFits, of_z, to_z}
 use mir.ValLaws.{to_z-of_z}
-use borrow.Author.Tests.{le-leb, lt-leb}
+use borrow.Author.Tests.{ltb-true, le-leb, lt-leb}
 use Rattle.meaning.specs.Letters.{letters}
 use Rattle.meaning.specs.Limits.{plain_digits}
 use Rattle.meaning.specs.Canonical.{digit, decimal, fixed, power_text, zeros, pointed, finite_text}
@@ -19,45 +20,32 @@ use Rattle.meaning.proofs.Digits.{decimal_small, cut_count, cut_none, fixed_leng
 use Rattle.meaning.proofs.Text.{pointed_few as few, pointed_more as more}
 use Rattle.writer.specs.declared.Form.{Form}
 use Rattle.writer.specs.declared.Form.TheVariants.{Zeros, Point, Power as WithPower}
-use Rattle.writer.specs.declared.Signed.{Signed}
 use Rattle.writer.specs.Between.Pieces as P
-use Rattle.writer.specs.Between.Pieces.{negative, SignAndSize, FormOf, PointedLength, Power}
+use Rattle.writer.specs.Between.Pieces.{FormOf, PointedLength, Power}
 use Rattle.writer.proofs.ByteOrDigitLaws.{decimal_fixed}
 
 -- ---- the form by the sign and the size of the power
 
-module _ {d : ℕ} (p : ℤ) (r : Signed) (s : SignAndSize p r) where
-  pub form_point : r.minus ≡ true → r.size ≤ plain_digits → FormOf d p (Point r.size)
-  form_point e h = go p (sym s.sign ∙ e) s.size
-    where
-      go : (p : ℤ) → negative p ≡ true → r.size ≡ nat_abs p → FormOf d p (Point r.size)
-      go (pos n) t z = let x : ◌≡◌ {A = ℕ} 0 1 = cc in absurd (omega arith)
-      go (negsuc n) t z = subst (λ (k : ℕ). FormOf d (negsuc n) (Point k)) (sym z) (P.point {n = n} (omega arith))
+module _ {d n : ℕ} where
+  pub form_point : (p : ℤ) → lt_z p (pos 0) ≡ true → n ≡ nat_abs p → n ≤ plain_digits → FormOf d p (Point n)
+  form_point (pos k) t e h = absurd (omega (arith, ltb-true k 0 t))
+  form_point (negsuc k) t e h = subst (λ (x : ℕ). FormOf d (negsuc k) (Point x)) (sym e) (P.point {n = k} (omega arith))
 
-  pub form_lowered : r.minus ≡ true → plain_digits < r.size → FormOf d p WithPower
-  form_lowered e h = go p (sym s.sign ∙ e) s.size
-    where
-      go : (p : ℤ) → negative p ≡ true → r.size ≡ nat_abs p → FormOf d p WithPower
-      go (pos n) t z = let x : ◌≡◌ {A = ℕ} 0 1 = cc in absurd (omega arith)
-      go (negsuc n) t z = P.lowered {n = n} (omega arith)
+  pub form_lowered : (p : ℤ) → lt_z p (pos 0) ≡ true → n ≡ nat_abs p → plain_digits < n → FormOf d p WithPower
+  form_lowered (pos k) t e h = absurd (omega (arith, ltb-true k 0 t))
+  form_lowered (negsuc k) t e h = P.lowered {n = k} (omega arith)
 
-  pub form_zeros : r.minus ≡ false → d + r.size ≤ plain_digits → FormOf d p (Zeros r.size)
-  form_zeros e h = go p (sym s.sign ∙ e) s.size
-    where
-      go : (p : ℤ) → negative p ≡ false → r.size ≡ nat_abs p → FormOf d p (Zeros r.size)
-      go (pos n) t z = subst (λ (k : ℕ). FormOf d (pos n) (Zeros k)) (sym z) (P.zeros {p = n} (omega arith))
-      go (negsuc n) t z = let x : ◌≡◌ {A = ℕ} 0 1 = cc in absurd (omega arith)
+  pub form_zeros : (p : ℤ) → lt_z p (pos 0) ≡ false → n ≡ nat_abs p → d + n ≤ plain_digits → FormOf d p (Zeros n)
+  form_zeros (pos k) t e h = subst (λ (x : ℕ). FormOf d (pos k) (Zeros x)) (sym e) (P.zeros {p = k} (omega arith))
+  form_zeros (negsuc k) t e h = cc
 
-  pub form_raised : r.minus ≡ false → plain_digits < d + r.size → FormOf d p WithPower
-  form_raised e h = go p (sym s.sign ∙ e) s.size
-    where
-      go : (p : ℤ) → negative p ≡ false → r.size ≡ nat_abs p → FormOf d p WithPower
-      go (pos n) t z = P.raised {p = n} (omega arith)
-      go (negsuc n) t z = let x : ◌≡◌ {A = ℕ} 0 1 = cc in absurd (omega arith)
+  pub form_raised : (p : ℤ) → lt_z p (pos 0) ≡ false → n ≡ nat_abs p → plain_digits < d + n → FormOf d p WithPower
+  form_raised (pos k) t e h = P.raised {p = k} (omega arith)
+  form_raised (negsuc k) t e h = cc
 
--- of a power as it is read
-pub form_held : {d : ℕ} (p : ℤ) {r s : Form} → SFits w32 p → r ≡ s → FormOf d (to_z w32 (of_z w32 p)) r → FormOf d p s
-form_held {d} p {s = s} f e x = subst (λ (q : ℤ). FormOf d q s) (to_z-of_z w32 p f) (subst (FormOf d (to_z w32 (of_z w32 p))) e x)
+-- of a power as it is handed over
+pub form_held : {d : ℕ} {p : ℤ} {f : Form} → SFits w32 p → FormOf d (to_z w32 (of_z w32 p)) f → FormOf d p f
+form_held {d} {p} {f} h x = subst (λ (q : ℤ). FormOf d q f) (to_z-of_z w32 p h) x
 
 -- ---- zeros
 

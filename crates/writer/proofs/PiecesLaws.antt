@@ -1,106 +1,100 @@
 -- The pieces' texts by cases, as the code goes by them. Assumes nothing.
-use mathlib.Core.Path.{◌≡◌, refl, sym, ap, ◌∙◌}
-use mathlib.Core.Bool.{Bool, true, false}
-use mathlib.Core.List.{List, [], ◌∷◌, ◌++◌}
+use mathlib.Core.Path.{◌≡◌, refl, sym, ap, ◌∙◌, subst}
+use mathlib.Core.Logic.{◌⊎◌, inl, inr}
+use mathlib.Core.Bool.{Bool, false, cond}
+use mathlib.Core.List.{List, [], ◌∷◌, ◌++◌, append_assoc}
 use Prim.Native.Nat.{ℕ, zero, suc, ◌+◌, ◌-◌, ◌*◌, ◌/◌, ◌%◌, ◌^◌, ◌≤◌, ◌<◌}
+use native.Mathlib.Decide.{dec_le}
+use native.Mathlib.Nat.{lt_of_not-le}
 use native.Mathlib.Omega.{arith}
+use Rattle.std.specs.Prelude.{Some, None}
 use lib.IntN.{ℤ, pos, negsuc, nat_abs}
+use lib.Signed.{lt_z}
+use mir.Syntax.{w16, w32}
+use mir.Val.{SFits, of_z, to_z}
+use mir.ValLaws.{to_z-of_z}
+use Rattle.std.proofs.lemmas.Int.{ints}
 use lib.ListN.{length, get_or, take, drop, length-append}
 use borrow.Author.Tests.{lt-ltb, le-ltb, eq-eqb, ne_eqb}
 use Rattle.meaning.specs.Letters.{letters, ch}
-use Rattle.meaning.specs.Limits.{fraction_digits, second, store_limit}
+use Rattle.meaning.specs.Limits.{second, store_limit}
+use Rattle.meaning.specs.declared.Number.{Number}
 use Rattle.meaning.specs.declared.Number.TheVariants.{Finite, NotANumber, Infinite}
 use Rattle.meaning.specs.declared.Date.{Date}
+use Rattle.meaning.specs.declared.Time.{Time}
 use Rattle.meaning.specs.declared.Time.TheVariants.{LocalDate, LocalTime, LocalDateTime, OffsetDateTime}
 use Rattle.meaning.specs.Canonical.{decimal, fixed, trimmed, hex_pair, escaped, escapes, quoted, hex_pairs, binary_text, minus_text, minutes_text, power_text}
 use Rattle.meaning.specs.Canonical.{finite_text, number_text, offset_text, fraction_text, date_text, clock_text, time_text}
 use Rattle.meaning.proofs.Digits.{fixed_length, trimmed_less}
-use Rattle.meaning.proofs.Text.{date_length}
 use Rattle.meaning.proofs.Quotes.{escaped_plain, escaped_low, escapes_more, escapes_length, quoted_length}
-use Rattle.writer.specs.declared.Signed.{Signed}
-use Rattle.writer.specs.Between.Pieces.{negative, SignAndSize, Lettered}
+use Rattle.writer.specs.declared.Trimmed.{Trimmed}
+use Rattle.writer.specs.Between.Pieces.{FractionDigits, Lettered}
 
 pub length_three : (a b c : List ℕ) → length (a ++ b ++ c) ≡ length a + length b + length c
 length_three a b c = simp length-append
 
 -- ---- numbers
 
-pub finite_text_lem : (minus : Bool) (c : ℕ) (p : ℤ) → number_text (Finite minus c p) ≡ minus_text minus ++ finite_text c p
-unfolding number_text
-finite_text_lem minus c p = refl
+module _ {n : Number} where
+  pub finite_parts : {minus : Bool} {c : ℕ} {p : ℤ} → n ≡ Finite minus c p → number_text n ≡ minus_text minus ++ finite_text c p
+  unfolding number_text
+  finite_parts e = ap number_text e
 
-pub nan_text : number_text NotANumber ≡ letters "NaN"
-unfolding number_text
-nan_text = refl
+  pub nan_text : n ≡ NotANumber → number_text n ≡ letters "NaN"
+  unfolding number_text
+  nan_text e = ap number_text e
 
-pub infinite_text : (minus : Bool) → number_text (Infinite minus) ≡ minus_text minus ++ letters "Infinity"
-unfolding number_text
-infinite_text minus = refl
+  pub infinite_parts : {minus : Bool} → n ≡ Infinite minus → number_text n ≡ minus_text minus ++ letters "Infinity"
+  unfolding number_text
+  infinite_parts e = ap number_text e
 
 -- ---- powers
 
-pub power_none : (p : ℤ) → nat_abs p ≡ 0 → power_text p ≡ []
+power_parts : (p : ℤ) → (p ≡ pos 0 → ⊥) → power_text p ≡ letters "e" ++ minus_text (lt_z p (pos 0)) ++ decimal (nat_abs p)
 unfolding power_text
-power_none (pos zero) e = refl
-power_none (pos (suc n)) e = absurd (omega arith)
-power_none (negsuc n) e = absurd (omega arith)
+power_parts (pos zero) h = absurd (h refl)
+power_parts (pos (suc k)) h =
+    let z : lt_z (pos (suc k)) (pos 0) ≡ false = le-ltb (suc k) 0 (omega arith) in
+    ap (λ (b : Bool). letters "e" ++ minus_text b ++ decimal (suc k)) (sym z)
+power_parts (negsuc k) h = refl
 
-pub power_some : (p : ℤ) → (nat_abs p ≡ 0 → ⊥) → power_text p ≡ letters "e" ++ minus_text (negative p) ++ decimal (nat_abs p)
-unfolding power_text
-power_some (pos zero) h = absurd (h refl)
-power_some (pos (suc n)) h = refl
-power_some (negsuc n) h = refl
+-- by the sign and the size, as the machine has them
+module _ (p : ℤ) (f : SFits w32 p) where
+  pub power_none : of_z w32 p ≡ 0 → power_text p ≡ []
+  unfolding power_text
+  power_none e = let z : p ≡ pos 0 = omega (arith, ints) in ap power_text z
 
--- by the sign and the size that were made of it
-pub power_at_zero : (p : ℤ) (r : Signed) → SignAndSize p r → r.size ≡ 0 → power_text p ≡ []
-power_at_zero p r s e = power_none p (sym s.size ∙ e)
+  module _ (h : of_z w32 p ≡ 0 → ⊥) {n : ℕ} (e : n ≡ nat_abs (to_z w32 (of_z w32 p))) where
+    pub power_some : power_text p ≡ letters "e" ++ minus_text (lt_z (to_z w32 (of_z w32 p)) (pos 0)) ++ decimal n
+    power_some = rw (e, to_z-of_z w32 p f) (power_parts p (λ z. h (ap (of_z w32) z)))
 
-pub power_split : (p : ℤ) (r : Signed) → SignAndSize p r → (r.size ≡ 0 → ⊥) → power_text p ≡ letters "e" ++ minus_text r.minus ++ decimal r.size
-power_split p r s h =
-    power_some p (λ e. h (s.size ∙ e))
-    ∙ ap (λ (b : Bool). letters "e" ++ minus_text b ++ decimal (nat_abs p)) (sym s.sign)
-    ∙ ap (λ (n : ℕ). letters "e" ++ minus_text r.minus ++ decimal n) (sym s.size)
+    pub power_length : length (power_text p) ≡ 1 + length (minus_text (lt_z (to_z w32 (of_z w32 p)) (pos 0))) + length (decimal n)
+    power_length = ap length power_some ∙ length_three (letters "e") _ _
 
 -- ---- offsets
 
 pub minutes_length : (n : ℕ) → length (minutes_text n) ≡ 5
 minutes_length n = simp (length-append, fixed_length)
 
-pub offset_none : (z : ℤ) → nat_abs z ≡ 0 → offset_text z ≡ letters "Z"
+offset_parts : (z : ℤ) → (z ≡ pos 0 → ⊥) → offset_text z ≡ (cond (lt_z z (pos 0)) (ch "-") (ch "+") ∷ minutes_text (nat_abs z))
 unfolding offset_text
-offset_none (pos zero) e = refl
-offset_none (pos (suc n)) e = absurd (omega arith)
-offset_none (negsuc n) e = absurd (omega arith)
+offset_parts (pos zero) h = absurd (h refl)
+offset_parts (pos (suc k)) h =
+    let z : lt_z (pos (suc k)) (pos 0) ≡ false = le-ltb (suc k) 0 (omega arith) in
+    ap (λ (b : Bool). cond b (ch "-") (ch "+") ∷ minutes_text (suc k)) (sym z)
+offset_parts (negsuc k) h = refl
 
-pub offset_minus : (z : ℤ) → (nat_abs z ≡ 0 → ⊥) → negative z ≡ true → offset_text z ≡ letters "-" ++ minutes_text (nat_abs z)
-unfolding offset_text
-offset_minus (pos n) h e = let x : ◌≡◌ {A = ℕ} 0 1 = cc in absurd (omega arith)
-offset_minus (negsuc n) h e = refl
+module _ (z : ℤ) (f : SFits w16 z) where
+  pub offset_none : of_z w16 z ≡ 0 → offset_text z ≡ letters "Z"
+  unfolding offset_text
+  offset_none e = let q : z ≡ pos 0 = omega (arith, ints) in ap offset_text q
 
-pub offset_plus : (z : ℤ) → (nat_abs z ≡ 0 → ⊥) → negative z ≡ false → offset_text z ≡ letters "+" ++ minutes_text (nat_abs z)
-unfolding offset_text
-offset_plus (pos zero) h e = absurd (h refl)
-offset_plus (pos (suc n)) h e = refl
-offset_plus (negsuc n) h e = let x : ◌≡◌ {A = ℕ} 0 1 = cc in absurd (omega arith)
+  module _ (h : of_z w16 z ≡ 0 → ⊥) {n : ℕ} (e : n ≡ nat_abs (to_z w16 (of_z w16 z))) where
+    pub offset_some : offset_text z ≡ (cond (lt_z (to_z w16 (of_z w16 z)) (pos 0)) (ch "-") (ch "+") ∷ minutes_text n)
+    offset_some = rw (e, to_z-of_z w16 z f) (offset_parts z (λ x. h (ap (of_z w16) x)))
 
-module _ (z : ℤ) (r : Signed) (s : SignAndSize z r) where
-  pub offset_at_zero : r.size ≡ 0 → offset_text z ≡ letters "Z"
-  offset_at_zero e = offset_none z (sym s.size ∙ e)
-
-  pub offset_below : (r.size ≡ 0 → ⊥) → r.minus ≡ true → offset_text z ≡ letters "-" ++ minutes_text r.size
-  offset_below h e =
-      offset_minus z (λ g. h (s.size ∙ g)) (sym s.sign ∙ e) ∙ ap (λ (n : ℕ). letters "-" ++ minutes_text n) (sym s.size)
-
-  pub offset_above : (r.size ≡ 0 → ⊥) → r.minus ≡ false → offset_text z ≡ letters "+" ++ minutes_text r.size
-  offset_above h e =
-      offset_plus z (λ g. h (s.size ∙ g)) (sym s.sign ∙ e) ∙ ap (λ (n : ℕ). letters "+" ++ minutes_text n) (sym s.size)
-
-  pub offset_signed : (r.size ≡ 0 → ⊥) → length (offset_text z) ≡ 6
-  offset_signed h = go r.minus refl
-    where
-      go : (b : Bool) → r.minus ≡ b → length (offset_text z) ≡ 6
-      go true e = ap length (offset_below h e) ∙ omega (arith, minutes_length r.size)
-      go false e = ap length (offset_above h e) ∙ omega (arith, minutes_length r.size)
+  pub offset_length : (of_z w16 z ≡ 0 → ⊥) → length (offset_text z) ≡ 6
+  offset_length h = ap length (offset_some h refl) ∙ omega (arith, minutes_length (nat_abs (to_z w16 (of_z w16 z))))
 
 -- ---- fractions
 
@@ -108,9 +102,10 @@ pub fraction_none : (n : ℕ) → n ≡ 0 → fraction_text n ≡ []
 unfolding fraction_text
 fraction_none n e = simp (eq-eqb n 0 e)
 
-pub fraction_some : (n : ℕ) → (n ≡ 0 → ⊥) → fraction_text n ≡ letters "." ++ trimmed fraction_digits n
+-- by the digits that are left of it
+pub fraction_some : {n : ℕ} {r : Trimmed} → (n ≡ 0 → ⊥) → FractionDigits n r → fraction_text n ≡ letters "." ++ fixed r.count r.digits
 unfolding fraction_text
-fraction_some n h = simp (ne_eqb n 0 h)
+fraction_some {n} h t = simp (ne_eqb n 0 h) (ap (λ (l : List ℕ). letters "." ++ l) t.text)
 
 -- the last digit is not 0: nothing is cut
 pub trimmed_kept : (w n : ℕ) → 0 < w → (n % 10 ≡ 0 → ⊥) → trimmed w n ≡ fixed w n
@@ -138,35 +133,37 @@ pub data Short : ℕ → ℕ → Type 0 where
   return : Short (ch "\r") (ch "r")
   tab : Short (ch "\t") (ch "t")
 
-short_text : {c r : ℕ} → Short c r → (escaped c ≡ letters "\\" ++ (r ∷ [])) × (0 < r)
+short_text : {c r : ℕ} → Short c r → escaped c ≡ letters "\\" ++ (r ∷ [])
 unfolding escaped
-short_text quote = (refl, omega arith)
-short_text backslash = (refl, omega arith)
-short_text backspace = (refl, omega arith)
-short_text form_feed = (refl, omega arith)
-short_text line_feed = (refl, omega arith)
-short_text return = (refl, omega arith)
-short_text tab = (refl, omega arith)
+short_text quote = refl
+short_text backslash = refl
+short_text backspace = refl
+short_text form_feed = refl
+short_text line_feed = refl
+short_text return = refl
+short_text tab = refl
 
-pub lettered_short : {c r : ℕ} (b : ℕ) → Short c r → b ≡ c → Lettered b r
-lettered_short {c} {r} b s e =
-    let t = short_text s in
-    record { short = λ g. ap escaped e ∙ t.0; other = λ g. absurd (omega (arith, t.1)) }
+pub lettered : {c r : ℕ} (b : ℕ) → Short c r → b ≡ c → Lettered b (Some r)
+lettered b s e = ap escaped e ∙ short_text s
 
-pub lettered_plain : (b : ℕ) → (b ≡ ch "\"" → ⊥) → (b ≡ ch "\\" → ⊥) → ch " " ≤ b → Lettered b 0
-lettered_plain b q s h = record { short = λ g. absurd (g refl); other = λ g. escaped_plain b q s h ∙ simp (le-ltb b (ch " ") h) }
+pub lettered_self : (b : ℕ) → (b ≡ ch "\"") ⊎ (b ≡ ch "\\") → Lettered b (Some b)
+lettered_self b (inl e) = subst (λ (x : ℕ). Lettered x (Some x)) (sym e) (short_text quote)
+lettered_self b (inr e) = subst (λ (x : ℕ). Lettered x (Some x)) (sym e) (short_text backslash)
 
-pub lettered_low : (b : ℕ) → (b ≡ ch "\u{8}" → ⊥) → (b ≡ ch "\u{c}" → ⊥) → (b ≡ ch "\n" → ⊥) → (b ≡ ch "\r" → ⊥) → (b ≡ ch "\t" → ⊥) → b < ch " "
-    → Lettered b 0
-lettered_low b h1 h2 h3 h4 h5 h =
-    record { short = λ g. absurd (g refl); other = λ g. escaped_low b h1 h2 h3 h4 h5 h ∙ simp (lt-ltb b (ch " ") h) }
+pub unlettered : (b : ℕ) → (b ≡ ch "\"" → ⊥) → (b ≡ ch "\\" → ⊥) → (b ≡ ch "\u{8}" → ⊥) → (b ≡ ch "\u{c}" → ⊥) → (b ≡ ch "\n" → ⊥) → (b ≡ ch "\r" → ⊥)
+    → (b ≡ ch "\t" → ⊥) → Lettered b None
+unlettered b h1 h2 h3 h4 h5 h6 h7 =
+    elim (dec_le (ch " ") b) [
+      | yes h ↦ escaped_plain b h1 h2 h ∙ simp (le-ltb b (ch " ") h)
+      | no h ↦ escaped_low b h3 h4 h5 h6 h7 (lt_of_not-le h) ∙ simp (lt-ltb b (ch " ") (lt_of_not-le h))
+    ]
 
-module _ (b r : ℕ) (l : Lettered b r) (z : r ≡ 0) where
+module _ (b : ℕ) (l : Lettered b None) where
   pub low_text : b < ch " " → escaped b ≡ letters "\\u00" ++ hex_pair b
-  low_text h = l.other z ∙ simp (lt-ltb b (ch " ") h)
+  low_text h = l ∙ simp (lt-ltb b (ch " ") h)
 
   pub plain_text : ch " " ≤ b → escaped b ≡ b ∷ []
-  plain_text h = l.other z ∙ simp (le-ltb b (ch " ") h)
+  plain_text h = l ∙ simp (le-ltb b (ch " ") h)
 
 -- ---- strings and binary, from one byte to the next
 
@@ -190,38 +187,33 @@ part_to store start size = let z : start + size - start ≡ size = omega arith i
 
 -- ---- dates and times
 
-pub date_parts : (d : Date) → date_text d ≡ fixed 4 d.year ++ letters "-" ++ fixed 2 d.month ++ letters "-" ++ fixed 2 d.day
+pub date_parts : (d : Date) → date_text d ≡ fixed 4 d.year ++ (ch "-" ∷ fixed 2 d.month) ++ (ch "-" ∷ fixed 2 d.day)
 unfolding date_text
-date_parts d = refl
+date_parts d = simp append_assoc
 
 pub clock_parts : (t : ℕ)
     → clock_text t
-    ≡ fixed 2 (t / (60 * 60 * second)) ++ letters ":" ++ fixed 2 (t / (60 * second) % 60) ++ letters ":" ++ fixed 2 (t / second % 60)
-    ++ fraction_text (t % second)
+    ≡ fixed 2 (t / (60 * 60 * second)) ++ (ch ":" ∷ fixed 2 (t / (60 * second) % 60)) ++ (ch ":" ∷ fixed 2 (t / second % 60)) ++ fraction_text (t % second)
 unfolding clock_text
-clock_parts t = refl
+clock_parts t = simp append_assoc
 
-module _ (d : Date) (t : ℕ) where
-  pub local_date_time : time_text (LocalDateTime d t) ≡ date_text d ++ letters "T" ++ clock_text t
+pub minutes_parts : (n : ℕ) → minutes_text n ≡ fixed 2 (n / 60) ++ (ch ":" ∷ fixed 2 (n % 60))
+minutes_parts n = simp append_assoc
+
+module _ {t : Time} where
+  pub date_alone : {d : Date} → t ≡ LocalDate d → time_text t ≡ date_text d
   unfolding time_text
-  local_date_time = refl
+  date_alone e = ap time_text e
 
-  pub offset_date_time : (o : ℤ) → time_text (OffsetDateTime d t o) ≡ date_text d ++ letters "T" ++ clock_text t ++ offset_text o
+  pub clock_alone : {clock : ℕ} → t ≡ LocalTime clock → time_text t ≡ clock_text clock
   unfolding time_text
-  offset_date_time o = refl
+  clock_alone e = ap time_text e
 
-  pub local_date_time_length : length (time_text (LocalDateTime d t)) ≡ 11 + length (clock_text t)
-  local_date_time_length = ap length local_date_time ∙ length_three (date_text d) (letters "T") (clock_text t) ∙ omega (arith, date_length d)
+  pub local_parts : {d : Date} {clock : ℕ} → t ≡ LocalDateTime d clock → time_text t ≡ date_text d ++ letters "T" ++ clock_text clock
+  unfolding time_text
+  local_parts e = ap time_text e
 
-  pub offset_date_time_length : (o : ℤ) → length (time_text (OffsetDateTime d t o)) ≡ 11 + length (clock_text t) + length (offset_text o)
-  offset_date_time_length o =
-      ap length (offset_date_time o) ∙ length-append (date_text d ++ letters "T" ++ clock_text t) (offset_text o)
-      ∙ omega (arith, date_length d, length_three (date_text d) (letters "T") (clock_text t))
-
-pub date_alone : (d : Date) → time_text (LocalDate d) ≡ date_text d
-unfolding time_text
-date_alone d = refl
-
-pub clock_alone : (t : ℕ) → time_text (LocalTime t) ≡ clock_text t
-unfolding time_text
-clock_alone t = refl
+  pub offset_date_parts : {d : Date} {clock : ℕ} {o : ℤ} → t ≡ OffsetDateTime d clock o
+      → time_text t ≡ date_text d ++ letters "T" ++ clock_text clock ++ offset_text o
+  unfolding time_text
+  offset_date_parts e = ap time_text e

@@ -1,11 +1,12 @@
 -- Bytes that stand for themselves: one, a block, a run, and a run's share of a string's text. Assumes nothing.
 use mathlib.Core.Path.{◌≡◌, sym, ap, ap₂, ◌∙◌, subst}
-use mathlib.Core.Bool.{Bool, true, false}
+use mathlib.Core.Bool.{Bool, true, not}
 use mathlib.Core.List.{List, [], ◌∷◌, ◌++◌}
 use Prim.Native.Nat.{ℕ, zero, suc, ◌+◌, ◌-◌, ◌≤◌, ◌<◌}
-use native.Mathlib.Decide.{dec_le, dec_lt}
-use native.Mathlib.Nat.{lt_of_not-le}
+use native.Mathlib.Decide.{dec_lt}
 use native.Mathlib.Omega.{arith}
+use borrow.Author.Tests.{eq-eqb}
+use lib.Dec.{eqb}
 use lib.ListN.{length, get_or, take, drop, length-append, length-take, length-drop}
 use Rattle.meaning.specs.Letters.{ch}
 use Rattle.meaning.specs.Canonical.{escaped, escapes}
@@ -15,12 +16,8 @@ use Rattle.writer.proofs.LaidLaws.{drop_more}
 
 -- ---- one byte
 
-pub ease_of : (b a p q l r : ℕ) → (b < 32 → a ≡ 0) → (b ≡ ch "\"" → p ≡ 0) → (b ≡ ch "\\" → q ≡ 0) → (l ≤ p) × (l ≤ q) → (r ≤ a) × (r ≤ l) → Ease b r
-ease_of b a p q l r low quote slash x y =
-    record {
-      plain = λ n. escaped_plain b (λ e. n (omega (arith, quote e))) (λ e. n (omega (arith, slash e)))
-          (elim (dec_le 32 b) [ yes h ↦ h | no h ↦ absurd (n (omega (arith, low (lt_of_not-le h)))) ]);
-    }
+pub ease_of : (b r : ℕ) → ((r ≡ 0 → ⊥) → (ch " " ≤ b) × (b ≡ ch "\"" → ⊥) × (b ≡ ch "\\" → ⊥)) → Ease b r
+ease_of b r h = record { plain = λ n. escaped_plain b (h n).1 (h n).2 (h n).0 }
 
 -- ---- a block
 
@@ -76,11 +73,9 @@ module _ (s : List ℕ) where
   run_block from i r p h d n =
       run_join from i (i + 16) p (record { behind = omega arith; within = omega arith; each = λ k f g. all_at i r k d n f g })
 
-  pub last_none : PlainLast s false
-  last_none = record { run = λ e. let z : ◌≡◌ {A = ℕ} 0 1 = cc in absurd (omega arith) }
-
-  pub last_block : (r : ℕ) {b : Bool} → 16 ≤ length s → EaseAll s (length s - 16) 16 r → (r ≡ 0 → ⊥) → PlainLast s b
-  last_block r h d n = record { run = λ e k f g. all_at (length s - 16) r k d n (omega arith) (omega arith) }
+  pub last_block : (r : ℕ) → 16 ≤ length s → EaseAll s (length s - 16) 16 r → PlainLast s (not (eqb r 0))
+  last_block r h d =
+      record { run = λ e k f g. all_at (length s - 16) r k d (λ z. let t = eq-eqb r 0 z in cc) (omega arith) (omega arith) }
 
   pub run_last : (from i : ℕ) {b : Bool} → PlainRun s from i → length s - i < 16 → PlainLast s b → b ≡ true → PlainRun s from (length s)
   run_last from i p h d e =

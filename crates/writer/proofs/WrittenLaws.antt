@@ -8,13 +8,12 @@ use Rattle.std.specs.Prelude.{Some, None, Result, Ok, Err}
 use lib.ListN.{length}
 use Rattle.rules.specs.Paper.{done, refused}
 use Rattle.meaning.specs.declared.Refusal.{Refusal}
-use Rattle.meaning.specs.declared.Refusal.TheVariants.{NotWellFormed, NoJsonForm, OutputTooShort, WrittenTooLong}
+use Rattle.meaning.specs.declared.Refusal.TheVariants.{NoJsonForm, OutputTooShort, WrittenTooLong}
 use Rattle.meaning.specs.Limits.{text_limit}
 use Rattle.meaning.specs.Meaning.{Meaning}
 use Rattle.meaning.specs.Tape.{WellFormed}
 use Rattle.meaning.specs.Canonical.{canonical}
 use Rattle.meaning.specs.Json.{no_json}
-use Rattle.tape.specs.declared.Judged.{Judged}
 use Rattle.tape.specs.Between.Judging.{Judges, well, ill}
 use Rattle.writer.specs.Between.Walk.{TextFits, TextLength, TextPut, Finds, at, nowhere, WritesText, FirstFormless}
 use Rattle.writer.specs.Written.{Writes, too_long, too_short, written, WritesJaxn, WritesJson}
@@ -53,20 +52,21 @@ module _ {tape store : List ℕ} (o : List ℕ) {needed : ℕ} (l : TextLength t
 -- ---- the public calls, by what the judge and the search say
 
 module _ {tape store : List ℕ} where
-  pub jaxn_ill : Judges tape store Judged.Ill → (o : List ℕ) → WritesJaxn tape store o (Err (NotWellFormed 0)) o
+  pub jaxn_ill : {why : Refusal} → Judges tape store (Err why) → (o : List ℕ) → WritesJaxn tape store o (Err why) o
   jaxn_ill (ill n) o = WritesJaxn.ill n refl
 
-  pub json_ill : Judges tape store Judged.Ill → (o : List ℕ) → WritesJson tape store o (Err (NotWellFormed 0)) o
+  pub json_ill : {why : Refusal} → Judges tape store (Err why) → (o : List ℕ) → WritesJson tape store o (Err why) o
   json_ill (ill n) o = WritesJson.ill n refl
 
-  pub jaxn_text : Judges tape store Judged.Well → {o out : List ℕ} {answer : Result ℕ Refusal} → WritesText tape store o answer out
-      → WritesJaxn tape store o answer out
-  jaxn_text (well w) t = WritesJaxn.text w (t.is w)
+  module _ {v : Unit {0}} where
+    pub jaxn_text : Judges tape store (Ok v) → {o out : List ℕ} {answer : Result ℕ Refusal} → WritesText tape store o answer out
+        → WritesJaxn tape store o answer out
+    jaxn_text (well w) t = WritesJaxn.text w (t.is w)
 
-  pub json_formless : Judges tape store Judged.Well → {index : ℕ} → FirstFormless tape store (Some index) → (o : List ℕ)
-      → WritesJson tape store o (Err (NoJsonForm index)) o
-  json_formless (well w) f o = WritesJson.formless w (found (f.is w)) refl
+    pub json_formless : Judges tape store (Ok v) → {index : ℕ} → FirstFormless tape store (Some index) → (o : List ℕ)
+        → WritesJson tape store o (Err (NoJsonForm index)) o
+    json_formless (well w) f o = WritesJson.formless w (found (f.is w)) refl
 
-  pub json_text : Judges tape store Judged.Well → FirstFormless tape store None → {o out : List ℕ} {answer : Result ℕ Refusal}
-      → WritesText tape store o answer out → WritesJson tape store o answer out
-  json_text (well w) f t = WritesJson.text w (not_found (f.is w)) (t.is w)
+    pub json_text : Judges tape store (Ok v) → FirstFormless tape store None → {o out : List ℕ} {answer : Result ℕ Refusal}
+        → WritesText tape store o answer out → WritesJson tape store o answer out
+    json_text (well w) f t = WritesJson.text w (not_found (f.is w)) (t.is w)

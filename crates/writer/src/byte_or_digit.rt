@@ -18,12 +18,8 @@ fn write_bytes(out: &mut [u8], s: &[u8]) -> usize
     requires { length s.now ≤ length out.old }
     ensures { Put s.now out.old out.new result }
 {
-    let mut i: usize = 0;
-    while i < s.len() {
-        out[i] = s[i];
-        i += 1;
-    }
-    i
+    out[..s.len()].copy_from_slice(s);
+    s.len()
 }
 
 // The output from `at` on is lent: a part of its own, of which no store can change the place, is copied many bytes at once.
@@ -93,7 +89,7 @@ pub fn digits_at(out: &mut [u8], at: usize, w: usize, n: u64) -> usize
 fn reaches(n: u64, p: u64) -> usize
     ensures { Reaches n p result }
 {
-    if n < p { 0 } else { 1 }
+    usize::from(n >= p)
 }
 
 // 10 to the power t, and 0 where t is 0. A match of one number, with an arm for each of its values, is compiled to a table.

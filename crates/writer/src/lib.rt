@@ -14,14 +14,6 @@ mod time_value;
 mod walk;
 
 use meaning::{Refusal, TEXT_LIMIT};
-use tape::Judged;
-
-// A signed number's sign and size.
-#[derive(Clone, Copy)]
-struct Signed {
-    minus: bool,
-    size: u64,
-}
 
 // How a finite number is written: its digits and so many zeros; so many of its digits after a point; or with its power.
 #[derive(Clone, Copy)]
@@ -66,9 +58,7 @@ fn write_text(tape: &[u8], store: &[u8], out: &mut [u8]) -> Result<usize, Refusa
 pub fn write_jaxn(tape: &[u8], store: &[u8], out: &mut [u8]) -> Result<usize, Refusal>
     ensures { WritesJaxn tape.now store.now out.old result out.new }
 {
-    if let Judged::Ill = tape::judge(tape, store) {
-        return Err(Refusal::NotWellFormed(0));
-    }
+    tape::judge(tape, store)?;
     write_text(tape, store, out)
 }
 
@@ -76,9 +66,7 @@ pub fn write_jaxn(tape: &[u8], store: &[u8], out: &mut [u8]) -> Result<usize, Re
 pub fn write_json(tape: &[u8], store: &[u8], out: &mut [u8]) -> Result<usize, Refusal>
     ensures { WritesJson tape.now store.now out.old result out.new }
 {
-    if let Judged::Ill = tape::judge(tape, store) {
-        return Err(Refusal::NotWellFormed(0));
-    }
+    tape::judge(tape, store)?;
     if let Some(index) = walk::first_formless(tape, store) {
         return Err(Refusal::NoJsonForm(index));
     }

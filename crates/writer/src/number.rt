@@ -3,26 +3,10 @@ ghost use Rattle.std.specs.Prelude.{◌≡◌, ◌+◌, ◌≤◌, ◌<◌, leng
 ghost use Rattle.meaning.specs.Canonical.{decimal, minus_text, power_text, pointed, finite_text, number_text};
 ghost use Rattle.meaning.specs.Limits.{plain_digits};
 ghost use Rattle.writer.specs.Between.Laid.{Put, PutAt};
-ghost use Rattle.writer.specs.Between.Pieces.{FormOf, PointedLength, SignAndSize};
+ghost use Rattle.writer.specs.Between.Pieces.{FormOf, PointedLength};
 
-use crate::{Form, Signed, byte_or_digit};
+use crate::{Form, byte_or_digit};
 use meaning::{Number, PLAIN_DIGITS};
-
-// The sign and the number without it, never by negating: the least one has no opposite in 32 bits.
-pub fn sign_and_size(x: i32) -> Signed
-    ensures { SignAndSize x result }
-{
-    if x < 0 {
-        return Signed {
-            minus: true,
-            size: (-1 - x) as u64 + 1,
-        };
-    }
-    Signed {
-        minus: false,
-        size: x as u64,
-    }
-}
 
 // Minus if set.
 fn minus_at(out: &mut [u8], at: usize, minus: bool) -> usize
@@ -39,7 +23,7 @@ fn minus_at(out: &mut [u8], at: usize, minus: bool) -> usize
 fn minus_len(minus: bool) -> usize
     ensures { (result ≡ length (minus_text minus)) × (result ≤ 1) }
 {
-    if minus { 1 } else { 0 }
+    usize::from(minus)
 }
 
 // `e` and the power where it is not 0.
@@ -47,26 +31,22 @@ fn power_at(out: &mut [u8], at: usize, power: i32) -> usize
     requires { at + length (power_text power) ≤ length out.old }
     ensures { PutAt (power_text power) at out.old out.new result }
 {
-    let p = sign_and_size(power);
-    let size = p.size;
-    if size == 0 {
+    if power == 0 {
         return at;
     }
     let sign = byte_or_digit::byte_at(out, at, b'e');
-    let first = minus_at(out, sign, p.minus);
-    byte_or_digit::decimal_at(out, first, size)
+    let first = minus_at(out, sign, power < 0);
+    byte_or_digit::decimal_at(out, first, power.unsigned_abs() as u64)
 }
 
 // The length of the same.
 fn power_len(power: i32) -> usize
     ensures { (result ≡ length (power_text power)) × (result ≤ 22) }
 {
-    let p = sign_and_size(power);
-    let size = p.size;
-    if size == 0 {
+    if power == 0 {
         return 0;
     }
-    1 + minus_len(p.minus) + byte_or_digit::decimal_len(size)
+    1 + minus_len(power < 0) + byte_or_digit::decimal_len(power.unsigned_abs() as u64)
 }
 
 // Which form a number of d digits with this power has.
@@ -74,9 +54,8 @@ fn form(d: usize, power: i32) -> Form
     requires { d ≤ plain_digits }
     ensures { FormOf d power result }
 {
-    let p = sign_and_size(power);
-    let size = p.size as usize;
-    if p.minus {
+    let size = power.unsigned_abs() as usize;
+    if power < 0 {
         if size <= PLAIN_DIGITS {
             return Form::Point(size);
         }
@@ -145,7 +124,7 @@ fn finite_len(c: u64, power: i32) -> usize
 }
 
 // Into the lent part of the output, from its start.
-fn write_number(out: &mut [u8], n: Number) -> usize
+pub fn write_number(out: &mut [u8], n: Number) -> usize
     requires { length (number_text n) ≤ length out.old }
     ensures { Put (number_text n) out.old out.new result }
 {
@@ -179,12 +158,4 @@ pub fn number_len(n: Number) -> usize
         Number::NotANumber => 3,
         Number::Infinite { minus } => minus_len(minus) + 8,
     }
-}
-
-// The output from `at` on is lent.
-pub fn number_at(out: &mut [u8], at: usize, n: Number) -> usize
-    requires { at + length (number_text n) ≤ length out.old }
-    ensures { PutAt (number_text n) at out.old out.new result }
-{
-    at + write_number(&mut out[at..], n)
 }

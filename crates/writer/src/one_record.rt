@@ -1,7 +1,5 @@
 // One record of a well-formed tape: which it is, what it prints, and its share of the length.
-ghost use Rattle.std.specs.Prelude.{◌≡◌, [], ◌+◌, ◌≤◌, ◌<◌};
-ghost use lib.ListN.{length};
-ghost use Rattle.meaning.specs.declared.Record.{Record};
+ghost use Rattle.std.specs.Prelude.{◌≡◌, ◌+◌, ◌≤◌, ◌<◌, length};
 ghost use Rattle.meaning.specs.Limits.{record_limit, store_limit};
 ghost use Rattle.meaning.specs.Canonical.{quoted};
 ghost use Rattle.meaning.specs.Json.{json_form};
@@ -17,24 +15,10 @@ pub fn effect_of(r: Record) -> Effect
     ensures { result ≡ effect_of r }
 {
     match r {
-        Record::Null => Effect::Pass(true),
-        Record::Bool(_) => Effect::Pass(true),
-        Record::Number(_) => Effect::Pass(true),
-        Record::Str {
-            length: _,
-            start: _,
-        } => Effect::Pass(true),
-        Record::Key {
-            length: _,
-            start: _,
-        } => Effect::Pass(false),
-        Record::Bin {
-            length: _,
-            start: _,
-        } => Effect::Pass(true),
-        Record::Time(_) => Effect::Pass(true),
         Record::Array { count: _, end } => Effect::Open { closer: b']', end },
         Record::Object { count: _, end } => Effect::Open { closer: b'}', end },
+        Record::Key { .. } => Effect::Pass(false),
+        _ => Effect::Pass(true),
     }
 }
 
@@ -49,35 +33,36 @@ pub fn comma_at(out: &mut [u8], at: usize, comma: bool) -> usize
     at
 }
 
-// `true` or `false`.
-fn bool_at(out: &mut [u8], at: usize, b: bool) -> usize
-    requires { at + length (printed (Record.Bool b) []) ≤ length out.old }
-    ensures { PutAt (printed (Record.Bool b) []) at out.old out.new result }
+// The bytes of a string, a key or a binary.
+fn part_of<'a>(store: &'a [u8], size: usize, start: usize) -> &'a [u8]
+    requires { start + size ≤ length store.now }
+    ensures { result.now ≡ part store.now size start }
 {
-    if b {
-        return byte_or_digit::bytes_at(out, at, b"true");
-    }
-    byte_or_digit::bytes_at(out, at, b"false")
+    &store[start..start + size]
 }
 
-// The output from `at` on is lent to the number, string and time writers.
+// The output from `at` on is lent to the number, string, binary and time writers.
 pub fn printed_at(out: &mut [u8], at: usize, r: Record, store: &[u8]) -> usize
     requires { (bytes_end r ≤ length store.now) × (at + length (printed r store.now) ≤ length out.old) }
     ensures { PutAt (printed r store.now) at out.old out.new result }
 {
     match r {
         Record::Null => byte_or_digit::bytes_at(out, at, b"null"),
-        Record::Bool(b) => bool_at(out, at, b),
-        Record::Number(n) => number::number_at(out, at, n),
-        Record::Str { length, start } => string_or_binary::string_at(out, at, store, start, length),
+        Record::Bool(true) => byte_or_digit::bytes_at(out, at, b"true"),
+        Record::Bool(false) => byte_or_digit::bytes_at(out, at, b"false"),
+        Record::Number(n) => at + number::write_number(&mut out[at..], n),
+        Record::Str { length, start } => at
+            + string_or_binary::write_string(&mut out[at..], part_of(store, length, start)),
         Record::Key { length, start } => {
-            let colon = string_or_binary::string_at(out, at, store, start, length);
+            let colon = at
+                + string_or_binary::write_string(&mut out[at..], part_of(store, length, start));
             byte_or_digit::byte_at(out, colon, b':')
         }
-        Record::Bin { length, start } => string_or_binary::binary_at(out, at, store, start, length),
-        Record::Time(t) => time_value::time_at(out, at, t),
-        Record::Array { count: _, end: _ } => byte_or_digit::byte_at(out, at, b'['),
-        Record::Object { count: _, end: _ } => byte_or_digit::byte_at(out, at, b'{'),
+        Record::Bin { length, start } => at
+            + string_or_binary::write_binary(&mut out[at..], part_of(store, length, start)),
+        Record::Time(t) => at + time_value::write_time(&mut out[at..], t),
+        Record::Array { .. } => byte_or_digit::byte_at(out, at, b'['),
+        Record::Object { .. } => byte_or_digit::byte_at(out, at, b'{'),
     }
 }
 
@@ -86,16 +71,7 @@ fn closes(end: usize, index: usize) -> usize
     requires { index < record_limit }
     ensures { result ≡ closes end index }
 {
-    if end == index + 1 { 2 } else { 1 }
-}
-
-// The length of a string or key in quotes, from its part of the store.
-fn part_len(store: &[u8], start: usize, length: usize) -> usize
-    requires { (start + length ≤ lib.ListN.length store.now) × (lib.ListN.length store.now ≤ store_limit) }
-    ensures { result ≡ lib.ListN.length (quoted (part store.now length start)) }
-{
-    let end = start + length;
-    string_or_binary::string_len(&store[start..end])
+    1 + usize::from(end == index + 1)
 }
 
 // The length of the record's text, with the comma, colon or brackets that go with it.
@@ -105,19 +81,14 @@ pub fn share_of(r: Record, index: usize, store: &[u8]) -> usize
 {
     match r {
         Record::Null => 5,
-        Record::Bool(b) => {
-            if b {
-                return 5;
-            }
-            6
-        }
+        Record::Bool(true) => 5,
+        Record::Bool(false) => 6,
         Record::Number(n) => number::number_len(n) + 1,
-        Record::Str { length, start } => part_len(store, start, length) + 1,
-        Record::Key { length, start } => part_len(store, start, length) + 1,
-        Record::Bin { length, start: _ } => 2 * length + 2,
+        Record::Str { length, start } | Record::Key { length, start } =>
+            string_or_binary::string_len(part_of(store, length, start)) + 1,
+        Record::Bin { length, .. } => 2 * length + 2,
         Record::Time(t) => time_value::time_len(t) + 1,
-        Record::Array { count: _, end } => 1 + closes(end, index),
-        Record::Object { count: _, end } => 1 + closes(end, index),
+        Record::Array { end, .. } | Record::Object { end, .. } => 1 + closes(end, index),
     }
 }
 
@@ -126,31 +97,8 @@ pub fn json_form(r: Record) -> bool
     ensures { result ≡ json_form r }
 {
     match r {
-        Record::Null => true,
-        Record::Bool(_) => true,
-        Record::Number(n) => match n {
-            Number::Finite {
-                minus: _,
-                coefficient: _,
-                power: _,
-            } => true,
-            Number::NotANumber => false,
-            Number::Infinite { minus: _ } => false,
-        },
-        Record::Str {
-            length: _,
-            start: _,
-        } => true,
-        Record::Key {
-            length: _,
-            start: _,
-        } => true,
-        Record::Bin {
-            length: _,
-            start: _,
-        } => false,
-        Record::Time(_) => false,
-        Record::Array { count: _, end: _ } => true,
-        Record::Object { count: _, end: _ } => true,
+        Record::Number(n) => matches!(n, Number::Finite { .. }),
+        Record::Bin { .. } | Record::Time(_) => false,
+        _ => true,
     }
 }

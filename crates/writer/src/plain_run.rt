@@ -2,32 +2,13 @@
 ghost use Rattle.std.specs.Prelude.{◌≡◌, ◌+◌, ◌≤◌, ◌<◌, length};
 ghost use Rattle.writer.specs.Between.Pieces.{Ease, EaseAll, PlainRun, PlainLast};
 
-// How far a byte is from another one.
-fn apart(b: u8, c: u8) -> u8
-    ensures { b ≡ c → result ≡ 0 }
-{
-    if b < c { c - b } else { b - c }
-}
-
-// How far a byte is above those below U+0020.
-fn above(b: u8) -> u8
-    ensures { b < 32 → result ≡ 0 }
-{
-    if b < b' ' { 0 } else { b - 31 }
-}
-
-// The lesser of two bytes.
-fn lesser(a: u8, b: u8) -> u8
-    ensures { (result ≤ a) × (result ≤ b) }
-{
-    if a < b { a } else { b }
-}
-
-// How far a byte is from those that are escaped. These three tests have no jump, so that sixteen bytes are tested at once.
+// How far a byte is from those that are escaped. There is no jump, so that sixteen bytes are tested at once.
 fn ease(b: u8) -> u8
     ensures { Ease b result }
 {
-    lesser(above(b), lesser(apart(b, b'"'), apart(b, b'\\')))
+    b.saturating_sub(31)
+        .min(b.abs_diff(b'"'))
+        .min(b.abs_diff(b'\\'))
 }
 
 // The least of sixteen bytes.
@@ -36,10 +17,8 @@ fn block(s: &[u8], at: usize) -> u8
     ensures { EaseAll s.now at 16 result }
 {
     let mut least: u8 = 255;
-    let mut k: usize = 0;
-    while k < 16 {
-        least = lesser(least, ease(s[at + k]));
-        k += 1;
+    for k in 0..16 {
+        least = least.min(ease(s[at + k]));
     }
     least
 }
@@ -49,34 +28,19 @@ fn plain_bytes(s: &[u8], from: usize) -> usize
     requires { from ≤ length s.now }
     ensures { PlainRun s.now from result }
 {
-    let mut i = from;
-    while i < s.len() {
-        let b = s[i];
-        if b < b' ' {
+    for i in from..s.len() {
+        if matches!(s[i], 0..=31 | b'"' | b'\\') {
             return i;
         }
-        if b == b'"' {
-            return i;
-        }
-        if b == b'\\' {
-            return i;
-        }
-        i += 1;
     }
-    i
+    s.len()
 }
 
 // Whether the last sixteen bytes are plain.
 fn plain_last(s: &[u8]) -> bool
     ensures { PlainLast s.now result }
 {
-    if s.len() < 16 {
-        return false;
-    }
-    if block(s, s.len() - 16) == 0 {
-        return false;
-    }
-    true
+    s.len() >= 16 && block(s, s.len() - 16) != 0
 }
 
 // The same place, in blocks of sixteen as long as all of a block is plain; the last block is taken from the end.

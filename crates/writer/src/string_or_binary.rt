@@ -1,6 +1,6 @@
 // The text of strings, keys and binary.
 ghost use Rattle.std.specs.Prelude.{◌≡◌, [], ◌∷◌, ◌+◌, ◌≤◌, ◌<◌};
-ghost use lib.ListN.{length, take, drop};
+ghost use lib.ListN.{length};
 ghost use Rattle.meaning.specs.Limits.{store_limit};
 ghost use Rattle.meaning.specs.Canonical.{hex_digit, hex_pair, escaped, escapes, quoted, hex_pairs, binary_text};
 ghost use Rattle.writer.specs.Between.Laid.{Put, PutAt};
@@ -28,35 +28,19 @@ fn pair_at(out: &mut [u8], at: usize, b: u8) -> usize
     byte_or_digit::byte_at(out, second, hex_digit(b % 16))
 }
 
-// The letter after the backslash of a short escape; 0 where there is none.
-fn letter_of(b: u8) -> u8
+// The letter after the backslash of a short escape, if the byte has one.
+fn letter_of(b: u8) -> Option<u8>
     ensures { Lettered b result }
 {
-    if b >= b' ' {
-        if b == b'"' {
-            return b'"';
-        }
-        if b == b'\\' {
-            return b'\\';
-        }
-        return 0;
+    match b {
+        b'"' | b'\\' => Some(b),
+        8 => Some(b'b'),
+        12 => Some(b'f'),
+        b'\n' => Some(b'n'),
+        b'\r' => Some(b'r'),
+        b'\t' => Some(b't'),
+        _ => None,
     }
-    if b == 8 {
-        return b'b';
-    }
-    if b == 12 {
-        return b'f';
-    }
-    if b == b'\n' {
-        return b'n';
-    }
-    if b == b'\r' {
-        return b'r';
-    }
-    if b == b'\t' {
-        return b't';
-    }
-    0
 }
 
 // A byte of a string: a short escape, `\u00` with a hex pair, or itself.
@@ -64,8 +48,7 @@ fn escaped_at(out: &mut [u8], at: usize, b: u8) -> usize
     requires { at + length (escaped b) ≤ length out.old }
     ensures { PutAt (escaped b) at out.old out.new result }
 {
-    let letter = letter_of(b);
-    if letter != 0 {
+    if let Some(letter) = letter_of(b) {
         let second = byte_or_digit::byte_at(out, at, b'\\');
         return byte_or_digit::byte_at(out, second, letter);
     }
@@ -80,13 +63,11 @@ fn escaped_at(out: &mut [u8], at: usize, b: u8) -> usize
 fn escaped_len(b: u8) -> usize
     ensures { result ≡ length (escaped b) }
 {
-    if letter_of(b) != 0 {
-        return 2;
+    match letter_of(b) {
+        Some(_) => 2,
+        None if b < b' ' => 6,
+        None => 1,
     }
-    if b < b' ' {
-        return 6;
-    }
-    1
 }
 
 // Byte by byte.
@@ -95,10 +76,8 @@ fn short_at(out: &mut [u8], at: usize, s: &[u8]) -> usize
     ensures { PutAt (escapes s.now) at out.old out.new result }
 {
     let mut end = at;
-    let mut i: usize = 0;
-    while i < s.len() {
-        end = escaped_at(out, end, s[i]);
-        i += 1;
+    for b in s {
+        end = escaped_at(out, end, *b);
     }
     end
 }
@@ -135,7 +114,7 @@ fn escapes_at(out: &mut [u8], at: usize, s: &[u8]) -> usize
 }
 
 // Into the lent part of the output, from its start: quotes around the escaped bytes.
-fn write_string(out: &mut [u8], s: &[u8]) -> usize
+pub fn write_string(out: &mut [u8], s: &[u8]) -> usize
     requires { length (quoted s.now) ≤ length out.old }
     ensures { Put (quoted s.now) out.old out.new result }
 {
@@ -150,10 +129,8 @@ fn short_len(s: &[u8]) -> usize
     ensures { result ≡ length (quoted s.now) }
 {
     let mut total: usize = 2;
-    let mut i: usize = 0;
-    while i < s.len() {
-        total += escaped_len(s[i]);
-        i += 1;
+    for b in s {
+        total += escaped_len(*b);
     }
     total
 }
@@ -189,45 +166,23 @@ pub fn string_len(s: &[u8]) -> usize
     runs_len(s)
 }
 
-// The output from `at` on is lent, and the part of the store that is the string.
-pub fn string_at(out: &mut [u8], at: usize, store: &[u8], start: usize, length: usize) -> usize
-    requires { (start + length ≤ lib.ListN.length store.now)
-        × (at + lib.ListN.length (quoted (take length (drop start store.now))) ≤ lib.ListN.length out.old) }
-    ensures { PutAt (quoted (take length (drop start store.now))) at out.old out.new result }
-{
-    let end = start + length;
-    at + write_string(&mut out[at..], &store[start..end])
-}
-
 // Each byte as a hex pair, with nothing between them.
 fn pairs_at(out: &mut [u8], at: usize, s: &[u8]) -> usize
     requires { at + length (hex_pairs s.now) ≤ length out.old }
     ensures { PutAt (hex_pairs s.now) at out.old out.new result }
 {
     let mut end = at;
-    let mut i: usize = 0;
-    while i < s.len() {
-        end = pair_at(out, end, s[i]);
-        i += 1;
+    for b in s {
+        end = pair_at(out, end, *b);
     }
     end
 }
 
 // Into the lent part of the output, from its start: `$` and lower-case hex.
-fn write_binary(out: &mut [u8], s: &[u8]) -> usize
+pub fn write_binary(out: &mut [u8], s: &[u8]) -> usize
     requires { length (binary_text s.now) ≤ length out.old }
     ensures { Put (binary_text s.now) out.old out.new result }
 {
     let first = byte_or_digit::byte_at(out, 0, b'$');
     pairs_at(out, first, s)
-}
-
-// The output from `at` on is lent, and the part of the store that is the binary.
-pub fn binary_at(out: &mut [u8], at: usize, store: &[u8], start: usize, length: usize) -> usize
-    requires { (start + length ≤ lib.ListN.length store.now)
-        × (at + lib.ListN.length (binary_text (take length (drop start store.now))) ≤ lib.ListN.length out.old) }
-    ensures { PutAt (binary_text (take length (drop start store.now))) at out.old out.new result }
-{
-    let end = start + length;
-    at + write_binary(&mut out[at..], &store[start..end])
 }

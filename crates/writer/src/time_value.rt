@@ -1,10 +1,10 @@
 // The text of dates, clocks, offsets and the four time types.
-ghost use Rattle.std.specs.Prelude.{◌≡◌, ◌+◌, ◌≤◌, length};
-ghost use Rattle.meaning.specs.Canonical.{date_text, fraction_text, clock_text, minutes_text, offset_text, time_text};
+ghost use Rattle.std.specs.Prelude.{◌≡◌, ◌∷◌, ◌+◌, ◌≤◌, length};
+ghost use Rattle.meaning.specs.Canonical.{fixed, date_text, fraction_text, clock_text, minutes_text, offset_text, time_text};
 ghost use Rattle.writer.specs.Between.Laid.{Put, PutAt};
 ghost use Rattle.writer.specs.Between.Pieces.{FractionDigits};
 
-use crate::{Trimmed, byte_or_digit, number};
+use crate::{Trimmed, byte_or_digit};
 use meaning::{Date, FRACTION_DIGITS, SECOND, Time};
 
 // Minutes and hours, counted as a time of day is.
@@ -12,38 +12,37 @@ const MINUTE: u64 = 60 * SECOND;
 
 const HOUR: u64 = 60 * MINUTE;
 
+// Two digits, with a byte between them and what stands before.
+fn two_after(out: &mut [u8], at: usize, between: u8, n: u64) -> usize
+    requires { at + 3 ≤ length out.old }
+    ensures { PutAt (between ∷ fixed 2 n) at out.old out.new result }
+{
+    let first = byte_or_digit::byte_at(out, at, between);
+    byte_or_digit::digits_at(out, first, 2, n)
+}
+
 // Year, month and day in four, two and two digits, with `-` between.
 fn date_at(out: &mut [u8], at: usize, d: Date) -> usize
     requires { at + length (date_text d) ≤ length out.old }
     ensures { PutAt (date_text d) at out.old out.new result }
 {
-    let a = byte_or_digit::digits_at(out, at, 4, d.year as u64);
-    let b = byte_or_digit::byte_at(out, a, b'-');
-    let c = byte_or_digit::digits_at(out, b, 2, d.month as u64);
-    let e = byte_or_digit::byte_at(out, c, b'-');
-    byte_or_digit::digits_at(out, e, 2, d.day as u64)
+    let month = byte_or_digit::digits_at(out, at, 4, d.year as u64);
+    let day = two_after(out, month, b'-', d.month as u64);
+    two_after(out, day, b'-', d.day as u64)
 }
 
 // Nine digits without closing zeros.
 fn trimmed(n: u64) -> Trimmed
     ensures { FractionDigits n result }
 {
-    let mut count: usize = FRACTION_DIGITS;
-    let mut rest = n;
-    while count > 0 {
-        if rest % 10 != 0 {
-            return Trimmed {
-                count,
-                digits: rest,
-            };
+    let mut digits = n;
+    for count in (1..=FRACTION_DIGITS).rev() {
+        if digits % 10 != 0 {
+            return Trimmed { count, digits };
         }
-        rest = rest / 10;
-        count -= 1;
+        digits /= 10;
     }
-    Trimmed {
-        count: 0,
-        digits: rest,
-    }
+    Trimmed { count: 0, digits }
 }
 
 // Fraction only if not 0.
@@ -75,12 +74,10 @@ fn clock_at(out: &mut [u8], at: usize, t: u64) -> usize
     requires { at + length (clock_text t) ≤ length out.old }
     ensures { PutAt (clock_text t) at out.old out.new result }
 {
-    let a = byte_or_digit::digits_at(out, at, 2, t / HOUR);
-    let b = byte_or_digit::byte_at(out, a, b':');
-    let c = byte_or_digit::digits_at(out, b, 2, t / MINUTE % 60);
-    let d = byte_or_digit::byte_at(out, c, b':');
-    let e = byte_or_digit::digits_at(out, d, 2, t / SECOND % 60);
-    fraction_at(out, e, t % SECOND)
+    let minute = byte_or_digit::digits_at(out, at, 2, t / HOUR);
+    let second = two_after(out, minute, b':', t / MINUTE % 60);
+    let fraction = two_after(out, second, b':', t / SECOND % 60);
+    fraction_at(out, fraction, t % SECOND)
 }
 
 // The length of the same: eight bytes and the fraction.
@@ -95,9 +92,8 @@ fn minutes_at(out: &mut [u8], at: usize, n: u64) -> usize
     requires { at + length (minutes_text n) ≤ length out.old }
     ensures { PutAt (minutes_text n) at out.old out.new result }
 {
-    let a = byte_or_digit::digits_at(out, at, 2, n / 60);
-    let b = byte_or_digit::byte_at(out, a, b':');
-    byte_or_digit::digits_at(out, b, 2, n % 60)
+    let minute = byte_or_digit::digits_at(out, at, 2, n / 60);
+    two_after(out, minute, b':', n % 60)
 }
 
 // Offset 0 as `Z`, otherwise sign and hh:mm.
@@ -105,32 +101,23 @@ fn offset_at(out: &mut [u8], at: usize, offset: i16) -> usize
     requires { at + length (offset_text offset) ≤ length out.old }
     ensures { PutAt (offset_text offset) at out.old out.new result }
 {
-    let o = number::sign_and_size(offset as i32);
-    let size = o.size;
-    if size == 0 {
+    if offset == 0 {
         return byte_or_digit::byte_at(out, at, b'Z');
     }
-    if o.minus {
-        let first = byte_or_digit::byte_at(out, at, b'-');
-        return minutes_at(out, first, size);
-    }
-    let first = byte_or_digit::byte_at(out, at, b'+');
-    minutes_at(out, first, size)
+    let sign = if offset < 0 { b'-' } else { b'+' };
+    let first = byte_or_digit::byte_at(out, at, sign);
+    minutes_at(out, first, offset.unsigned_abs() as u64)
 }
 
 // The length of the same.
 fn offset_len(offset: i16) -> usize
     ensures { (result ≡ length (offset_text offset)) × (result ≤ 6) }
 {
-    let o = number::sign_and_size(offset as i32);
-    if o.size == 0 {
-        return 1;
-    }
-    6
+    if offset == 0 { 1 } else { 6 }
 }
 
 // Into the lent part of the output, from its start.
-fn write_time(out: &mut [u8], t: Time) -> usize
+pub fn write_time(out: &mut [u8], t: Time) -> usize
     requires { length (time_text t) ≤ length out.old }
     ensures { Put (time_text t) out.old out.new result }
 {
@@ -169,12 +156,4 @@ pub fn time_len(t: Time) -> usize
             offset,
         } => 11 + clock_len(clock) + offset_len(offset),
     }
-}
-
-// The output from `at` on is lent.
-pub fn time_at(out: &mut [u8], at: usize, t: Time) -> usize
-    requires { at + length (time_text t) ≤ length out.old }
-    ensures { PutAt (time_text t) at out.old out.new result }
-{
-    at + write_time(&mut out[at..], t)
 }

@@ -11,13 +11,9 @@ pub fn text_len(tape: &[u8], store: &[u8]) -> usize
     requires { WellFormed tape.now store.now }
     ensures { TextLength tape.now store.now result }
 {
-    let n = tape.len() / RECORD_SIZE;
     let mut total: usize = 0;
-    let mut i: usize = 0;
-    while i < n {
-        let r = tape::record_at(tape, i);
-        total += one_record::share_of(r, i, store);
-        i += 1;
+    for i in 0..tape.len() / RECORD_SIZE {
+        total += one_record::share_of(tape::record_at(tape, i), i, store);
     }
     total - 1
 }
@@ -69,13 +65,8 @@ pub fn write_records(out: &mut [u8], tape: &[u8], store: &[u8]) -> usize
 pub fn first_formless(tape: &[u8], store: &[u8]) -> Option<usize>
     ensures { FirstFormless tape.now store.now result }
 {
-    let n = tape.len() / RECORD_SIZE;
-    let mut i: usize = 0;
-    while i < n {
-        let r = tape::record_at(tape, i);
-        if one_record::json_form(r) {
-            i += 1;
-        } else {
+    for i in 0..tape.len() / RECORD_SIZE {
+        if !one_record::json_form(tape::record_at(tape, i)) {
             return Some(i);
         }
     }

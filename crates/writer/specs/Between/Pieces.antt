@@ -1,21 +1,12 @@
 -- What the functions below the writers of a piece (docs/FORMAT.md, 12) promise their callers. Assumes nothing.
-use Rattle.std.specs.Prelude.{◌≡◌, Bool, true, false, cond, List, [], ◌∷◌, ◌++◌, ℕ, suc, ◌+◌, ◌^◌, ◌≤◌, ◌<◌, ltb, ℤ}
-use Rattle.std.specs.Prelude.{pos, negsuc, nat_abs, length, get_or}
+use Rattle.std.specs.Prelude.{◌≡◌, Bool, true, cond, List, [], ◌∷◌, ◌++◌, ℕ, suc, ◌+◌, ◌^◌, ◌≤◌, ◌<◌, ltb, ℤ}
+use Rattle.std.specs.Prelude.{pos, negsuc, length, get_or, Option, Some, None}
 use Rattle.meaning.specs.Letters.{letters, ch}
 use Rattle.meaning.specs.Limits.{plain_digits, fraction_digits}
 use Rattle.meaning.specs.Canonical.{hex_pair, escaped, fixed, trimmed as trimmedText}
 use Rattle.writer.specs.declared.Form.{Form}
 use Rattle.writer.specs.declared.Form.TheVariants.{Zeros, Point, Power as WithPower}
-use Rattle.writer.specs.declared.Signed.{Signed}
 use Rattle.writer.specs.declared.Trimmed.{Trimmed}
-
-abbrev pub negative : ℤ → Bool
-negative (pos n) = false
-negative (negsuc n) = true
-
-pub record SignAndSize (x : ℤ) (r : Signed) : Type 0 where
-  pub sign : r.minus ≡ negative x
-  pub size : r.size ≡ nat_abs x
 
 -- the form of a number of d digits with this power
 pub data FormOf (d : ℕ) : ℤ → Form → Type 0 where
@@ -30,10 +21,10 @@ pub record PointedLength (d n r : ℕ) : Type 0 where
   pub more : n < d → r ≡ d + 1
   pub small : r ≤ plain_digits + 2
 
--- a letter after the backslash, or 0: below U+0020 by its number, else plain
-pub record Lettered (b r : ℕ) : Type 0 where
-  pub short : (r ≡ 0 → ⊥) → escaped b ≡ letters "\\" ++ (r ∷ [])
-  pub other : r ≡ 0 → escaped b ≡ cond (ltb b (ch " ")) (letters "\\u00" ++ hex_pair b) (b ∷ [])
+-- with a letter after the backslash; with none, below U+0020 by its number, else plain
+abbrev pub Lettered : ℕ → Option ℕ → Type 0
+Lettered b (Some letter) = escaped b ≡ letters "\\" ++ (letter ∷ [])
+Lettered b None = escaped b ≡ cond (ltb b (ch " ")) (letters "\\u00" ++ hex_pair b) (b ∷ [])
 
 -- where r is not 0, the byte b stands for itself
 pub record Ease (b r : ℕ) : Type 0 where

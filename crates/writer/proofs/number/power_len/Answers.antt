@@ -2,29 +2,11 @@
 use mathlib.Core.Path.{sym, ap}
 use native.Mathlib.Omega.{arith}
 use lib.ListN.{length}
-use Rattle.meaning.specs.Letters.{letters}
-use Rattle.meaning.specs.Canonical.{decimal, minus_text}
-use Rattle.writer.proofs.NumberSignLaws.{held_sign}
-use Rattle.writer.proofs.PiecesLaws.{length_three, power_at_zero, power_split}
+use Rattle.writer.proofs.PiecesLaws.{power_none, power_length}
 use Rattle.writer.proofs.number.power_len.Goals as goal
 
-pub returns-then-size-eq0 : goal.returns-then-size-eq0
-returns-then-size-eq0 c = (
-  sym (ap length (power_at_zero _ c.sign_and_size-p.result (held_sign _ _ c.ranges.power c.sign_and_size-p.ensures)
-      c.if-size-eq0.true)),
-  omega arith,
-)
+pub returns-then-power-eq0 : goal.returns-then-power-eq0
+returns-then-power-eq0 c = (sym (ap length (power_none _ c.ranges.power c.if-power-eq0.true)), omega arith)
 
 pub returns : goal.returns
-returns c = (
-  omega (
-    arith,
-    c.minus_len.ensures,
-    c.decimal_len.ensures,
-    ap length (power_split _ c.sign_and_size-p.result
-        (held_sign _ _ c.ranges.power c.sign_and_size-p.ensures) c.if-size-eq0.false),
-    length_three (letters "e") (minus_text c.sign_and_size-p.result.minus)
-        (decimal c.sign_and_size-p.result.size),
-  ),
-  omega (arith, c.minus_len.ensures, c.decimal_len.ensures),
-)
+returns c = (omega (arith, power_length _ c.ranges.power c.if-power-eq0.false c.unsigned_abs.ensures.value), omega arith)

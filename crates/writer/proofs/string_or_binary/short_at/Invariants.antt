@@ -1,12 +1,9 @@
 -- `string_or_binary::short_at`: byte by byte. Assumes nothing.
-use Prim.Native.Nat.{◌-◌, ◌≤◌}
-use lib.ListN.{length, drop}
+
+use lib.ListN.{drop}
 use Rattle.meaning.specs.Canonical.{escapes}
 use Rattle.writer.proofs.LaidLaws.{Writing}
 use Rattle.writer.proofs.string_or_binary.short_at.Given as goal
 
-abbrev pub invariant-loop-i : goal.invariant-loop-i
-invariant-loop-i l = (l.i ≤ length l.s) × Writing (escapes l.s) (escapes (drop l.i l.s)) l.at l.initial.out l.out l.end
-
-abbrev pub decreases-loop-i : goal.decreases-loop-i
-decreases-loop-i l = length l.s - l.i
+abbrev pub invariant-loop-b : goal.invariant-loop-b
+invariant-loop-b l = Writing (escapes l.s) (escapes (drop l.b-index l.s)) l.at l.initial.out l.out l.end

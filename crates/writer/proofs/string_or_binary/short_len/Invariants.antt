@@ -1,12 +1,9 @@
 -- `string_or_binary::short_len`: byte by byte. Assumes nothing.
-use Prim.Native.Nat.{◌+◌, ◌-◌, ◌≤◌}
+use Prim.Native.Nat.{◌+◌}
 use mathlib.Core.Path.{◌≡◌}
 use lib.ListN.{length, drop}
 use Rattle.meaning.specs.Canonical.{escapes, quoted}
 use Rattle.writer.proofs.string_or_binary.short_len.Given as goal
 
-abbrev pub invariant-loop-i : goal.invariant-loop-i
-invariant-loop-i l = (l.i ≤ length l.s) × (l.total + length (escapes (drop l.i l.s)) ≡ length (quoted l.s))
-
-abbrev pub decreases-loop-i : goal.decreases-loop-i
-decreases-loop-i l = length l.s - l.i
+abbrev pub invariant-loop-b : goal.invariant-loop-b
+invariant-loop-b l = l.total + length (escapes (drop l.b-index l.s)) ≡ length (quoted l.s)

@@ -4,4 +4,4 @@ use Rattle.meaning.proofs.Text.{clock_length}
 use Rattle.writer.proofs.time_value.clock_len.Goals as goal
 
 pub returns : goal.returns
-returns c = (omega (arith, c.fraction_len.ensures, clock_length c.args.t), omega (arith, c.fraction_len.ensures))
+returns c = (omega (arith, clock_length c.args.t), omega arith)

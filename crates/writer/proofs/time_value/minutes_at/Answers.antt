@@ -1,30 +1,16 @@
 -- `time_value::minutes_at`: one piece after the other. Assumes nothing.
+use mathlib.Core.Path.{sym}
 use native.Mathlib.Omega.{arith}
-use Prim.Native.Nat.{◌/◌}
 use Rattle.meaning.proofs.Digits.{fixed_length}
-use Rattle.writer.proofs.LaidLaws.{put_next}
-use Rattle.writer.proofs.PiecesLaws.{minutes_length}
+use Rattle.writer.proofs.LaidLaws.{put_at_as, put_next}
+use Rattle.writer.proofs.PiecesLaws.{minutes_length, minutes_parts}
 use Rattle.writer.proofs.time_value.minutes_at.Goals as goal
 
-pub digits_at-a-requires : goal.digits_at-a-requires
-digits_at-a-requires c = omega (arith, c.requires, minutes_length c.args.n)
+pub digits_at-minute-requires : goal.digits_at-minute-requires
+digits_at-minute-requires c = omega (arith, minutes_length c.args.n)
 
-pub byte_at-b-requires : goal.byte_at-b-requires
-byte_at-b-requires c = omega (arith, c.requires, minutes_length c.args.n, c.digits_at-a.ensures.next, c.digits_at-a.auto.out, fixed_length 2 (c.args.n / 60))
-
-pub digits_at-requires : goal.digits_at-requires
-digits_at-requires c = omega (
-  arith,
-  c.requires,
-  minutes_length c.args.n,
-  c.digits_at-a.ensures.next,
-  c.digits_at-a.auto.out,
-  fixed_length 2 (c.args.n / 60),
-  c.byte_at-b.ensures.next,
-  c.byte_at-b.auto.out,
-)
+pub two_after-requires : goal.two_after-requires
+two_after-requires c = omega (arith, minutes_length c.args.n, fixed_length)
 
 pub returns : goal.returns
-returns c = put_next (omega (arith, c.requires, minutes_length c.args.n)) (put_next (omega (arith, c.requires, minutes_length c.args.n)) c.digits_at-a.ensures
-    c.byte_at-b.ensures)
-    c.digits_at.ensures
+returns c = put_at_as (sym (minutes_parts c.args.n)) (put_next (omega arith) c.digits_at-minute.ensures c.two_after.ensures)

@@ -1,67 +1,39 @@
 -- `time_value::offset_at`: by the sign. Assumes nothing.
-use mathlib.Core.Path.{sym, ap}
+use mathlib.Core.Path.{◌≡◌, sym, ap, ◌∙◌}
+use mathlib.Core.Bool.{Bool, cond}
+use mathlib.Core.List.{[], ◌∷◌}
+use Prim.Native.Nat.{ℕ}
 use native.Mathlib.Omega.{arith}
+use lib.IntN.{pos}
 use lib.ListN.{length}
+use lib.Signed.{lt_z}
+use mir.Syntax.{w16}
+use mir.Val.{of_z, to_z}
+use Rattle.meaning.specs.Letters.{ch}
 use Rattle.writer.proofs.LaidLaws.{put_at_as, put_next}
-use Rattle.writer.proofs.NumberSignLaws.{offset_cast, offset_sign}
-use Rattle.writer.proofs.PiecesLaws.{offset_at_zero, offset_below, offset_above}
+use Rattle.writer.proofs.PiecesLaws.{offset_none, offset_some, offset_length}
 use Rattle.writer.proofs.time_value.offset_at.Goals as goal
-
-pub overflow_cast-offset : goal.overflow_cast-offset
-overflow_cast-offset c = offset_cast _ c.ranges.offset
+use Rattle.writer.proofs.time_value.offset_at.Goals.{then-offset-lt0, else-offset-lt0}
 
 pub byte_at-requires : goal.byte_at-requires
-byte_at-requires c = omega (
-  arith,
-  c.requires,
-  ap length (offset_at_zero _ c.sign_and_size-o.result (offset_sign _ c.ranges.offset _ c.sign_and_size-o.ensures)
-      c.if-size-eq0.true),
-)
+byte_at-requires c = omega (arith, ap length (offset_none _ c.ranges.offset c.if-offset-eq0.true))
 
-pub returns-then-size-eq0 : goal.returns-then-size-eq0
-returns-then-size-eq0 c = put_at_as (sym (offset_at_zero _ c.sign_and_size-o.result (offset_sign _ c.ranges.offset _ c.sign_and_size-o.ensures)
-    c.if-size-eq0.true)) c.byte_at.ensures
+pub returns-then-offset-eq0 : goal.returns-then-offset-eq0
+returns-then-offset-eq0 c = put_at_as (sym (offset_none _ c.ranges.offset c.if-offset-eq0.true)) c.byte_at.ensures
 
 pub byte_at-first-requires : goal.byte_at-first-requires
-byte_at-first-requires c = omega (
-  arith,
-  c.requires,
-  ap length (offset_below _ c.sign_and_size-o.result (offset_sign _ c.ranges.offset _ c.sign_and_size-o.ensures) c.if-size-eq0.false
-      c.if-o.true),
-)
+byte_at-first-requires c = omega (arith, offset_length _ c.ranges.offset c.if-offset-eq0.false)
 
 pub minutes_at-requires : goal.minutes_at-requires
-minutes_at-requires c = omega (
-  arith,
-  c.requires,
-  ap length (offset_below _ c.sign_and_size-o.result (offset_sign _ c.ranges.offset _ c.sign_and_size-o.ensures) c.if-size-eq0.false c.if-o.true),
-  c.byte_at-first.ensures.next,
-  c.byte_at-first.auto.out,
-)
-
-pub returns-then-o : goal.returns-then-o
-returns-then-o c = put_at_as (sym (offset_below _ c.sign_and_size-o.result (offset_sign _ c.ranges.offset _ c.sign_and_size-o.ensures) c.if-size-eq0.false
-    c.if-o.true))
-    (put_next (omega (arith, c.requires)) c.byte_at-first.ensures c.minutes_at.ensures)
-
-pub byte_at-first-requires-2 : goal.byte_at-first-requires-2
-byte_at-first-requires-2 c = omega (
-  arith,
-  c.requires,
-  ap length (offset_above _ c.sign_and_size-o.result (offset_sign _ c.ranges.offset _ c.sign_and_size-o.ensures) c.if-size-eq0.false
-      c.if-o.false),
-)
-
-pub minutes_at-requires-2 : goal.minutes_at-requires-2
-minutes_at-requires-2 c = omega (
-  arith,
-  c.requires,
-  ap length (offset_above _ c.sign_and_size-o.result (offset_sign _ c.ranges.offset _ c.sign_and_size-o.ensures) c.if-size-eq0.false c.if-o.false),
-  c.byte_at-first-2.ensures.next,
-  c.byte_at-first-2.auto.out,
-)
+minutes_at-requires c = omega (arith, ap length (offset_some _ c.ranges.offset c.if-offset-eq0.false c.unsigned_abs.ensures.value))
 
 pub returns : goal.returns
-returns c = put_at_as (sym (offset_above _ c.sign_and_size-o.result (offset_sign _ c.ranges.offset _ c.sign_and_size-o.ensures) c.if-size-eq0.false
-    c.if-o.false))
-    (put_next (omega (arith, c.requires)) c.byte_at-first-2.ensures c.minutes_at-2.ensures)
+returns c =
+    let s : c.if-offset-lt0.sign ≡ cond (lt_z (to_z w16 (of_z w16 c.args.offset)) (pos 0)) (ch "-") (ch "+") =
+    elim c.if-offset-lt0.branch [
+      | then-offset-lt0 w ↦ w.sign-is ∙ ap (λ (b : Bool). cond b (ch "-") (ch "+")) (sym w.if-offset-lt0.true)
+      | else-offset-lt0 w ↦ w.sign-is ∙ ap (λ (b : Bool). cond b (ch "-") (ch "+")) (sym w.if-offset-lt0.false)
+    ]
+    in
+    put_at_as (sym (offset_some _ c.ranges.offset c.if-offset-eq0.false c.unsigned_abs.ensures.value))
+    (put_next (omega arith) (put_at_as (ap (λ (x : ℕ). x ∷ []) s) c.byte_at-first.ensures) c.minutes_at.ensures)

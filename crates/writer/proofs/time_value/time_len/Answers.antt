@@ -1,37 +1,26 @@
 -- `time_value::time_len`: by cases. Assumes nothing.
 use mathlib.Core.Path.{sym, ap, ◌∙◌}
 use native.Mathlib.Omega.{arith}
-use lib.ListN.{length}
+use Rattle.std.proofs.Common.{rules}
+use lib.ListN.{length, length-append}
 use mir.Syntax.{w16}
 use mir.Val.{SFits}
-use Rattle.meaning.specs.Canonical.{time_text}
+use mir.ValLaws.{to_z-of_z}
 use Rattle.meaning.proofs.Text.{date_length}
-use Rattle.writer.proofs.NumberSignLaws.{offset_held}
-use Rattle.writer.proofs.PiecesLaws.{date_alone, clock_alone, local_date_time_length, offset_date_time_length}
+use Rattle.writer.proofs.PiecesLaws.{date_alone, clock_alone, local_parts, offset_date_parts}
 use Rattle.writer.proofs.time_value.time_len.Goals as goal
 
 pub returns-in-LocalDate : goal.returns-in-LocalDate
-returns-in-LocalDate c = sym (ap length (ap time_text c.in-LocalDate.is ∙ date_alone _) ∙ date_length _)
+returns-in-LocalDate c = sym (ap length (date_alone c.in-LocalDate.is) ∙ date_length _)
 
 pub returns-in-LocalTime : goal.returns-in-LocalTime
-returns-in-LocalTime c = c.clock_len.ensures.0 ∙ sym (ap length (ap time_text c.in-LocalTime.is ∙ clock_alone _))
+returns-in-LocalTime c = c.clock_len.ensures.0 ∙ sym (ap length (clock_alone c.in-LocalTime.is))
 
 pub returns-in-LocalDateTime : goal.returns-in-LocalDateTime
-returns-in-LocalDateTime c = omega (
-  arith,
-  c.clock_len-in-LocalDateTime.ensures.0,
-  ap length (ap time_text c.in-LocalDateTime.is),
-  local_date_time_length c.in-LocalDateTime.date c.in-LocalDateTime.clock,
-)
+returns-in-LocalDateTime c = omega (arith, simp length-append at (ap length (local_parts c.in-LocalDateTime.is)), date_length)
 
 pub returns-in-OffsetDateTime : goal.returns-in-OffsetDateTime
-returns-in-OffsetDateTime c = let f : SFits w16 c.in-OffsetDateTime.offset = record
-    { sfits = c.in-OffsetDateTime.known_told-in-OffsetDateTime-1-own.given.1.1.0.1 } in
-    omega (
-      arith,
-      c.clock_len-in-OffsetDateTime.ensures.0,
-      c.offset_len.ensures.0,
-      ap length (offset_held c.in-OffsetDateTime.offset f),
-      ap length (ap time_text c.in-OffsetDateTime.is),
-      offset_date_time_length c.in-OffsetDateTime.date c.in-OffsetDateTime.clock c.in-OffsetDateTime.offset,
-    )
+returns-in-OffsetDateTime c =
+    let f : SFits w16 c.in-OffsetDateTime.offset = search rules in
+    omega
+    (arith, simp length-append at (ap length (offset_date_parts c.in-OffsetDateTime.is)), date_length, simp to_z-of_z at c.offset_len.ensures.0)

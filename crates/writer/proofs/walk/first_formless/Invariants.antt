@@ -1,11 +1,6 @@
 -- `walk::first_formless`: what is passed has a form. Assumes nothing.
-use Prim.Native.Nat.{◌-◌, ◌/◌}
-use lib.ListN.{length}
 use Rattle.writer.proofs.WalkLaws.{Searching}
 use Rattle.writer.proofs.walk.first_formless.Given as goal
 
 abbrev pub invariant-loop-i : goal.invariant-loop-i
 invariant-loop-i l = Searching l.tape l.store l.i
-
-abbrev pub decreases-loop-i : goal.decreases-loop-i
-decreases-loop-i l = length l.tape / 16 - l.i

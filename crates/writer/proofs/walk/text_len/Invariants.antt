@@ -1,11 +1,6 @@
 -- `walk::text_len`: the shares that are counted, and those to come. Assumes nothing.
-use Prim.Native.Nat.{◌-◌, ◌/◌}
-use lib.ListN.{length}
 use Rattle.writer.proofs.WalkLaws.{Summing}
 use Rattle.writer.proofs.walk.text_len.Given as goal
 
 abbrev pub invariant-loop-i : goal.invariant-loop-i
 invariant-loop-i l = Summing l.tape l.store l.total l.i
-
-abbrev pub decreases-loop-i : goal.decreases-loop-i
-decreases-loop-i l = length l.tape / 16 - l.i
