@@ -41,6 +41,15 @@ fn part_of<'a>(store: &'a [u8], size: usize, start: usize) -> &'a [u8]
     &store[start..start + size]
 }
 
+// A string or a key in quotes. Both slices are cut in here, so that its two callers hand over no new ones.
+fn string_at(out: &mut [u8], at: usize, store: &[u8], size: usize, start: usize) -> usize
+    requires { (start + size ≤ length store.now) × (at + length (quoted (part store.now size start)) ≤ length out.old) }
+    ensures { PutAt (quoted (part store.now size start)) at out.old out.new result }
+{
+    let part = part_of(store, size, start);
+    at + string_or_binary::write_string(&mut out[at..], part)
+}
+
 // The output from `at` on is lent to the number, string, binary and time writers.
 pub fn printed_at(out: &mut [u8], at: usize, r: Record, store: &[u8]) -> usize
     requires { (bytes_end r ≤ length store.now) × (at + length (printed r store.now) ≤ length out.old) }
@@ -51,15 +60,15 @@ pub fn printed_at(out: &mut [u8], at: usize, r: Record, store: &[u8]) -> usize
         Record::Bool(true) => byte_or_digit::bytes_at(out, at, b"true"),
         Record::Bool(false) => byte_or_digit::bytes_at(out, at, b"false"),
         Record::Number(n) => at + number::write_number(&mut out[at..], n),
-        Record::Str { length, start } => at
-            + string_or_binary::write_string(&mut out[at..], part_of(store, length, start)),
+        Record::Str { length, start } => string_at(out, at, store, length, start),
         Record::Key { length, start } => {
-            let colon = at
-                + string_or_binary::write_string(&mut out[at..], part_of(store, length, start));
+            let colon = string_at(out, at, store, length, start);
             byte_or_digit::byte_at(out, colon, b':')
         }
-        Record::Bin { length, start } => at
-            + string_or_binary::write_binary(&mut out[at..], part_of(store, length, start)),
+        Record::Bin { length, start } => {
+            let part = part_of(store, length, start);
+            at + string_or_binary::write_binary(&mut out[at..], part)
+        }
         Record::Time(t) => at + time_value::write_time(&mut out[at..], t),
         Record::Array { .. } => byte_or_digit::byte_at(out, at, b'['),
         Record::Object { .. } => byte_or_digit::byte_at(out, at, b'{'),

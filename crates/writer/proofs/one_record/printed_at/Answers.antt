@@ -1,13 +1,10 @@
 -- `one_record::printed_at`: by cases. Assumes nothing.
 use mathlib.Core.Path.{sym, ap, ◌∙◌}
-use mathlib.Core.List.{List, ◌++◌}
-use Prim.Native.Nat.{ℕ}
 use native.Mathlib.Omega.{arith}
 use lib.ListN.{length, length-append}
-use Rattle.meaning.specs.Letters.{letters}
-use Rattle.meaning.specs.Canonical.{quoted, binary_text}
+use Rattle.meaning.specs.Canonical.{binary_text}
 use Rattle.tape.specs.Between.Turns.{bytes_end}
-use Rattle.writer.proofs.LaidLaws.{put_at_as, put_next, put_tail, put_length, tail_length}
+use Rattle.writer.proofs.LaidLaws.{put_at_as, put_next, put_tail, tail_length}
 use Rattle.writer.proofs.OneRecordLaws.{null_printed, true_printed, false_printed, number_printed, string_printed, key_printed, binary_printed, time_printed}
 use Rattle.writer.proofs.OneRecordLaws.{array_printed, object_printed}
 use Rattle.writer.proofs.one_record.printed_at.Goals as goal
@@ -25,40 +22,26 @@ bytes_at-requires-in-Bool-false c =
 pub write_number-requires : goal.write_number-requires
 write_number-requires c = omega (arith, c.requires, ap length (number_printed c.args.store.now c.in-Number.is), tail_length c.args.at c.args.out.now)
 
-pub part_of-requires : goal.part_of-requires
-part_of-requires c = omega (arith, c.requires, ap bytes_end c.in-Str.is)
-
-pub write_string-requires : goal.write_string-requires
-write_string-requires c = omega (
-  arith,
-  c.requires,
-  ap length (string_printed c.args.store.now c.in-Str.is ∙ ap quoted (sym c.part_of.ensures)),
-  tail_length c.args.at c.args.out.now,
+pub string_at-requires : goal.string_at-requires
+string_at-requires c = (
+  omega (arith, c.requires, ap bytes_end c.in-Str.is),
+  omega (arith, c.requires, ap length (string_printed c.args.store.now c.in-Str.is)),
 )
 
-pub part_of-requires-in-Key : goal.part_of-requires-in-Key
-part_of-requires-in-Key c = omega (arith, c.requires, ap bytes_end c.in-Key.is)
-
-pub write_string-requires-in-Key : goal.write_string-requires-in-Key
-write_string-requires-in-Key c = omega (
-  arith,
-  c.requires,
-  simp length-append at (ap length (key_printed c.args.store.now c.in-Key.is)),
-  ap length (ap quoted c.part_of-in-Key.ensures),
-  tail_length c.args.at c.args.out.now,
+pub string_at-colon-requires : goal.string_at-colon-requires
+string_at-colon-requires c = (
+  omega (arith, c.requires, ap bytes_end c.in-Key.is),
+  omega (arith, c.requires, simp length-append at (ap length (key_printed c.args.store.now c.in-Key.is))),
 )
 
 pub byte_at-requires : goal.byte_at-requires
-byte_at-requires c =
-    let k = simp length-append at (ap length (key_printed c.args.store.now c.in-Key.is)) in
-    let q = ap length (ap quoted c.part_of-in-Key.ensures) in
-    omega (arith, c.requires, k, q, put_length {o = c.args.out.now} {at = c.args.at} (omega (arith, c.requires, k, q)) (put_tail c.write_string-in-Key.ensures))
+byte_at-requires c = omega (arith, c.requires, simp length-append at (ap length (key_printed c.args.store.now c.in-Key.is)))
 
 pub write_binary-requires : goal.write_binary-requires
 write_binary-requires c = omega (
   arith,
   c.requires,
-  ap length (binary_printed c.args.store.now c.in-Bin.is ∙ ap binary_text (sym c.part_of-in-Bin.ensures)),
+  ap length (binary_printed c.args.store.now c.in-Bin.is ∙ ap binary_text (sym c.part_of-part.ensures)),
   tail_length c.args.at c.args.out.now,
 )
 
@@ -84,15 +67,13 @@ pub returns-in-Number : goal.returns-in-Number
 returns-in-Number c = put_at_as (sym (number_printed _ c.in-Number.is)) (put_tail c.write_number.ensures)
 
 pub returns-in-Str : goal.returns-in-Str
-returns-in-Str c = put_at_as (ap quoted c.part_of.ensures ∙ sym (string_printed _ c.in-Str.is)) (put_tail c.write_string.ensures)
+returns-in-Str c = put_at_as (sym (string_printed _ c.in-Str.is)) c.string_at.ensures
 
 pub returns-in-Key : goal.returns-in-Key
-returns-in-Key c =
-    put_at_as (ap (λ (l : List ℕ). quoted l ++ letters ":") c.part_of-in-Key.ensures ∙ sym (key_printed _ c.in-Key.is))
-    (put_next (omega (arith, c.requires)) (put_tail c.write_string-in-Key.ensures) c.byte_at.ensures)
+returns-in-Key c = put_at_as (sym (key_printed _ c.in-Key.is)) (put_next (omega (arith, c.requires)) c.string_at-colon.ensures c.byte_at.ensures)
 
 pub returns-in-Bin : goal.returns-in-Bin
-returns-in-Bin c = put_at_as (ap binary_text c.part_of-in-Bin.ensures ∙ sym (binary_printed _ c.in-Bin.is)) (put_tail c.write_binary.ensures)
+returns-in-Bin c = put_at_as (ap binary_text c.part_of-part.ensures ∙ sym (binary_printed _ c.in-Bin.is)) (put_tail c.write_binary.ensures)
 
 pub returns-in-Time : goal.returns-in-Time
 returns-in-Time c = put_at_as (sym (time_printed _ c.in-Time.is)) (put_tail c.write_time.ensures)
