@@ -1,21 +1,18 @@
 -- The fields of a time value, and its check. Assumes nothing.
-use Rattle.std.specs.Prelude.{Ok, Err}
-use Prim.Native.Nat.{ℕ, zero, suc, ◌+◌, ◌*◌, ◌-◌, ◌≤◌, ◌<◌, ◌^◌}
+use Rattle.std.specs.Prelude.{Result, Ok, Err, Option, None, is_ok}
+use Prim.Native.Nat.{ℕ, zero, suc, ◌+◌, ◌*◌, ◌/◌, ◌-◌, ◌≤◌, ◌<◌, ◌^◌}
 use mathlib.Core.Path.{◌≡◌, refl, sym, ◌∙◌, ap, subst}
 use mathlib.Core.Bool.{Bool, true, false, ◌&&◌}
 use mathlib.Core.List.{List}
-use mathlib.Core.Logic.{◌⊎◌, inl, inr, ⊎_elim}
+use mathlib.Core.Logic.{◌⊎◌, inl, inr}
 use native.Mathlib.Omega.{arith}
-use native.Mathlib.Nat.{zero-add, pow-suc, mul-le-mul_right, pow-le-pow_right, mul_assoc}
-use lib.Dec.{eqb, leb}
+use native.Mathlib.Nat.{pow-suc, mul-le-mul_right, mul-le-mul_left, pow-le-pow_right}
+use lib.Dec.{leb}
 use lib.ListN.{length, get_or}
 use lib.IntN.{ℤ, pos}
-use borrow.Author.Tests.{eq-eqb, ne_eqb, eqb-true, eqb-false, le-leb, lt-leb}
+use borrow.Author.Tests.{eq-eqb, ne_eqb, le-leb, lt-leb}
 use Rattle.rules.specs.Rfc3339.{Dated}
-use Rattle.rules.specs.Between.Tests.{Decides}
-use Rattle.rules.proofs.TestsLaws.{by_test}
 use Rattle.rules.proofs.Outcomes.{date_done_lem, date_none}
-use Rattle.std.specs.Prelude.{Result}
 use Rattle.rules.specs.declared.NoDate.{NoDate}
 use Rattle.rules.specs.Between.Decided.{is_date}
 use Rattle.rules.proofs.Months.{date_is, is_date_lem}
@@ -35,16 +32,13 @@ use Rattle.machine.specs.Numeric.{St, Slot, scan, dig, field, ok_date, ok_clock,
 use Rattle.machine.proofs.Runs.{NoDigit}
 use Rattle.machine.proofs.Numeric.Rows.{dg_digit, dg_none, sec_digit, sec_class, SecIs, day_class, DayIs}
 use Rattle.items.specs.Between.Places.{byte_at}
-use Rattle.items.specs.Between.Fractions.{Fractioned}
+use Rattle.items.specs.Between.Fractions.{Fractioned, FractionSays}
 use Rattle.items.specs.Between.NumberOrTime.{Scanned, taken, Means, Tells, Reads, Closes, IsDigit, Edge, Onto, TwoSays, ThenSays, when_of, clock_test, Zoned}
-use Rattle.items.specs.Between.NumberOrTime.{NanosSays}
+use Rattle.items.specs.Between.NumberOrTime.{NanosSays, Digit}
 use Rattle.items.specs.declared.Item.TheVariants as Item
-use Rattle.items.specs.declared.time_value.Field.{Field}
-use Rattle.items.specs.declared.time_value.Field.TheVariants.{Got}
-use Rattle.items.specs.declared.time_value.When.{When}
-use Rattle.items.specs.declared.time_value.When.TheVariants.{Alone, On}
+use Rattle.items.specs.declared.NotGrammar as NotGrammarOf
+use Rattle.items.specs.declared.Taken.{Taken}
 use Rattle.items.specs.declared.time_value.Clock.{Clock}
-use Rattle.items.specs.declared.time_value.Nanos.{Nanos}
 use Rattle.items.proofs.PlacesLaws.{byte_in, byte_out}
 use Rattle.items.proofs.NumberOrTimeLaws.{edge_none, no_digit_lem, took, halts, breaks_at, same, closes_by}
 
@@ -58,63 +52,47 @@ module _ (s : List ℕ) (q : ℕ) (l : Slot) (n v i : ℕ) where
   one_digit h d = λ r k. took (field q l n (dig v (get_or s i 0))) h (rw (dg_digit (get_or s i 0) d)) k
 
 module _ (s : List ℕ) (i : ℕ) where
-  pub bad_first : Edge s i → TwoSays s i (Field.NotGrammar i)
-  bad_first e q l = no_more s q l 1 0 i e
+  pub bad_first : (e : NotGrammarOf.NotGrammar) → (e.place ≡ i) × Edge s i → TwoSays s i (Err e)
+  bad_first e h q l = rw h.0 (no_more s q l 1 0 i h.1)
 
-  module _ (h : i < length s) (a : ch "0" ≤ get_or s i 0) (b : get_or s i 0 ≤ ch "9") where
-    pub bad_second : Edge s (i + 1) → TwoSays s i (Field.NotGrammar (i + 1))
-    bad_second e q l = one_digit s q l 1 0 i h (omega arith) _ (no_more s q l 0 (dig 0 (get_or s i 0)) (i + 1) e)
+  module _ {d : ℕ} (a : Digit s i d) where
+    pub bad_second : (e : NotGrammarOf.NotGrammar) → (e.place ≡ i + 1) × Edge s (i + 1) → TwoSays s i (Err e)
+    bad_second e h q l = rw h.0 (one_digit s q l 1 0 i a.inside a.digit _ (no_more s q l 0 (dig 0 (get_or s i 0)) (i + 1) h.1))
 
-    pub got_two : i + 1 < length s → ch "0" ≤ get_or s (i + 1) 0 → get_or s (i + 1) 0 ≤ ch "9"
-        → TwoSays s i (Got (10 * (get_or s i 0 - ch "0") + (get_or s (i + 1) 0 - ch "0")) (i + 1 + 1))
-    got_two k c d = (
-      omega arith,
-      omega arith,
-      λ q l r t. one_digit s q l 1 0 i h (omega arith) r (one_digit s q l 0 (dig 0 (get_or s i 0)) (i + 1) k (omega arith) r
-          (subst (λ (x : ℕ). Reads s (i + 1 + 1) (field q l 0 (10 * x + (get_or s (i + 1) 0 - ch "0"))) r) (sym (zero-add (get_or s i 0 - ch "0"))) t)),
+    pub got_two : {n : ℕ} → Digit s (i + 1) n → TwoSays s i (Ok (taken (10 * d + n) (i + 1 + 1)))
+    got_two {n} b = (
+      omega (arith, b.inside),
+      omega (arith, a.value, b.value, a.digit.high, b.digit.high),
+      λ q l r t. one_digit s q l 1 0 i a.inside a.digit r (one_digit s q l 0 (dig 0 (get_or s i 0)) (i + 1) b.inside b.digit r
+          (subst (λ (x : ℕ). Reads s (i + 1 + 1) (field q l 0 x) r) (omega (arith, a.value, b.value)) t)),
     )
 
-module _ (s : List ℕ) (i : ℕ) (f : Field) (t : TwoSays s i f) where
-  pub two_bad : (p : ℕ) → f ≡ Field.NotGrammar p → TwoSays s i (Field.NotGrammar p)
-  two_bad p e = subst (λ (x : Field). TwoSays s i x) e t
+module _ (s : List ℕ) (i mark : ℕ) where
+  module _ (t : Taken ℕ) (u : TwoSays s i (Ok t)) where
+    pub then_end : mark < textEnd → length s ≤ t.end → ThenSays s i mark (Err (record { place = t.end }))
+    then_end l h q k to g = u.2 q k _ (breaks_at (rw (byte_out s t.end h) (g t.end q t.value textEnd ∙ rw (ne_eqb textEnd mark (λ x. omega arith)))))
 
-  pub two_got : (v k : ℕ) → f ≡ Got v k → TwoSays s i (Got v k)
-  two_got v k e = subst (λ (x : Field). TwoSays s i x) e t
+    pub then_wrong : t.end < length s → (get_or s t.end 0 ≡ mark → ⊥) → ThenSays s i mark (Err (record { place = t.end }))
+    then_wrong h n q l to g = u.2 q l _
+        (breaks_at (rw (byte_in s t.end h) (g t.end q t.value (get_or s t.end 0) ∙ rw (ne_eqb (get_or s t.end 0) mark n))))
 
-module _ (s : List ℕ) (i mark : ℕ) (f : Field) where
-  module _ (t : TwoSays s i f) where
-    pub then_bad : (p : ℕ) → f ≡ Field.NotGrammar p → ThenSays s i mark (Field.NotGrammar p)
-    then_bad p e q l to g = two_bad s i f t p e q l
-
-    module _ (v k : ℕ) (e : f ≡ Got v k) where
-      pub then_end : mark < textEnd → length s ≤ k → ThenSays s i mark (Field.NotGrammar k)
-      then_end u h q l to g = (two_got s i f t v k e).2 q l _ (breaks_at (rw (byte_out s k h) (g k q v textEnd ∙ rw (ne_eqb textEnd mark (λ x. omega arith)))))
-
-      pub then_wrong : k < length s → (get_or s k 0 ≡ mark → ⊥) → ThenSays s i mark (Field.NotGrammar k)
-      then_wrong h n q l to g = (two_got s i f t v k e).2 q l _ (breaks_at (rw (byte_in s k h) (g k q v (get_or s k 0) ∙ rw (ne_eqb (get_or s k 0) mark n))))
-
-      pub then_got : k < length s → get_or s k 0 ≡ mark → ThenSays s i mark (Got v (k + 1))
-      then_got h n =
-          let u = two_got s i f t v k e in
-          (omega arith, u.1, λ q l to g r x. u.2 q l r (took (field q (to v) 2 0) h (g k q v (get_or s k 0) ∙ rw (eq-eqb (get_or s k 0) mark n)) x))
-
-  module _ (t : ThenSays s i mark f) where
-    pub mark_bad : (p : ℕ) → f ≡ Field.NotGrammar p → ThenSays s i mark (Field.NotGrammar p)
-    mark_bad p e = subst (λ (x : Field). ThenSays s i mark x) e t
-
-    pub mark_got : (v k : ℕ) → f ≡ Got v k → ThenSays s i mark (Got v k)
-    mark_got v k e = subst (λ (x : Field). ThenSays s i mark x) e t
+    pub then_got : t.end < length s → get_or s t.end 0 ≡ mark → ThenSays s i mark (Ok (taken t.value (t.end + 1)))
+    then_got h n = (
+      omega arith,
+      u.1,
+      λ q l to g r x. u.2 q l r
+          (took (field q (to t.value) 2 0) h (g t.end q t.value (get_or s t.end 0) ∙ rw (eq-eqb (get_or s t.end 0) mark n)) x),
+    )
 
 -- ---- the check
 
-pub date_yes : {y m d : ℕ} {r : Result (Unit {0}) NoDate} {u : Unit {0}} → Dated y m d r → r ≡ Ok u → true ≡ is_date y m d
-date_yes {y} {m} {d} x e = sym (date_is (date_done_lem (subst (Dated y m d) e x)))
-
-pub date_no : {y m d : ℕ} {r : Result (Unit {0}) NoDate} {n : NoDate} → Dated y m d r → r ≡ Err n → false ≡ is_date y m d
-date_no {y} {m} {d} x e = go (is_date y m d) refl
+-- what the calendar answers is what the test that computes answers
+pub date_tested : {y m d : ℕ} (r : Result (Unit {0}) NoDate) → Dated y m d r → is_ok r ≡ is_date y m d
+date_tested (Ok v) x = sym (date_is (date_done_lem x))
+date_tested {y} {m} {d} (Err e) x = go (is_date y m d) refl
   where
     go : (b : Bool) → is_date y m d ≡ b → false ≡ is_date y m d
-    go true f = absurd (date_none (subst (Dated y m d) e x) (is_date_lem f))
+    go true f = absurd (date_none x (is_date_lem f))
     go false f = sym f
 
 module _ (h m s : ℕ) where
@@ -194,43 +172,44 @@ module _ (q : ℕ) (c : Clock) (at : ℕ) (d : Date) (x : Bool) (e : x ≡ ok_da
 
 -- ---- an offset
 
-module _ (s : List ℕ) (q : ℕ) (d : Date) (c : Clock) (g : Bool) (i : ℕ) (f : Field) (t : ThenSays s i (ch ":") f) where
+module _ (s : List ℕ) (q : ℕ) (d : Date) (c : Clock) (g : Bool) (i : ℕ) where
   abbrev offset_at : Slot
   offset_at = S.offset_hour d c.hour c.minute c.second c.nanos g
 
-  pub offset_bad : (p : ℕ) → f ≡ Field.NotGrammar p → Reads s i (field q offset_at 2 0) (Err (NotGrammar p))
-  offset_bad p e = mark_bad s i (ch ":") f t p e q offset_at (λ v. S.offset_minute d c.hour c.minute c.second c.nanos g v) (λ p q v b. refl)
+  pub offset_bad : (e : NotGrammarOf.NotGrammar) → ThenSays s i (ch ":") (Err e) → Reads s i (field q offset_at 2 0) (Err (NotGrammar e.place))
+  offset_bad e t = t q offset_at (λ v. S.offset_minute d c.hour c.minute c.second c.nanos g v) (λ p q v b. refl)
 
-  pub offset_got : (h k : ℕ) → f ≡ Got h k → Onto s i (field q offset_at 2 0) k (field q (S.offset_minute d c.hour c.minute c.second c.nanos g h) 2 0)
-  offset_got h k e = (mark_got s i (ch ":") f t h k e).2 q offset_at (λ v. S.offset_minute d c.hour c.minute c.second c.nanos g v) (λ p q v b. refl)
+  pub offset_got : (h : Taken ℕ) → ThenSays s i (ch ":") (Ok h) → Onto s i (field q offset_at 2 0) h.end
+      (field q (S.offset_minute d c.hour c.minute c.second c.nanos g h.value) 2 0)
+  offset_got h t = t.2 q offset_at (λ v. S.offset_minute d c.hour c.minute c.second c.nanos g v) (λ p q v b. refl)
 
-module _ (s : List ℕ) (q : ℕ) (d : Date) (c : Clock) (g : Bool) (h i : ℕ) (b : Field) (u : TwoSays s i b) where
+module _ (s : List ℕ) (q : ℕ) (d : Date) (c : Clock) (g : Bool) (h i : ℕ) where
   abbrev minute_at : Slot
   minute_at = S.offset_minute d c.hour c.minute c.second c.nanos g h
 
-  pub offset_bad_minute : (p : ℕ) → b ≡ Field.NotGrammar p → Reads s i (field q minute_at 2 0) (Err (NotGrammar p))
-  offset_bad_minute p j = two_bad s i b u p j q minute_at
+  module _ (t : Taken ℕ) (u : TwoSays s i (Ok t)) where
+    abbrev m : ℕ
+    m = t.value
 
-  module _ (m at : ℕ) (j : b ≡ Got m at) where
     abbrev offset_test : Bool
     offset_test = (ok_date d && ok_clock c.hour c.minute c.second) && (leb h 23 && leb m 59)
 
     abbrev offset_time : Time
     offset_time = OffsetDateTime d (time_of_day c.hour c.minute c.second c.nanos) (signed g (h * 60 + m))
 
-    ends : (r : Scanned) → Closes at (tested q offset_test offset_time) r → Reads s i (field q minute_at 2 0) r
-    ends r x = (two_got s i b u m at j).2 q minute_at r (halts (tested q offset_test offset_time) refl x)
+    ends : (r : Scanned) → Closes t.end (tested q offset_test offset_time) r → Reads s i (field q minute_at 2 0) r
+    ends r x = u.2 q minute_at r (halts (tested q offset_test offset_time) refl x)
 
     pub offset_hour_lem : 23 < h → Reads s i (field q minute_at 2 0) (Err (BadTime q))
-    offset_hour_lem l = ends _ (test_no q at offset_test offset_time (second_false (ok_date d && clock_test c) (leb h 23 && leb m 59)
+    offset_hour_lem l = ends _ (test_no q t.end offset_test offset_time (second_false (ok_date d && clock_test c) (leb h 23 && leb m 59)
         (first_false (leb h 23) (leb m 59) (lt-leb h 23 l))))
 
     pub offset_minute_lem : 59 < m → Reads s i (field q minute_at 2 0) (Err (BadTime q))
-    offset_minute_lem l = ends _ (test_no q at offset_test offset_time (second_false (ok_date d && clock_test c) (leb h 23 && leb m 59)
+    offset_minute_lem l = ends _ (test_no q t.end offset_test offset_time (second_false (ok_date d && clock_test c) (leb h 23 && leb m 59)
         (second_false (leb h 23) (leb m 59) (lt-leb m 59 l))))
 
     pub offset_ends : h ≤ 23 → m ≤ 59 → (o : ℤ) → o ≡ signed g (h * 60 + m) → (r : Scanned)
-        → Closes at (tested q (ok_date d && clock_test c) (OffsetDateTime d (time_of_day c.hour c.minute c.second c.nanos) o)) r
+        → Closes t.end (tested q (ok_date d && clock_test c) (OffsetDateTime d (time_of_day c.hour c.minute c.second c.nanos) o)) r
         → Reads s i (field q minute_at 2 0) r
     offset_ends l n o v r x = ends r (closes_by _ _ (same_test (ok_date d && clock_test c) (leb h 23) (leb m 59) (le-leb h 23 l) (le-leb m 59 n)) (rw v at x))
       where
@@ -239,10 +218,6 @@ module _ (s : List ℕ) (q : ℕ) (d : Date) (c : Clock) (g : Bool) (h i : ℕ) 
         same_test false b c y z = refl
 
 -- ---- the letters, each in two cases
-
--- the second half of a test whose first half has failed
-pub second_case : (b x y : ℕ) → (b ≡ x → ⊥) → Decides ((b ≡ x) ⊎ (b ≡ y)) (eqb b y)
-second_case b x y f = by_test (eqb b y) (λ e. inr (eqb-true b y e)) (λ e. ⊎_elim f (eqb-false b y e))
 
 zulu_class : {b : ℕ} → (b ≡ ch "Z") ⊎ (b ≡ ch "z") → sec_of b ≡ S.zulu_s
 zulu_class (inl e) = rw e
@@ -296,64 +271,107 @@ module _ (s : List ℕ) (q : ℕ) (d : Date) (c : Clock) (at : ℕ) (r : Scanned
         → Zoned s q (S.on d) c at r
     zone_minus b k st e = zone_takes _ st (e ∙ rw (byte_in s at h, b)) k
 
-module _ (s : List ℕ) (q : ℕ) (w : When) (c : Clock) (at : ℕ) (r : Scanned) where
-  pub clocked_alone : w ≡ Alone → Closes at (clock_done q S.alone c.hour c.minute c.second c.nanos) r → Zoned s q (when_of w) c at r
+module _ (s : List ℕ) (q : ℕ) (w : Option Date) (c : Clock) (at : ℕ) (r : Scanned) where
+  pub clocked_alone : w ≡ None → Closes at (clock_done q S.alone c.hour c.minute c.second c.nanos) r → Zoned s q (when_of w) c at r
   clocked_alone e x st k = halts _ (k ∙ rw e) x
 
-  pub clocked_on : (d : Date) → w ≡ On d → Zoned s q (S.on d) c at r → Zoned s q (when_of w) c at r
-  clocked_on d e x st k = x st (k ∙ rw e)
-
 -- ---- a fraction of a second
-
-pub record NanoLoop (s : List ℕ) (from v left i : ℕ) : Type 0 where
-  pub within : i ≤ length s
-  pub few : left ≤ fraction_digits
-  pub small : (v + 1) * 10 ^ left ≤ Limits.second
-  pub goes : (q : ℕ) (w : S.When) (h m c : ℕ) → Onto s from (nanos q w h m c fraction_digits 0) i (nanos q w h m c left v)
-
-pub nano_start : (s : List ℕ) (from : ℕ) → from ≤ length s → NanoLoop s from 0 9 from
-nano_start s from h = record { within = h; few = omega arith; small = omega arith; goes = λ q w h m c r k. k }
-
-module _ (s : List ℕ) (from v left i : ℕ) (k : NanoLoop s from v left i) where
-  pub nano_room : v < Limits.second
-  nano_room = let l = k.small in omega (arith, mul-le-mul_right (v + 1) (pow-le-pow_right {n = 10} (omega arith) {i = 0} {j = left} (omega arith)))
-
-  module _ (h : i < length s) (a : ch "0" ≤ get_or s i 0) (b : get_or s i 0 ≤ ch "9") where
-    pub nano_next : 0 < left → NanoLoop s from (10 * v + (get_or s i 0 - ch "0")) (left - 1) (i + 1)
-    nano_next l =
-        let e : left ≡ suc (left - 1) = omega arith in
-        record {
-          within = omega arith;
-          few = omega (arith, k.few);
-          small = smaller (left - 1) (subst (λ (x : ℕ). (v + 1) * 10 ^ x ≤ Limits.second) e k.small);
-          goes = λ q w x m c r t. k.goes q w x m c r (subst (λ (y : ℕ). Reads s i (nanos q w x m c y v) r) (sym e)
-              (took (nanos q w x m c (left - 1) (dig v (get_or s i 0))) h (rw (sec_digit (get_or s i 0) (omega arith))) t));
-        }
-      where
-        smaller : (j : ℕ) → (v + 1) * 10 ^ suc j ≤ Limits.second → (10 * v + (get_or s i 0 - ch "0") + 1) * 10 ^ j ≤ Limits.second
-        smaller j u =
-            let p : (v + 1) * 10 ^ suc j ≡ (v + 1) * 10 * 10 ^ j = ap (λ (x : ℕ). (v + 1) * x) (omega (arith, pow-suc 10 j))
-            ∙ sym (mul_assoc (v + 1) 10 (10 ^ j)) in
-            let o : 10 * v + (get_or s i 0 - ch "0") + 1 ≤ (v + 1) * 10 = omega arith in
-            omega (arith, mul-le-mul_right (10 ^ j) o)
-
-    pub nano_cut : left ≤ 0 → NanoLoop s from v left (i + 1)
-    nano_cut l =
-        let e : left ≡ zero = omega arith in
-        record {
-          within = omega arith;
-          few = k.few;
-          small = k.small;
-          goes = λ q w x m c r t. k.goes q w x m c r (subst (λ (y : ℕ). Reads s i (nanos q w x m c y v) r) (sym e)
-              (took (nanos q w x m c zero v) h (rw (sec_digit (get_or s i 0) (omega arith))) (subst (λ (y : ℕ). Reads s (i + 1) (nanos q w x m c y v) r) e t)));
-        }
-
-  pub nano_says : Edge s i → NanosSays s from (record { v = v; left = left; at = i })
-  nano_says e = record { within = k.within; few = k.few; small = k.small; edge = e; goes = k.goes }
 
 -- a fraction is less than a second
 part_small : (v j : ℕ) → (v + 1) * 10 ^ j ≤ Limits.second → v * 10 ^ j < Limits.second
 part_small v j h = omega (arith, pow-le-pow_right {n = 10} (omega arith) {i = 0} {j = j} (omega arith))
+
+-- the weight of the next digit, where `left` more count
+abbrev pub Weighs : ℕ → ℕ → Type 0
+Weighs zero w = w ≡ 0
+Weighs (suc j) w = w ≡ 10 ^ j
+
+-- the digits so far that count are the number v, and `left` more would count
+pub record NanoLoop (s : List ℕ) (from nanos weight i : ℕ) : Type 0 where
+  pub within : i ≤ length s
+  pub left : ℕ
+  pub v : ℕ
+  pub few : left ≤ fraction_digits
+  pub weighs : Weighs left weight
+  pub scaled : nanos ≡ v * 10 ^ left
+  pub small : (v + 1) * 10 ^ left ≤ Limits.second
+  pub goes : (q : ℕ) (w : S.When) (h m c : ℕ) → Onto s from (S.nanos q w h m c fraction_digits 0) i (S.nanos q w h m c left v)
+
+pub nano_start : (s : List ℕ) (from : ℕ) → from ≤ length s → NanoLoop s from 0 100000000 from
+nano_start s from h = record {
+  within = h;
+  left = 9;
+  v = 0;
+  few = omega arith;
+  weighs = refl;
+  scaled = refl;
+  small = omega arith;
+  goes = λ q w h m c r k. k;
+}
+
+-- a weight is at most that of the first digit, and the next one is a tenth
+light : (n w : ℕ) → n ≤ 9 → Weighs n w → w ≤ 100000000
+light zero w h e = omega arith
+light (suc j) w h e = omega (arith, pow-le-pow_right {n = 10} (omega arith) {i = j} {j = 8} (omega arith))
+
+tenth : (j w : ℕ) → Weighs (suc j) w → Weighs j (w / 10)
+tenth zero w e = omega arith
+tenth (suc i) w e = omega (arith, pow-suc 10 i)
+
+scaled_next : (x v j w d : ℕ) → w ≡ 10 ^ j → x ≡ v * 10 ^ suc j → x + w * d ≡ (10 * v + d) * 10 ^ j
+scaled_next x v j w d e c = rw e (omega (arith, c, ap (λ (x : ℕ). v * x) (pow-suc 10 j)))
+
+smaller : (v j d : ℕ) → d ≤ 9 → (v + 1) * 10 ^ suc j ≤ Limits.second → (10 * v + d + 1) * 10 ^ j ≤ Limits.second
+smaller v j d h u =
+    let o : 10 * v + d + 1 ≤ (v + 1) * 10 = omega arith in
+    omega (arith, mul-le-mul_right (10 ^ j) o, ap (λ (x : ℕ). (v + 1) * x) (pow-suc 10 j))
+
+module _ (s : List ℕ) (from nanos weight i : ℕ) (k : NanoLoop s from nanos weight i) where
+  pub nano_room : get_or s i 0 ≤ ch "9" → (nanos < Limits.second) × (weight * (get_or s i 0 - ch "0") ≤ 900000000)
+  nano_room h =
+      let d : get_or s i 0 - ch "0" ≤ 9 = omega arith in (
+        omega (arith, k.scaled, part_small k.v k.left k.small),
+        omega (arith, mul-le-mul_left weight d, light k.left weight k.few k.weighs),
+      )
+
+  pub nano_says : Edge s i → NanosSays s from (record { value = nanos; end = i })
+  nano_says e = record {
+    within = k.within;
+    small = omega (arith, k.scaled, part_small k.v k.left k.small);
+    edge = e;
+    left = k.left;
+    v = k.v;
+    scaled = k.scaled;
+    goes = k.goes;
+  }
+
+  module _ (h : i < length s) (a : ch "0" ≤ get_or s i 0) (b : get_or s i 0 ≤ ch "9") where
+    pub nano_next : NanoLoop s from (nanos + weight * (get_or s i 0 - ch "0")) (weight / 10) (i + 1)
+    nano_next = go k.left k.few k.weighs k.scaled k.small k.goes
+      where
+        go : (n : ℕ) → n ≤ fraction_digits → Weighs n weight → nanos ≡ k.v * 10 ^ n → (k.v + 1) * 10 ^ n ≤ Limits.second
+            → ((q : ℕ) (w : S.When) (h m c : ℕ) → Onto s from (S.nanos q w h m c fraction_digits 0) i (S.nanos q w h m c n k.v))
+            → NanoLoop s from (nanos + weight * (get_or s i 0 - ch "0")) (weight / 10) (i + 1)
+        go zero f e c l g = record {
+          within = omega arith;
+          left = zero;
+          v = k.v;
+          few = f;
+          weighs = omega arith;
+          scaled = rw e (omega (arith, c));
+          small = l;
+          goes = λ q w x m c r t. g q w x m c r (took (S.nanos q w x m c zero k.v) h (rw (sec_digit (get_or s i 0) (omega arith))) t);
+        }
+        go (suc j) f e c l g = record {
+          within = omega arith;
+          left = j;
+          v = dig k.v (get_or s i 0);
+          few = omega arith;
+          weighs = tenth j weight e;
+          scaled = scaled_next nanos k.v j weight (get_or s i 0 - ch "0") e c;
+          small = smaller k.v j (get_or s i 0 - ch "0") (omega arith) l;
+          goes = λ q w x m c r t. g q w x m c r (took (S.nanos q w x m c j (dig k.v (get_or s i 0))) h (rw (sec_digit (get_or s i 0) (omega arith))) t);
+        }
 
 module _ (q : ℕ) (w : S.When) (h m c : ℕ) where
   sec_other : {b : ℕ} {k : S.Sec} → SecIs b k → (b ≡ ch "." → ⊥) → S.on_sec q w h m c k ≡ on_zone q w h m c 0 k
@@ -401,68 +419,65 @@ module _ (s : List ℕ) (at : ℕ) where
     part_none x = record { within = omega arith; small = omega arith; reads = λ q w h m c r k. second_none s q w h m c at l r x k }
 
     module _ (e : get_or s at 0 ≡ ch ".") where
-      pub part_bare : Edge s (at + 1) → (q : ℕ) (w : S.When) (h m c : ℕ) → Reads s at (field q (S.second w h m) 0 c) (Err (NotGrammar (at + 1)))
-      part_bare d = λ q w h m c. second_point s q w h m c at l _ e (breaks_at (rw (dg_none (edge_none d))))
+      pub part_bare : (r : NotGrammarOf.NotGrammar) → (r.place ≡ at + 1) × Edge s (at + 1) → FractionSays s at (Err r)
+      part_bare r d = λ q w h m c. rw d.0 (second_point s q w h m c at l _ e (breaks_at (rw (dg_none (edge_none d.1)))))
 
-      pub part_nanos : at + 1 < length s → ch "0" ≤ get_or s (at + 1) 0 → get_or s (at + 1) 0 ≤ ch "9" → (n : Nanos) → NanosSays s (at + 1) n → (x : ℕ) → x
-          ≡ n.v * 10 ^ n.left → Fractioned s at x n.at
-      part_nanos u a b n p x y =
-          let o = byte_in s (at + 1) u in
-          let d : IsDigit (get_or s (at + 1) 0) = omega arith in
+      pub part_nanos : {d : ℕ} → Digit s (at + 1) d → (n : Taken ℕ) → NanosSays s (at + 1) n → Fractioned s at n.value n.end
+      part_nanos u n p =
+          let o = byte_in s (at + 1) u.inside in
           record {
             within = p.within;
-            small = omega (arith, y, part_small n.v n.left p.small);
+            small = p.small;
             reads = λ q w h m c r k.
                 second_point s q w h m c at l r e (same (nanos q w h m c fraction_digits 0)
-                (rw (o, dg_digit (get_or s (at + 1) 0) d, sec_digit (get_or s (at + 1) 0) d))
-                (p.goes q w h m c r (k (nanos q w h m c n.left n.v) (nano_other q w h m c n.left n.v (sec_class (byte_at s n.at))
-                (edge_none p.edge) ∙ ap (λ (z : ℕ). on_zone q w h m c z (sec_of (byte_at s n.at))) (sym y)))));
+                (rw (o, dg_digit (get_or s (at + 1) 0) u.digit, sec_digit (get_or s (at + 1) 0) u.digit))
+                (p.goes q w h m c r (k (nanos q w h m c p.left p.v) (nano_other q w h m c p.left p.v (sec_class (byte_at s n.end))
+                (edge_none p.edge) ∙ ap (λ (z : ℕ). on_zone q w h m c z (sec_of (byte_at s n.end))) (sym p.scaled)))));
           }
 
 -- ---- after an hour, after a date, after a year
 
-module _ (s : List ℕ) (q : ℕ) (w : S.When) (h i : ℕ) (f : Field) (t : ThenSays s i (ch ":") f) where
-  pub minute_bad : (p : ℕ) → f ≡ Field.NotGrammar p → Reads s i (field q (S.minute w h) 2 0) (Err (NotGrammar p))
-  minute_bad p e = mark_bad s i (ch ":") f t p e q (S.minute w h) (λ v. S.second w h v) (λ p q v b. refl)
+module _ (s : List ℕ) (q : ℕ) (w : S.When) (h i : ℕ) where
+  pub minute_bad : (e : NotGrammarOf.NotGrammar) → ThenSays s i (ch ":") (Err e) → Reads s i (field q (S.minute w h) 2 0) (Err (NotGrammar e.place))
+  minute_bad e t = t q (S.minute w h) (λ v. S.second w h v) (λ p q v b. refl)
 
-  module _ (m k : ℕ) (e : f ≡ Got m k) (b : Field) (u : TwoSays s k b) where
-    on_second : Onto s i (field q (S.minute w h) 2 0) k (field q (S.second w h m) 2 0)
-    on_second = (mark_got s i (ch ":") f t m k e).2 q (S.minute w h) (λ v. S.second w h v) (λ p q v b. refl)
+  module _ (m : Taken ℕ) (t : ThenSays s i (ch ":") (Ok m)) where
+    on_second : Onto s i (field q (S.minute w h) 2 0) m.end (field q (S.second w h m.value) 2 0)
+    on_second = t.2 q (S.minute w h) (λ v. S.second w h v) (λ p q v b. refl)
 
-    pub second_bad : (p : ℕ) → b ≡ Field.NotGrammar p → Reads s i (field q (S.minute w h) 2 0) (Err (NotGrammar p))
-    second_bad p j = on_second _ (two_bad s k b u p j q (S.second w h m))
+    pub second_bad : (e : NotGrammarOf.NotGrammar) → TwoSays s m.end (Err e) → Reads s i (field q (S.minute w h) 2 0) (Err (NotGrammar e.place))
+    second_bad e u = on_second _ (u q (S.second w h m.value))
 
-    pub second_got : (c at : ℕ) → b ≡ Got c at → Onto s i (field q (S.minute w h) 2 0) at (field q (S.second w h m) 0 c)
-    second_got c at j = λ r x. on_second r ((two_got s k b u c at j).2 q (S.second w h m) r x)
+    pub second_got : (c : Taken ℕ) → TwoSays s m.end (Ok c) → Onto s i (field q (S.minute w h) 2 0) c.end (field q (S.second w h m.value) 0 c.value)
+    second_got c u = λ r x. on_second r (u.2 q (S.second w h m.value) r x)
 
-module _ (s : List ℕ) (q : ℕ) (d : Date) (i : ℕ) (f : Field) (t : ThenSays s i (ch ":") f) where
-  pub hour_bad : (p : ℕ) → f ≡ Field.NotGrammar p → Reads s i (field q (S.hour d) 2 0) (Err (NotGrammar p))
-  hour_bad p e = mark_bad s i (ch ":") f t p e q (S.hour d) (λ v. S.minute (S.on d) v) (λ p q v b. refl)
+module _ (s : List ℕ) (q : ℕ) (d : Date) (i : ℕ) where
+  pub hour_bad : (e : NotGrammarOf.NotGrammar) → ThenSays s i (ch ":") (Err e) → Reads s i (field q (S.hour d) 2 0) (Err (NotGrammar e.place))
+  hour_bad e t = t q (S.hour d) (λ v. S.minute (S.on d) v) (λ p q v b. refl)
 
-  pub hour_got : (h k : ℕ) → f ≡ Got h k → Onto s i (field q (S.hour d) 2 0) k (field q (S.minute (S.on d) h) 2 0)
-  hour_got h k e = (mark_got s i (ch ":") f t h k e).2 q (S.hour d) (λ v. S.minute (S.on d) v) (λ p q v b. refl)
+  pub hour_got : (h : Taken ℕ) → ThenSays s i (ch ":") (Ok h) → Onto s i (field q (S.hour d) 2 0) h.end (field q (S.minute (S.on d) h.value) 2 0)
+  hour_got h t = t.2 q (S.hour d) (λ v. S.minute (S.on d) v) (λ p q v b. refl)
 
-module _ (s : List ℕ) (q y i : ℕ) (f : Field) (t : ThenSays s i (ch "-") f) where
-  pub month_bad : (p : ℕ) → f ≡ Field.NotGrammar p → Reads s i (field q (S.month y) 2 0) (Err (NotGrammar p))
-  month_bad p e = mark_bad s i (ch "-") f t p e q (S.month y) (λ v. S.day y v) (λ p q v b. refl)
+module _ (s : List ℕ) (q y i : ℕ) where
+  pub month_bad : (e : NotGrammarOf.NotGrammar) → ThenSays s i (ch "-") (Err e) → Reads s i (field q (S.month y) 2 0) (Err (NotGrammar e.place))
+  month_bad e t = t q (S.month y) (λ v. S.day y v) (λ p q v b. refl)
 
-  module _ (m k : ℕ) (e : f ≡ Got m k) (b : Field) (u : TwoSays s k b) where
-    on_day_lem : Onto s i (field q (S.month y) 2 0) k (field q (S.day y m) 2 0)
-    on_day_lem = (mark_got s i (ch "-") f t m k e).2 q (S.month y) (λ v. S.day y v) (λ p q v b. refl)
+  module _ (m : Taken ℕ) (t : ThenSays s i (ch "-") (Ok m)) where
+    on_day_lem : Onto s i (field q (S.month y) 2 0) m.end (field q (S.day y m.value) 2 0)
+    on_day_lem = t.2 q (S.month y) (λ v. S.day y v) (λ p q v b. refl)
 
-    pub day_bad : (p : ℕ) → b ≡ Field.NotGrammar p → Reads s i (field q (S.month y) 2 0) (Err (NotGrammar p))
-    day_bad p j = on_day_lem _ (two_bad s k b u p j q (S.day y m))
+    pub day_bad : (e : NotGrammarOf.NotGrammar) → TwoSays s m.end (Err e) → Reads s i (field q (S.month y) 2 0) (Err (NotGrammar e.place))
+    day_bad e u = on_day_lem _ (u q (S.day y m.value))
 
-    pub day_got : (d at : ℕ) → b ≡ Got d at → Onto s i (field q (S.month y) 2 0) at (field q (S.day y m) 0 d)
-    day_got d at j = λ r x. on_day_lem r ((two_got s k b u d at j).2 q (S.day y m) r x)
+    pub day_got : (d : Taken ℕ) → TwoSays s m.end (Ok d) → Onto s i (field q (S.month y) 2 0) d.end (field q (S.day y m.value) 0 d.value)
+    day_got d u = λ r x. on_day_lem r (u.2 q (S.day y m.value) r x)
 
 module _ (s : List ℕ) (q : ℕ) (d : Date) (i : ℕ) (r : Scanned) where
   pub spaced_done : Edge s i → Closes i (date_done q d) r → Reads s i (spaced q d) r
   spaced_done e k = halts (date_done q d) (rw (dg_none (edge_none e))) k
 
-  pub spaced_clock : i < length s → ch "0" ≤ get_or s i 0 → get_or s i 0 ≤ ch "9" → Reads s i (field q (S.hour d) 2 0) r → Reads s i (spaced q d) r
-  spaced_clock h a b k = let p = byte_in s i h in let o : IsDigit (get_or s i 0) = omega arith in
-      same (field q (S.hour d) 2 0) (rw (p, dg_digit (get_or s i 0) o)) k
+  pub spaced_clock : {n : ℕ} → Digit s i n → Reads s i (field q (S.hour d) 2 0) r → Reads s i (spaced q d) r
+  spaced_clock o k = let p = byte_in s i o.inside in same (field q (S.hour d) 2 0) (rw (p, dg_digit (get_or s i 0) o.digit)) k
 
   abbrev day_at : St
   day_at = field q (S.day d.year d.month) 0 d.day

@@ -5,7 +5,6 @@ ghost use Rattle.machine.specs.Numeric as Numeric;
 ghost use Rattle.items.specs.Between.NumberOrTime.{NumericSays, Reads, Place, Edge, AtDigit, FewSays, LeadSays, Marks, Plainly, TimelySays};
 
 use crate::number::{Acc, NONE};
-use crate::time_value::When;
 use crate::{Item, NotGrammar, Scanned, Taken, number, time_value, word};
 use meaning::{Number, Refusal, Time};
 
@@ -115,7 +114,7 @@ fn any_unsigned(s: &[u8], q: usize) -> Scanned
     match lead {
         Lead::Number(x) => number::decimal(s, q, false, x.value, x.end),
         Lead::Hex(at) => number::hexadecimal(s, q, false, at),
-        Lead::Hour(hour) => time_value::after_hour(s, q, When::Alone, hour.value, hour.end),
+        Lead::Hour(hour) => time_value::after_hour(s, q, None, hour.value, hour.end),
         Lead::Year(year) => time_value::after_year(s, q, year.value, year.end),
     }
 }

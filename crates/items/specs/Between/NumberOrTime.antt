@@ -25,12 +25,8 @@ use Rattle.items.specs.declared.number_or_time.Lead as LeadOf
 use Rattle.items.specs.declared.number_or_time.Lead.TheVariants as Lead
 use Rattle.items.specs.declared.number_or_time.Mark as MarkOf
 use Rattle.items.specs.declared.number_or_time.Mark.TheVariants as Mark
-use Rattle.items.specs.declared.time_value.Field.{Field}
-use Rattle.items.specs.declared.time_value.Field.TheVariants.{Got}
-use Rattle.items.specs.declared.time_value.When.{When}
-use Rattle.items.specs.declared.time_value.When.TheVariants.{Alone, On}
+use Rattle.meaning.specs.declared.Date.{Date}
 use Rattle.items.specs.declared.time_value.Clock.{Clock}
-use Rattle.items.specs.declared.time_value.Nanos.{Nanos}
 use Rattle.items.specs.Between.Places.{byte_at}
 
 -- ---- the promise of the whole
@@ -283,24 +279,25 @@ pub data Plainly (d n : ℕ) (x : Acc) (at : ℕ) : Result LeadOf.Lead NotGramma
 -- ---- time fields
 
 -- two digits, whatever the field
-abbrev pub TwoSays : List ℕ → ℕ → Field → Type 0
-TwoSays s i (Got v j) = (j ≤ length s) × (v < 100) × ((q : ℕ) (l : Slot) → Onto s i (field q l 2 0) j (field q l 0 v))
-TwoSays s i (Field.NotGrammar p) = (q : ℕ) (l : Slot) → Reads s i (field q l 2 0) (Err (NotGrammar p))
+abbrev pub TwoSays : List ℕ → ℕ → Result (Taken ℕ) NotGrammarOf.NotGrammar → Type 0
+TwoSays s i (Ok t) =
+    (t.end ≤ length s) × (t.value < 100) × ((q : ℕ) (l : Slot) → Onto s i (field q l 2 0) t.end (field q l 0 t.value))
+TwoSays s i (Err e) = (q : ℕ) (l : Slot) → Reads s i (field q l 2 0) (Err (NotGrammar e.place))
 
 -- after the field l the byte `mark` must come, and then the field that `to` says
 abbrev pub Leads : Slot → ℕ → (ℕ → Slot) → Type 0
 Leads l mark to = (p q v b : ℕ) → S.on_full p q l v b ≡ S.only p mark (field q (to v) 2 0) b
 
-abbrev pub ThenSays : List ℕ → ℕ → ℕ → Field → Type 0
-ThenSays s i mark (Got v j) = (j ≤ length s) × (v < 100) × ((q : ℕ) (l : Slot) (to : ℕ → Slot) → Leads l mark to
-    → Onto s i (field q l 2 0) j (field q (to v) 2 0))
-ThenSays s i mark (Field.NotGrammar p) = (q : ℕ) (l : Slot) (to : ℕ → Slot) → Leads l mark to
-    → Reads s i (field q l 2 0) (Err (NotGrammar p))
+abbrev pub ThenSays : List ℕ → ℕ → ℕ → Result (Taken ℕ) NotGrammarOf.NotGrammar → Type 0
+ThenSays s i mark (Ok t) = (t.end ≤ length s) × (t.value < 100) × ((q : ℕ) (l : Slot) (to : ℕ → Slot) → Leads l mark to
+    → Onto s i (field q l 2 0) t.end (field q (to t.value) 2 0))
+ThenSays s i mark (Err e) = (q : ℕ) (l : Slot) (to : ℕ → Slot) → Leads l mark to
+    → Reads s i (field q l 2 0) (Err (NotGrammar e.place))
 
 -- what stands before a time of day, as the scanner has it
-abbrev pub when_of : When → S.When
-when_of Alone = S.alone
-when_of (On d) = S.on d
+abbrev pub when_of : Option Date → S.When
+when_of None = S.alone
+when_of (Some d) = S.on d
 
 -- a clock's nanoseconds are less than a second
 abbrev pub Parted : Clock → Type 0
@@ -315,11 +312,14 @@ abbrev pub Zoned : List ℕ → ℕ → S.When → Clock → ℕ → Scanned →
 Zoned s q w c at r = (st : St) → scan at st (byte_at s at) ≡ S.on_zone q w c.hour c.minute c.second c.nanos
     (S.sec_of (byte_at s at)) → Reads s at st r
 
--- a fraction's digits so far, of which `left` more would count: less than a second
-pub record NanosSays (s : List ℕ) (from : ℕ) (r : Nanos) : Type 0 where
-  pub within : r.at ≤ length s
-  pub few : r.left ≤ fraction_digits
-  pub small : (r.v + 1) * 10 ^ r.left ≤ Limits.second
-  pub edge : Edge s r.at
-  pub goes : (q : ℕ) (w : S.When) (h m c : ℕ) → Onto s from (S.nanos q w h m c fraction_digits 0) r.at
-      (S.nanos q w h m c r.left r.v)
+-- a fraction's digits in nanoseconds, less than a second: those that count have the value v, and `left` more would
+-- count
+pub record NanosSays (s : List ℕ) (from : ℕ) (r : Taken ℕ) : Type 0 where
+  pub within : r.end ≤ length s
+  pub small : r.value < Limits.second
+  pub edge : Edge s r.end
+  pub left : ℕ
+  pub v : ℕ
+  pub scaled : r.value ≡ v * 10 ^ left
+  pub goes : (q : ℕ) (w : S.When) (h m c : ℕ) → Onto s from (S.nanos q w h m c fraction_digits 0) r.end
+      (S.nanos q w h m c left v)

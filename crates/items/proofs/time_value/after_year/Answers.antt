@@ -1,26 +1,19 @@
 -- Month and day must come. Assumes nothing.
-use Rattle.meaning.specs.Letters.{ch}
-use Rattle.items.proofs.TimeValueLaws.{mark_got, two_got, month_bad, day_bad, day_got}
+use Rattle.items.proofs.NumberOrTimeLaws.{handed_on}
+use Rattle.items.proofs.TimeValueLaws.{month_bad, day_bad, day_got}
 use Rattle.items.proofs.time_value.after_year.Goals as goal
 
 pub two-requires : goal.two-requires
-two-requires c = let g = mark_got c.args.s.now c.args.i (ch "-") _
-    c.two_then.ensures _ _ c.in-Got.is in
-    record { within = g.0; short = c.requires.short }
+two-requires c = record { within = c.in_ok-month.ensures.0; short = c.requires.short }
 
 pub dated-requires : goal.dated-requires
-dated-requires c = let g = two_got c.args.s.now _ _
-    c.two.ensures _ _ c.in-Got-two.is in record
-    { within = g.0; short = c.requires.short }
+dated-requires c = record { within = c.in_ok-day.ensures.0; short = c.requires.short }
 
-pub returns-in-NotGrammar : goal.returns-in-NotGrammar
-returns-in-NotGrammar c = month_bad _ _ _ _ _ c.two_then.ensures _ c.in-NotGrammar.is
+pub returns-in_err-month : goal.returns-in_err-month
+returns-in_err-month c = handed_on _ c.from_residual.ensures.1 (month_bad _ _ _ _ _ c.in_err-month.ensures)
 
-pub returns-in-NotGrammar-two : goal.returns-in-NotGrammar-two
-returns-in-NotGrammar-two c = day_bad _ _ _ _ _ c.two_then.ensures _ _
-    c.in-Got.is _ c.two.ensures _ c.in-NotGrammar-two.is
+pub returns-in_err-day : goal.returns-in_err-day
+returns-in_err-day c = handed_on _ c.from_residual-in_err-day.ensures.1 (day_bad _ _ _ _ _ c.in_ok-month.ensures _ c.in_err-day.ensures)
 
-pub returns-in-Got-two : goal.returns-in-Got-two
-returns-in-Got-two c = day_got _ _ _ _ _ c.two_then.ensures _ _
-    c.in-Got.is _ c.two.ensures _ _
-    c.in-Got-two.is _ c.dated.ensures
+pub returns : goal.returns
+returns c = day_got _ _ _ _ _ c.in_ok-month.ensures _ c.in_ok-day.ensures _ c.dated.ensures
