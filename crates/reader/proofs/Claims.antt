@@ -20,9 +20,9 @@ use Rattle.grammar.proofs.Sizes.{text_fits}
 use Rattle.machine.proofs.Whole.{loosely_unambiguous}
 use Rattle.machine.proofs.Refusals.Whole.{one_loose_refusal, loose_not_refused}
 use Rattle.machine.proofs.Accepted.{unambiguous, one_text_refusal, not_refused}
-use Rattle.reader.specs.declared.Answer.{Answer}
-use Rattle.reader.specs.declared.Answer.TheVariants.{Counts, Refused}
-use Rattle.reader.specs.Answers.{answer_said, tape_bytes, Measures, Loosely, Reads, filled, tape_short, store_short}
+use Rattle.std.specs.Prelude.{Ok, Err}
+use Rattle.reader.specs.declared.Counts.{Counts}
+use Rattle.reader.specs.Answers.{Answer, counts, answer_said, tape_bytes, Measures, Loosely, Reads, filled, tape_short, store_short}
 
 -- ---- what is said tells the answer
 
@@ -34,17 +34,17 @@ abbrev bytes_said : Said (ℕ × ℕ) → ℕ
 bytes_said (done v) = v.1
 bytes_said (refused number place) = 0
 
-counts_records : {r s x y : ℕ} → answer_said (Counts r s) ≡ done (x, y) → r ≡ x
+counts_records : {n : Counts} {x y : ℕ} → answer_said (Ok n) ≡ done (x, y) → n.records ≡ x
 counts_records e = ap records_said e
 
-counts_bytes : {r s x y : ℕ} → answer_said (Counts r s) ≡ done (x, y) → s ≡ y
+counts_bytes : {n : Counts} {x y : ℕ} → answer_said (Ok n) ≡ done (x, y) → n.bytes ≡ y
 counts_bytes e = ap bytes_said e
 
 same_answer : (a b : Answer) → answer_said a ≡ answer_said b → a ≡ b
-same_answer (Counts r s) (Counts x y) e = ap₂ Counts (ap records_said e) (ap bytes_said e)
-same_answer (Counts r s) (Refused w) e = absurd (done_apart e)
-same_answer (Refused v) (Counts x y) e = absurd (done_apart (sym e))
-same_answer (Refused v) (Refused w) e = ap Refused (same_refusal v w e)
+same_answer (Ok n) (Ok k) e = ap₂ counts (ap records_said e) (ap bytes_said e)
+same_answer (Ok n) (Err w) e = absurd (done_apart e)
+same_answer (Err v) (Ok k) e = absurd (done_apart (sym e))
+same_answer (Err v) (Err w) e = ap Err (same_refusal v w e)
 
 -- ---- one outcome
 
@@ -79,12 +79,12 @@ one_outcome_loosely text a b p q = same_answer a b (said p q)
 
 -- the two answers are one, or the text is refused for a repeated key alone
 pub left_out : (text : List ℕ) (a b : Answer) → Measures text a → Loosely text b
-    → (a ≡ b) ⊎ ((q : ℕ) × (a ≡ Refused (RepeatedKey q)) × ((r : ℕ) × (s : ℕ) × (b ≡ Counts r s)))
+    → (a ≡ b) ⊎ ((q : ℕ) × (a ≡ Err (RepeatedKey q)) × ((r : ℕ) × (s : ℕ) × (b ≡ counts r s)))
 left_out text a b (Measures.sizes x e) q = inl (one_outcome_loosely text a b (Loosely.sizes x.loose e) q)
 left_out text a b (Measures.no_text (loose x) e) q = inl (one_outcome_loosely text a b (Loosely.no_text x e) q)
 left_out text a b (Measures.no_text (repeated {m = m} {p = p} x y z) e) q =
-    let w = one_outcome_loosely text (Counts (records m) (bytes m)) b (Loosely.sizes x refl) q in
-    inr (p, same_answer a (Refused (RepeatedKey p)) e, (records m, bytes m, sym w))
+    let w = one_outcome_loosely text (counts (records m) (bytes m)) b (Loosely.sizes x refl) q in
+    inr (p, same_answer a (Err (RepeatedKey p)) e, (records m, bytes m, sym w))
 
 -- ---- one outcome of `read`
 
@@ -140,11 +140,11 @@ pub record Sized (text : List ℕ) (r s : ℕ) : Type 0 where
   pub counted : r ≡ records meaning
   pub held : s ≡ bytes meaning
 
-pub measure_accepts : (text : List ℕ) (r s : ℕ) → Measures text (Counts r s) → Sized text r s
+pub measure_accepts : (text : List ℕ) (r s : ℕ) → Measures text (counts r s) → Sized text r s
 measure_accepts text r s (Measures.sizes {m = m} x e) = record { meaning = m; text_means = x; counted = counts_records e; held = counts_bytes e }
 measure_accepts text r s (Measures.no_text x e) = absurd (done_apart e)
 
-pub accepts_measure : {text : List ℕ} {m : Meaning} → Text text m → Measures text (Counts (records m) (bytes m))
+pub accepts_measure : {text : List ℕ} {m : Meaning} → Text text m → Measures text (counts (records m) (bytes m))
 accepts_measure x = Measures.sizes x refl
 
 -- ---- accepted: done just where the grammar gives the text a meaning and there is room; then the tape and the store hold it
@@ -160,7 +160,7 @@ pub record Held (text tape store : List ℕ) (r s : ℕ) (tape' store' : List �
   pub stored : store' ≡ store_of meaning ++ drop (length (store_of meaning)) store
 
 module _ (text tape store : List ℕ) where
-  pub read_accepts : (r s : ℕ) (tape' store' : List ℕ) → Reads text tape store (Counts r s) tape' store' → Held text tape store r s tape' store'
+  pub read_accepts : (r s : ℕ) (tape' store' : List ℕ) → Reads text tape store (counts r s) tape' store' → Held text tape store r s tape' store'
   read_accepts r s tape' store' (filled {m = m} x h k e) =
       record { meaning = m; text_means = x; tape_room = h; store_room = k; counted = counts_records e; held = counts_bytes e; taped = refl; stored = refl }
   read_accepts r s tape' store' (tape_short x h e) = absurd (done_apart e)
@@ -168,11 +168,11 @@ module _ (text tape store : List ℕ) where
   read_accepts r s tape' store' (Reads.no_text x e) = absurd (done_apart e)
 
   pub accepts_read : (tape' store' : List ℕ) (a : Answer) (m : Meaning) → Text text m → tape_bytes m ≤ length tape
-      → bytes m ≤ length store → Reads text tape store a tape' store' → a ≡ Counts (records m) (bytes m)
+      → bytes m ≤ length store → Reads text tape store a tape' store' → a ≡ counts (records m) (bytes m)
   accepts_read tape' store' a m x h k p = (one_outcome_read p (filled x h k refl)).0
 
   -- ---- untouched: after a refusal each lent buffer is as it was
-  pub read_untouched : (tape' store' : List ℕ) (why : Refusal) → Reads text tape store (Refused why) tape' store' → (tape' ≡ tape) × (store' ≡ store)
+  pub read_untouched : (tape' store' : List ℕ) (why : Refusal) → Reads text tape store (Err why) tape' store' → (tape' ≡ tape) × (store' ≡ store)
   read_untouched tape' store' why (filled x h k e) = absurd (done_apart (sym e))
   read_untouched tape' store' why (tape_short x h e) = (refl, refl)
   read_untouched tape' store' why (store_short x h k e) = (refl, refl)
@@ -180,11 +180,11 @@ module _ (text tape store : List ℕ) where
 
 -- ---- refused: a refusal of 1 to 7 or 15 is given by both, whatever is lent
 
-pub measure_refuses : {text : List ℕ} {a : Answer} {why : Refusal} → TextRefused text why → Measures text a → a ≡ Refused why
-measure_refuses {text} {a} {why} x p = one_outcome_measure text a (Refused why) p (Measures.no_text x refl)
+pub measure_refuses : {text : List ℕ} {a : Answer} {why : Refusal} → TextRefused text why → Measures text a → a ≡ Err why
+measure_refuses {text} {a} {why} x p = one_outcome_measure text a (Err why) p (Measures.no_text x refl)
 
 pub read_refuses : {text tape store tape' store' : List ℕ} {a : Answer} {why : Refusal} → TextRefused text why
-    → Reads text tape store a tape' store' → a ≡ Refused why
+    → Reads text tape store a tape' store' → a ≡ Err why
 read_refuses x p = (one_outcome_read p (Reads.no_text x refl)).0
 
 -- ---- bounded: records and store bytes are each at most the text's length

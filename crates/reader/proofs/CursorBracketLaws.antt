@@ -29,7 +29,7 @@ use Rattle.reader.specs.Between.Cursor.{MemberSays, MemberBegins, Seen}
 use Rattle.reader.specs.declared.cursor.Cursor.{Cursor}
 use Rattle.reader.specs.declared.cursor.Ahead.{Ahead}
 use Rattle.reader.specs.declared.cursor.After.{After}
-use Rattle.reader.specs.declared.cursor.Member.{Member}
+use Rattle.std.specs.Prelude.{Ok, Err}
 use Rattle.reader.proofs.ScanningLaws.{onto, go, go_hearing, stop, halt, then_refused, faulted}
 use Rattle.machine.proofs.Classes.{ClassIs, class_is_lem}
 use Rattle.once.proofs.KeepingLaws.{keeps_further, goes_further}
@@ -67,7 +67,7 @@ module _ (text : List ℕ) (c : Cursor) where
 -- ---- in a container
 
 module _ (text : List ℕ) (c : Cursor) (closing : ℕ) where
-  pub ahead_broken : (q : ℕ) → Breaks text base c.at q → AheadSays text c closing (Ahead.Refused (NotGrammar q))
+  pub ahead_broken : (q : ℕ) → Breaks text base c.at q → AheadSays text c closing (Err (NotGrammar q))
   ahead_broken q w y e d k = faulted (w (wanted y) d (inside y ∷ k))
 
   module _ (q : ℕ) (v : LayoutEnds text c.at q) where
@@ -78,7 +78,7 @@ module _ (text : List ℕ) (c : Cursor) (closing : ℕ) where
     ahead_over h (elements x) d k = halt (within (elements x) d k) text q (NotGrammar q) h refl
     ahead_over h (members x) d k = halt (within (members x) d k) text q (NotGrammar q) h refl
 
-    pub ahead_end : length text ≤ q → AheadSays text c closing (Ahead.Refused (NotGrammar q))
+    pub ahead_end : length text ≤ q → AheadSays text c closing (Err (NotGrammar q))
     ahead_end h y e d k = then_refused (v.goes (wanted y) d (inside y ∷ k)) (ahead_over h y d k)
 
     module _ (h : q < length text) where
@@ -87,10 +87,10 @@ module _ (text : List ℕ) (c : Cursor) (closing : ℕ) where
       shuts (elements x) e d k = go (within (elements x) d k) (at (base (got (value (shut (elements x))))) (suc d) k) text q h (rw e)
       shuts (members x) e d k = go_hearing (within (members x) d k) (at (base (got (value (shut (members x))))) (suc d) k) text q (Heard.shuts ∷ []) h (rw e)
 
-      pub ahead_close : get_or text q 0 ≡ closing → AheadSays text c closing (Ahead.Close (on_to c (q + 1)))
+      pub ahead_close : get_or text q 0 ≡ closing → AheadSays text c closing (Ok (Ahead.Close (on_to c (q + 1))))
       ahead_close e = ((λ y f d k. v.goes (wanted y) d (inside y ∷ k) ∙ shuts y (e ∙ sym f) d k), moved_past h)
 
-      pub ahead_more : (get_or text q 0 ≡ closing → ⊥) → AheadSays text c closing (Ahead.More (on_to c q))
+      pub ahead_more : (get_or text q 0 ≡ closing → ⊥) → AheadSays text c closing (Ok (Ahead.More (on_to c q)))
       ahead_more n = record { goes = v.goes; bare = v.bare; behind = v.onward.behind; inside = h; other = n; records = refl; stored = refl }
 
 -- ---- after an element or a member
@@ -137,22 +137,22 @@ closes text q h closing f y (Adds.member {x = x} {u = u}) e m d k =
     (Heard.shuts ∷ []) h (rw e)
 
 module _ (text : List ℕ) (c : Cursor) (closing : ℕ) where
-  pub after_broken : (q : ℕ) → Breaks text base c.at q → AfterSays text c closing (After.Refused (NotGrammar q))
+  pub after_broken : (q : ℕ) → Breaks text base c.at q → AfterSays text c closing (Err (NotGrammar q))
   after_broken q w f y a m d k = faulted (w (got (value m)) d (f ∷ k))
 
   module _ (q : ℕ) (v : LayoutEnds text c.at q) where
-    pub after_end : length text ≤ q → AfterSays text c closing (After.Refused (NotGrammar q))
+    pub after_end : length text ≤ q → AfterSays text c closing (Err (NotGrammar q))
     after_end h f y a m d k =
         then_refused (v.goes (got (value m)) d (f ∷ k)) (halt (at (base (got (value m))) d (f ∷ k)) text q (NotGrammar q) h refl)
 
     module _ (h : q < length text) where
-      pub after_comma : get_or text q 0 ≡ ch "," → AfterSays text c closing (After.Comma (on_to c (q + 1)))
+      pub after_comma : get_or text q 0 ≡ ch "," → AfterSays text c closing (Ok (After.Comma (on_to c (q + 1))))
       after_comma e = ((λ f y a m d k. v.goes (got (value m)) d (f ∷ k) ∙ commas text q h e closing f y a m d k), moved_past text c closing q v h)
 
-      pub after_close : get_or text q 0 ≡ closing → AfterSays text c closing (After.Close (on_to c (q + 1)))
+      pub after_close : get_or text q 0 ≡ closing → AfterSays text c closing (Ok (After.Close (on_to c (q + 1))))
       after_close e = ((λ f y a m d k. v.goes (got (value m)) d (f ∷ k) ∙ closes text q h closing f y a e m d k), moved_past text c closing q v h)
 
-      pub after_wrong : (get_or text q 0 ≡ ch "," → ⊥) → (get_or text q 0 ≡ closing → ⊥) → AfterSays text c closing (After.Refused (NotGrammar q))
+      pub after_wrong : (get_or text q 0 ≡ ch "," → ⊥) → (get_or text q 0 ≡ closing → ⊥) → AfterSays text c closing (Err (NotGrammar q))
       after_wrong n o f y a m d k = then_refused (v.goes (got (value m)) d (f ∷ k)) (stop (at (base (got (value m))) d (f ∷ k)) text q (NotGrammar q) h
           (after_class q d k m f closing y a (get_or text q 0) (class_of (get_or text q 0)) (class_is_lem (get_or text q 0))
           (v.bare.no_blank h) (v.bare.no_hash h) (v.bare.no_slash h) n o))
@@ -178,18 +178,18 @@ module _ (p d : ℕ) (k : List Frame) (x : Members) (u : List ℕ) where
   colon_class b (open_c y) z i j l n = refl
   colon_class b (close_c y) z i j l n = refl
 
-module _ (text : List ℕ) (c : Cursor) (size : ℕ) where
-  pub colon_broken : (q : ℕ) → Breaks text base c.at q → ColonSays text c size (Member.Refused (NotGrammar q))
+module _ (text : List ℕ) (c : Cursor) where
+  pub colon_broken : (q : ℕ) → Breaks text base c.at q → ColonSays text c (Err (NotGrammar q))
   colon_broken q w x u d k = faulted (w (got (key u)) d (inside (members x) ∷ k))
 
   module _ (q : ℕ) (v : LayoutEnds text c.at q) where
-    pub colon_end : length text ≤ q → ColonSays text c size (Member.Refused (NotGrammar q))
+    pub colon_end : length text ≤ q → ColonSays text c (Err (NotGrammar q))
     colon_end h x u d k =
         then_refused (v.goes (got (key u)) d (inside (members x) ∷ k))
         (halt (at (base (got (key u))) d (inside (members x) ∷ k)) text q (NotGrammar q) h refl)
 
     module _ (h : q < length text) where
-      pub colon_wrong : (get_or text q 0 ≡ ch ":" → ⊥) → ColonSays text c size (Member.Refused (NotGrammar q))
+      pub colon_wrong : (get_or text q 0 ≡ ch ":" → ⊥) → ColonSays text c (Err (NotGrammar q))
       colon_wrong n x u d k =
           then_refused (v.goes (got (key u)) d (inside (members x) ∷ k))
           (stop (at (base (got (key u))) d (inside (members x) ∷ k)) text q (NotGrammar q) h
@@ -209,19 +209,17 @@ module _ (text : List ℕ) (c : Cursor) (size : ℕ) where
             ap (λ (t : Told). key_heard t.heard) (v.goes (got (key u)) d k ∙ onto (at (base (got (key u))) d k) text q h)
             ∙ rw e
 
-        pub colon_breaks : (r : ℕ) → Breaks text base (q + 1) r → ColonSays text c size (Member.Refused (NotGrammar r))
+        pub colon_breaks : (r : ℕ) → Breaks text base (q + 1) r → ColonSays text c (Err (NotGrammar r))
         colon_breaks r w x u d k = then_refused (coloned x u d k) (faulted (w want d (pair x u ∷ k)))
 
-        pub colon_key : (r : ℕ) → LayoutEnds text (q + 1) r → ColonSays text c size (Member.Key size (on_to c r))
-        colon_key r w = (
-          record {
-            goes = λ x u d k. coloned x u d k ∙ ap (after (names u ∷ [])) (w.goes want d (pair x u ∷ k));
-            names_it = named_there;
-            bare = w.bare;
-            moved = record { past = omega (arith, v.onward.behind, w.onward.behind); within = w.onward.within; records = refl; stored = refl };
-          },
-          refl,
-        )
+        pub colon_key : (r : ℕ) → LayoutEnds text (q + 1) r → ColonSays text c (Ok (on_to c r))
+        colon_key r w =
+            record {
+              goes = λ x u d k. coloned x u d k ∙ ap (after (names u ∷ [])) (w.goes want d (pair x u ∷ k));
+              names_it = named_there;
+              bare = w.bare;
+              moved = record { past = omega (arith, v.onward.behind, w.onward.behind); within = w.onward.within; records = refl; stored = refl };
+            }
 
 -- ---- a key and its colon
 
@@ -241,28 +239,31 @@ module _ (text : List ℕ) (c : Cursor) (entry : List ℕ) where
   abbrev pub keyed_at : ℕ → ℕ → Cursor
   keyed_at q n = record { at = q; records = c.records + 1; stored = c.stored + n }
 
-  pub member_says : (exit : List ℕ) (q n : ℕ) → Keyed text c.at c.stored entry exit q n → (r : Member)
-      → ColonSays text (keyed_at q n) n r → MemberSays text c entry exit r
+  pub member_says : (exit : List ℕ) (q n : ℕ) → Keyed text c.at c.stored entry exit q n → (v : Cursor)
+      → ColonSays text (keyed_at q n) (Ok v) → MemberSays text c entry exit (Ok (n, v))
   unfolding key_at
-  member_says exit q n w (Member.Key j t) s =
-      let m = s.0.moved in
+  member_says exit q n w v s =
+      let m = s.moved in
       let o = w.meant in
       record {
         u = w.u;
-        goes = λ x d k. w.runs d (inside (members x) ∷ k) ∙ ap (after (starts c.at ∷ [])) (s.0.goes x w.u d k);
-        is = ap (λ (t : Told). key_heard t.heard) (w.runs 0 []) ∙ s.0.names_it w.u 0 [];
+        goes = λ x d k. w.runs d (inside (members x) ∷ k) ∙ ap (after (starts c.at ∷ [])) (s.goes x w.u d k);
+        is = ap (λ (t : Told). key_heard t.heard) (w.runs 0 []) ∙ s.names_it w.u 0 [];
         behind = omega arith;
         ahead = omega (arith, m.past, o.past);
-        counted = s.1 ∙ o.counted;
+        counted = o.counted;
         filled = o.filled;
-        bare = s.0.bare;
+        bare = s.bare;
         records = m.records;
         stored = omega (arith, m.stored, o.counted);
         room = omega (arith, m.past, o.room);
         past = omega (arith, m.past, o.past);
         within = m.within;
       }
-  member_says exit q n w (Member.Refused why) s = λ x d k. then_refused (w.runs d (inside (members x) ∷ k)) (s x w.u d k)
+
+  pub member_unsaid : (exit : List ℕ) (q n : ℕ) → Keyed text c.at c.stored entry exit q n → (why : Refusal)
+      → ColonSays text (keyed_at q n) (Err why) → MemberSays text c entry exit (Err why)
+  member_unsaid exit q n w why s = λ x d k. then_refused (w.runs d (inside (members x) ∷ k)) (s x w.u d k)
 
 -- ---- in an object
 
@@ -281,17 +282,17 @@ module _ (text : List ℕ) (c n : Cursor) (h : Begins text c (ch "}") n) where
   }
 
   pub member_none : (why : Refusal) → ((x : Members) (d : ℕ) (k : List Frame) → Refuses text (within (members x) d k) n.at why)
-      → AheadSays text c (ch "}") (Ahead.Refused why)
+      → AheadSays text c (ch "}") (Err why)
   member_none why w (elements x) e d k = absurd (omega arith)
   member_none why w (members x) e d k = then_refused (h.goes want_key d (inside (members x) ∷ k)) (w x d k)
 
-  pub member_key : (entry exit : List ℕ) (size : ℕ) (v : Cursor) → Ready text c → MemberSays text n entry exit (Member.Key size v) → AtKey text n.at
+  pub member_key : (entry exit : List ℕ) (size : ℕ) (v : Cursor) → Ready text c → MemberSays text n entry exit (Ok (size, v)) → AtKey text n.at
   member_key entry exit size v r w = record { u = w.u; is = (w.is, h.bare); inside = h.inside; short = r.short }
 
   pub member_tabled : (seen : List ℕ) → Ready text c → Seen text seen c.at → Tabled text seen n.at
   member_tabled seen r s = seen_tabled text (seen_further text n.at h.behind (omega (arith, h.inside, r.short)) s)
 
-  pub member_begins : (tape tape' entry exit seen seen' : List ℕ) (size : ℕ) (v : Cursor) → Ready text c → MemberSays text n entry exit (Member.Key size v)
+  pub member_begins : (tape tape' entry exit seen seen' : List ℕ) (size : ℕ) (v : Cursor) → Ready text c → MemberSays text n entry exit (Ok (size, v))
       → tape' ≡ put_record tape c.records (Record.Key size c.stored) → NoteSays text seen seen' n.at
       → MemberBegins text c tape tape' entry exit seen seen' v
   member_begins tape tape' entry exit seen seen' size v r w e g = record {

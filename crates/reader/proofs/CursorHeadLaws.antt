@@ -25,7 +25,8 @@ use Rattle.reader.specs.Between.Joined.{Joined, string_part_of, binary_part_of, 
 use Rattle.items.specs.Between.NumberOrTime.{Means, NumericSays}
 use Rattle.reader.specs.Between.Cursor.{record_item, item_bytes, Scalar, Unwanted, ScalarSays, SpeltSays, Quoted, AtScalar}
 use Rattle.items.specs.declared.Item.{Item as Taken}
-use Rattle.items.specs.declared.Scanned.{Scanned}
+use Rattle.std.specs.Prelude.{Ok, Err}
+use Rattle.items.specs.Between.NumberOrTime.{Scanned}
 use Rattle.reader.proofs.ScanningLaws.{move, both, alike_hearing, alike_comes, then_refused}
 use Rattle.machine.proofs.Classes.{ClassIs, class_is_lem}
 use Rattle.reader.proofs.KeyLaws.{not_quote}
@@ -94,11 +95,11 @@ module _ (text : List ℕ) (p start : ℕ) (entry : List ℕ) where
   pub of_word : (w : List ℕ) (c : ℕ) (a : List ℕ) → w ≡ c ∷ a → (i : Taken) (m : Meaning) → Means i m
       → ((d : ℕ) (k : List Frame) → Goes text (at (base want) d k) p (at (item (word w m)) d k) p)
       → (r : Scanned) → SpeltSays text p w i r → ScalarSays text p start entry entry r
-  of_word w c a e i m v g (Scanned.Item j q) s =
+  of_word w c a e i m v g (Ok t) s =
       rw s.2
-      (of_means i m q v (word_past (drop p text) p q c a (rw e at s.0)) s.1
-      (λ d k. g d k ∙ lift_done word_scan (λ l. word l m) (λ l. value m) (λ p s b. refl) d k text p w tt q s.0))
-  of_word w c a e i m v g (Scanned.Refused why) s =
+      (of_means i m t.end v (word_past (drop p text) p t.end c a (rw e at s.0)) s.1
+      (λ d k. g d k ∙ lift_done word_scan (λ l. word l m) (λ l. value m) (λ p s b. refl) d k text p w tt t.end s.0))
+  of_word w c a e i m v g (Err why) s =
       λ d k x. then_refused (g d k) (lift_refused word_scan (λ l. word l m) (λ l. value m) (λ p s b. refl) d k text p w why s)
 
   module _ (h : p < length text) where
@@ -227,9 +228,9 @@ module _ (text : List ℕ) (p start : ℕ) (entry : List ℕ) (v : AtScalar text
         (numeric_quiet p (get_or text p 0))
 
   pub of_numeric : (r : Scanned) → NumericSays text p r → ScalarSays text p start entry entry r
-  of_numeric (Scanned.Item i q) w = of_means text p start entry i w.m q w.means w.past w.within
-      (λ d k. opens_numeric w.m q w.runs d k ∙ lift_done Numeric.scan numeric value
-      (λ p s b. refl) d k text p Numeric.begin w.m q w.runs)
-  of_numeric (Scanned.Refused why) w =
+  of_numeric (Ok t) w = of_means text p start entry t.value w.m t.end w.means w.past w.within
+      (λ d k. opens_numeric w.m t.end w.runs d k ∙ lift_done Numeric.scan numeric value
+      (λ p s b. refl) d k text p Numeric.begin w.m t.end w.runs)
+  of_numeric (Err why) w =
       λ d k s. alike_comes (at (base want) d k) (at (item (numeric Numeric.begin)) d k) text p v.inside (begins_numeric d k s).0
       ∙ lift_refused Numeric.scan numeric value (λ p s b. refl) d k text p Numeric.begin why w

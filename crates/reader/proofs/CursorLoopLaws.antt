@@ -16,7 +16,7 @@ use Rattle.meaning.specs.Look.{whole_records}
 use Rattle.meaning.proofs.Records.{record_length, records_append, records_bytes_length}
 use Rattle.meaning.proofs.Sizes.{records_length, elements_length, members_length, elements_few, members_few}
 use Rattle.grammar.specs.Values.{Inside, elements, members}
-use Rattle.machine.specs.Machine.{close_c, close_wanted, odd, want, Frame, inside, pair, Bracket, square, curly, bare_of, shut, No}
+use Rattle.machine.specs.Machine.{close_c, close_wanted, odd, want, Frame, inside, pair, Bracket, square, curly, bare_of, shut}
 use Rattle.machine.proofs.Classes.{closing, ClassIs, class_is_lem}
 use Rattle.meaning.specs.declared.Refusal.{Refusal}
 use Rattle.tape.specs.Between.Putting.{put_record}
@@ -25,7 +25,7 @@ use Rattle.reader.specs.declared.cursor.Cursor.{Cursor}
 use Rattle.reader.specs.Between.Scanning.{Tells, Shut}
 use Rattle.reader.specs.Between.Cursor.{Ready, AtValue, Inner, Moved, Begins, Took, Named, Adds, closer, closed}
 use Rattle.reader.specs.Between.Cursor.{within, bare_in, wants, always, Left, AheadSays, MemberAheadSays, OneItem, Opened}
-use Rattle.reader.specs.Between.Cursor.{record_item, StepReady, FollowedSays, opening_of, closing_of, Stood, keeping, keeping_before, Seen, MemberBegins}
+use Rattle.reader.specs.Between.Cursor.{record_item, AfterSays, opening_of, closing_of, Stood, keeping, keeping_before, Seen, MemberBegins}
 use Rattle.reader.specs.Between.Cursor.{ValueSays, InsideSays}
 use Rattle.reader.specs.Between.Repeat.{Led}
 use Rattle.reader.proofs.ScanningLaws.{then_refused, then_tells, then_goes}
@@ -35,7 +35,7 @@ use Rattle.once.specs.Groups.{Sane}
 use Rattle.once.specs.Windows.{level}
 use Rattle.once.proofs.KeepingLaws.{keeps_further, goes_none}
 use Rattle.items.specs.declared.Item.{Item}
-use Rattle.reader.specs.declared.cursor.Step.{Step}
+use Rattle.std.specs.Prelude.{Result, Ok, Err}
 use Rattle.meaning.specs.declared.Refusal.TheVariants.{TooDeep}
 use Rattle.reader.specs.declared.cursor.Ahead.{Ahead}
 use Rattle.reader.specs.declared.cursor.After.{After}
@@ -360,22 +360,6 @@ pub record Waiting (text tape₀ tape store₀ store seen₀ seen : List ℕ) (b
       (w : Took text (wants depth) depth [] (keeping text seen v) v tape tape' store store' seen' last)
       → length tape' ≡ length tape → Content text tape₀ tape' store₀ store' b o (count + 1) last (y w.m)
 
--- what is made of what stands ahead of c
-abbrev pub Onward : List ℕ → List ℕ → List ℕ → List ℕ → List ℕ → List ℕ → List ℕ → Bracket → Cursor → ℕ → ℕ → Cursor → Ahead → Type 0
-Onward text tape₀ tape store₀ store seen₀ seen b o depth count c (Ahead.Refused why) = Left text (bare_in b depth) always o.at why
-Onward text tape₀ tape store₀ store seen₀ seen b o depth count c (Ahead.Close n) =
-    Sane seen × ((seen' : List ℕ) → Closing b seen seen' → Closed text tape₀ tape store₀ store seen₀ seen' b o depth count n)
-Onward text tape₀ tape store₀ store seen₀ seen b o depth count c (Ahead.More v) =
-    Waiting text tape₀ tape store₀ store seen₀ seen b o depth count v × (c.at ≤ v.at)
-
--- and of what follows the value at v
-abbrev pub Further : List ℕ → List ℕ → List ℕ → List ℕ → List ℕ → List ℕ → List ℕ → Bracket → Cursor → ℕ → ℕ → Cursor → After → Type 0
-Further text tape₀ tape store₀ store seen₀ seen b o depth count v (After.Refused why) = Left text (bare_in b depth) always o.at why
-Further text tape₀ tape store₀ store seen₀ seen b o depth count v (After.Close n) =
-    Sane seen × ((seen' : List ℕ) → Closing b seen seen' → Closed text tape₀ tape store₀ store seen₀ seen' b o depth (count + 1) n)
-Further text tape₀ tape store₀ store seen₀ seen b o depth count v (After.Comma n) =
-    Round text tape₀ tape store₀ store seen₀ seen b o depth (count + 1) n × (v.at < n.at)
-
 module _ {text tape₀ tape store₀ store seen₀ seen : List ℕ} {b : Bracket} {o : Cursor} {depth count : ℕ} {c : Cursor}
     (t : Round text tape₀ tape store₀ store seen₀ seen b o depth count c) where
   pub round_ready : Ready text c
@@ -388,22 +372,16 @@ module _ {text tape₀ tape store₀ store seen₀ seen : List ℕ} {b : Bracket
   pub round_counts : count < text_limit
   round_counts = content_counts t.content
 
-  round_refused : {why : Refusal} → AheadSays text c (closing b) (Ahead.Refused why) → Left text (bare_in b depth) always o.at why
+  pub round_refused : {why : Refusal} → AheadSays text c (closing b) (Err why) → Left text (bare_in b depth) always o.at why
   round_refused r = λ k q. then_refused (t.goes k) (r t.y (closer_of b t.y t.content.kind) depth k)
 
-  round_close : (n : Cursor) → AheadSays text c (closing b) (Ahead.Close n) → (seen' : List ℕ) → Closing b seen seen'
+  pub round_sane : Sane seen
+  round_sane = noted_sane t.noted
+
+  pub round_close : (n : Cursor) → AheadSays text c (closing b) (Ok (Ahead.Close n)) → (seen' : List ℕ) → Closing b seen seen'
       → Closed text tape₀ tape store₀ store seen₀ seen' b o depth count n
   round_close n g = content_took t.content depth n g.1
       (λ k. then_tells t.keys (closing_of t.y) _ (t.goes k) (g.0 t.y (closer_of b t.y t.content.kind) depth k)) t.noted
-
-same_refusal : {x why : Refusal} → After.Refused x ≡ After.Refused why → why ≡ x
-same_refusal e = cc
-
-no_close : {n : Cursor} {why : Refusal} → After.Close n ≡ After.Refused why → ⊥
-no_close e = let z : ◌≡◌ {A = ℕ} 0 1 = cc in omega arith
-
-no_comma : {n : Cursor} {why : Refusal} → After.Comma n ≡ After.Refused why → ⊥
-no_comma e = let z : ◌≡◌ {A = ℕ} 0 1 = cc in omega arith
 
 pub waiting_seen : {text tape₀ tape store₀ store seen₀ seen : List ℕ} {b : Bracket} {o : Cursor} {depth count : ℕ} {v : Cursor}
     → Waiting text tape₀ tape store₀ store seen₀ seen b o depth count v → Seen text seen v.at
@@ -412,42 +390,44 @@ waiting_seen t = noted_seen t.noted
 module _ {text tape₀ tape store₀ store seen₀ seen : List ℕ} {b : Bracket} {o : Cursor} {depth count : ℕ} {v : Cursor}
     (t : Waiting text tape₀ tape store₀ store seen₀ seen b o depth count v) (tape' store' seen' : List ℕ) (l : length tape' ≡ length tape) where
   -- after the value
-  pub value_ready : (s : Step) → ValueSays text depth v tape tape' store store' seen seen' s → StepReady text s
-  value_ready (Step.Refused why) w = tt
-  value_ready (Step.Value last) w = content_ready (t.grown last tape' store' seen' w l)
+  pub value_ready : (last : Cursor) → ValueSays text depth v tape tape' store store' seen seen' (Ok last) → Ready text last
+  value_ready last w = content_ready (t.grown last tape' store' seen' w l)
+
+  pub value_refused : (why : Refusal) → ValueSays text depth v tape tape' store store' seen seen' (Err why) → Left text (bare_in b depth) always o.at why
+  value_refused why w = λ k q. then_refused (t.goes k) (w (t.f ∷ k) (t.shut_there k))
 
   module _ (e : length seen' ≡ length seen) where
     value_noted : (last : Cursor) (w : Took text (wants depth) depth [] (keeping text seen v) v tape tape' store store' seen' last)
         → Noted text seen₀ seen' b o.at last.at (t.keys ++ w.keys)
     value_noted last w = noted_more t.noted w.keys seen' last.at e w.level_kept (λ f s h i. w.noted f s h)
 
-    pub value_followed : (s : Step) → ValueSays text depth v tape tape' store store' seen seen' s
-        → (r : After) → FollowedSays text s (closing b) r → Further text tape₀ tape' store₀ store' seen₀ seen' b o depth count v r
-    value_followed (Step.Refused why) w (After.Refused x) e = λ k q. then_refused (t.goes k) (w (t.f ∷ k) (t.shut_there k) ∙ ap No (same_refusal e))
-    value_followed (Step.Refused why) w (After.Close n) e = absurd (no_close e)
-    value_followed (Step.Refused why) w (After.Comma n) e = absurd (no_comma e)
-    value_followed (Step.Value last) w (After.Refused why) g =
-        λ k q. then_refused (t.goes k) (then_refused (w.runs (t.f ∷ k)) (g t.f t.y t.adds w.m depth k))
-    value_followed (Step.Value last) w (After.Close n) g =
-        let y = t.y w.m in
-        let i = value_noted last w in (
-          noted_sane i,
-          content_took (t.grown last tape' store' seen' w l) depth n g.1
-              (λ k. then_tells (t.keys ++ w.keys) (closing_of y) _ (then_tells t.keys w.keys _ (t.goes k) (w.runs (t.f ∷ k)))
-              (g.0 t.f t.y t.adds w.m depth k)) i,
-        )
-    value_followed (Step.Value last) w (After.Comma n) g =
-        let i = t.grown last tape' store' seen' w l in (
-          record {
-            y = t.y w.m;
-            content = further i n g.1;
-            keys = t.keys ++ w.keys;
-            goes = λ k. then_tells t.keys w.keys _ (t.goes k)
-                (then_goes w.keys (w.runs (t.f ∷ k)) (g.0 t.f t.y t.adds w.m depth k));
-            noted = noted_further (value_noted last w) n.at (omega (arith, g.1.past)) (omega (arith, g.1.within, i.opened.short));
-          },
-          omega (arith, w.past, g.1.past),
-        )
+    module _ (last : Cursor) (w : ValueSays text depth v tape tape' store store' seen seen' (Ok last)) where
+      pub after_refused : (why : Refusal) → AfterSays text last (closing b) (Err why) → Left text (bare_in b depth) always o.at why
+      after_refused why g = λ k q. then_refused (t.goes k) (then_refused (w.runs (t.f ∷ k)) (g t.f t.y t.adds w.m depth k))
+
+      pub after_sane : Sane seen'
+      after_sane = noted_sane (value_noted last w)
+
+      pub after_close : (n : Cursor) → AfterSays text last (closing b) (Ok (After.Close n)) → (seen″ : List ℕ) → Closing b seen' seen″
+          → Closed text tape₀ tape' store₀ store' seen₀ seen″ b o depth (count + 1) n
+      after_close n g = content_took (t.grown last tape' store' seen' w l) depth n g.1
+          (λ k. then_tells (t.keys ++ w.keys) (closing_of (t.y w.m)) _ (then_tells t.keys w.keys _ (t.goes k) (w.runs (t.f ∷ k)))
+          (g.0 t.f t.y t.adds w.m depth k)) (value_noted last w)
+
+      pub after_comma : (n : Cursor) → AfterSays text last (closing b) (Ok (After.Comma n))
+          → Round text tape₀ tape' store₀ store' seen₀ seen' b o depth (count + 1) n × (v.at < n.at)
+      after_comma n g =
+          let i = t.grown last tape' store' seen' w l in (
+            record {
+              y = t.y w.m;
+              content = further i n g.1;
+              keys = t.keys ++ w.keys;
+              goes = λ k. then_tells t.keys w.keys _ (t.goes k)
+                  (then_goes w.keys (w.runs (t.f ∷ k)) (g.0 t.f t.y t.adds w.m depth k));
+              noted = noted_further (value_noted last w) n.at (omega (arith, g.1.past)) (omega (arith, g.1.within, i.opened.short));
+            },
+            omega (arith, w.past, g.1.past),
+          )
 
 -- ---- elements
 
@@ -504,12 +484,10 @@ element_waits {text} {tape₀} {tape} {store₀} {store} {o = o} {depth} {count}
           w.within;
     }
 
-pub element_onward : {text tape₀ tape store₀ store seen₀ seen : List ℕ} {o : Cursor} {depth count : ℕ} {c : Cursor}
-    → Round text tape₀ tape store₀ store seen₀ seen square o depth count c → (r : Ahead) → AheadSays text c (ch "]") r
-    → Onward text tape₀ tape store₀ store seen₀ seen square o depth count c r
-element_onward t (Ahead.Refused why) g = round_refused t g
-element_onward t (Ahead.Close n) g = (noted_sane t.noted, round_close t n g)
-element_onward t (Ahead.More n) g = (element_waits t.y t.content t.keys t.goes t.noted n g, g.behind)
+pub element_more : {text tape₀ tape store₀ store seen₀ seen : List ℕ} {o : Cursor} {depth count : ℕ} {c : Cursor}
+    → Round text tape₀ tape store₀ store seen₀ seen square o depth count c → (n : Cursor) → AheadSays text c (ch "]") (Ok (Ahead.More n))
+    → Waiting text tape₀ tape store₀ store seen₀ seen square o depth count n × (c.at ≤ n.at)
+element_more t n g = (element_waits t.y t.content t.keys t.goes t.noted n g, g.behind)
 
 -- ---- members
 
@@ -593,16 +571,16 @@ member_waits {text} {tape₀} {tape} {store₀} {store} {o = o} {depth} {count} 
           w.within;
     }
 
-pub member_onward : {text tape₀ tape store₀ store seen₀ seen : List ℕ} {o : Cursor} {depth count : ℕ} {c : Cursor}
-    → Round text tape₀ tape store₀ store seen₀ seen curly o depth count c → (tape' store' seen' : List ℕ) → length seen' ≡ length seen → (r : Ahead)
-    → MemberAheadSays text c tape tape' store store' seen seen' r
-    → Onward text tape₀ tape' store₀ store' seen₀ seen' curly o depth count c r
-member_onward t tape' store' seen' i (Ahead.Refused why) g = round_refused t g
-member_onward t tape' store' seen' i (Ahead.Close n) (g, et, es, en) = rw (et, es, en) (noted_sane t.noted, round_close t n g)
-member_onward t tape' store' seen' i (Ahead.More v) g = (
-  rw g.taped (member_waits t.y t.content t.keys t.goes t.noted v tape' store' seen' i g),
-  omega (arith, g.key_is.past),
-)
+module _ {text tape₀ tape store₀ store seen₀ seen : List ℕ} {o : Cursor} {depth count : ℕ} {c : Cursor}
+    (t : Round text tape₀ tape store₀ store seen₀ seen curly o depth count c) (tape' store' seen' : List ℕ) where
+  -- nothing has been put
+  pub member_close : (n : Cursor) → MemberAheadSays text c tape tape' store store' seen seen' (Ok (Ahead.Close n))
+      → Sane seen' × ((seen″ : List ℕ) → Closing curly seen' seen″ → Closed text tape₀ tape' store₀ store' seen₀ seen″ curly o depth count n)
+  member_close n (g, et, es, en) = rw (et, es, en) (round_sane t, round_close t n g)
+
+  pub member_more : length seen' ≡ length seen → (v : Cursor) → MemberAheadSays text c tape tape' store store' seen seen' (Ok (Ahead.More v))
+      → Waiting text tape₀ tape' store₀ store' seen₀ seen' curly o depth count v × (c.at ≤ v.at)
+  member_more i v g = (rw g.taped (member_waits t.y t.content t.keys t.goes t.noted v tape' store' seen' i g), omega (arith, g.key_is.past))
 
 -- ---- values
 
@@ -675,7 +653,7 @@ took_inside {text} {tape} {tape'} {entry} {store} {store'} b d depth e c n last 
     }
 
 pub says_inside : (text tape tape' entry store store' seen seen' : List ℕ) (b : Bracket) (d depth : ℕ) → depth ≡ suc d → (c n : Cursor)
-    → Ready text c → Opened text c b n → store ≡ entry → (a : Step) → InsideSays text b d n tape tape' store store' seen seen' a
+    → Ready text c → Opened text c b n → store ≡ entry → (a : Result Cursor Refusal) → InsideSays text b d n tape tape' store store' seen seen' a
     → ValueSays text depth c tape tape' entry store' seen seen' a
-says_inside text tape tape' entry store store' seen seen' b d depth e c n i h q (Step.Value last) w = took_inside b d depth e c n last i h q w
-says_inside text tape tape' entry store store' seen seen' b d depth e c n i h q (Step.Refused why) w = λ k s. rw e (then_refused (h.opens d k) (w k tt))
+says_inside text tape tape' entry store store' seen seen' b d depth e c n i h q (Ok last) w = took_inside b d depth e c n last i h q w
+says_inside text tape tape' entry store store' seen seen' b d depth e c n i h q (Err why) w = λ k s. rw e (then_refused (h.opens d k) (w k tt))

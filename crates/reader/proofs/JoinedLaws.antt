@@ -21,13 +21,12 @@ use Rattle.machine.specs.Binaries
 use Rattle.reader.specs.Between.Scanning.{Goes, Refuses, Bare}
 use Rattle.reader.specs.Between.Layout.{LayoutEnds, Breaks}
 use Rattle.items.specs.Between.PlacedPart.{Ended}
-use Rattle.reader.specs.Between.Joined.{Plusless, Plus, JoinSays, link_of, Linked, Unlinked, in_part, after_part, LinkSays}
+use Rattle.reader.specs.Between.Joined.{Plusless, Plus, FollowsSays, Stray, Linked, Unlinked, in_part, after_part, LinkSays}
 use Rattle.reader.specs.Between.Joined.{BytesSays, string_part_of, binary_part_of, whole_binary}
 use Rattle.items.specs.Between.StringPart.{PartSays}
-use Rattle.reader.specs.declared.joined.Bytes.{Bytes}
+use Rattle.std.specs.Prelude.{Ok, Err}
+use Rattle.items.specs.Between.NumberOrTime.{taken}
 use Rattle.reader.specs.declared.joined.Join.{Join}
-use Rattle.reader.specs.declared.joined.Link.{Link}
-use Rattle.items.specs.declared.string_part.Part.{Part}
 use Rattle.reader.proofs.ScanningLaws.{both, go, alike, then_refused, faulted}
 use Rattle.machine.proofs.Classes.{ClassIs, class_is_lem}
 use Rattle.machine.proofs.Lift.{string_quiet, binary_quiet}
@@ -43,20 +42,20 @@ pub not_plus : (b : ℕ) → (b ≡ ch "+" → ⊥) → class_of b ≡ plus_c �
 not_plus b i e = i (class_plus b (class_of b) (class_is_lem b) e)
 
 module _ (text : List ℕ) (p q : ℕ) (v : LayoutEnds text p q) where
-  pub alone_end : length text ≤ q → JoinSays text p (Join.Last q)
+  pub alone_end : length text ≤ q → FollowsSays text p (Join.Last q)
   alone_end h = record { goes = v.goes; onward = v.onward; bare = v.bare; plusless = λ g. absurd (omega arith) }
 
-  pub alone : (get_or text q 0 ≡ ch "+" → ⊥) → JoinSays text p (Join.Last q)
+  pub alone : (get_or text q 0 ≡ ch "+" → ⊥) → FollowsSays text p (Join.Last q)
   alone n = record { goes = v.goes; onward = v.onward; bare = v.bare; plusless = λ g. not_plus (get_or text q 0) n }
 
   module _ (h : q < length text) (e : get_or text q 0 ≡ ch "+") where
     plussed : (g : Got) (s : Base) → Plus g s → (d : ℕ) (k : List Frame) → Goes text (at (base (got g)) d k) p (at (base s) d k) (q + 1)
     plussed g s f d k = v.goes (got g) d k ∙ go (at (base (got g)) d k) (at (base s) d k) text q h (both (rw e (f q d k)) (rw e))
 
-    pub plus_breaks : (r : ℕ) → Breaks text base (q + 1) r → JoinSays text p (Join.NotGrammar r)
+    pub plus_breaks : (r : ℕ) → Breaks text base (q + 1) r → Stray text p (NotGrammar r)
     plus_breaks r w g s f d k = plussed g s f d k ∙ w s d k
 
-    pub plus_next : (r : ℕ) → LayoutEnds text (q + 1) r → JoinSays text p (Join.Next r)
+    pub plus_next : (r : ℕ) → LayoutEnds text (q + 1) r → FollowsSays text p (Join.Next r)
     plus_next r w = record {
       goes = λ g s f d k. plussed g s f d k ∙ w.goes s d k;
       past = omega (arith, v.onward.behind, w.onward.behind);
@@ -64,7 +63,7 @@ module _ (text : List ℕ) (p q : ℕ) (v : LayoutEnds text p q) where
       bare = w.bare;
     }
 
-pub join_breaks : (text : List ℕ) (p q : ℕ) → Breaks text base p q → JoinSays text p (Join.NotGrammar q)
+pub join_breaks : (text : List ℕ) (p q : ℕ) → Breaks text base p q → Stray text p (NotGrammar q)
 join_breaks text p q w g s f d k = w (got g) d k
 
 -- joined parts that no plus follows do what their value, or their key, does
@@ -106,7 +105,7 @@ module _ (text : List ℕ) (p start : ℕ) (entry : List ℕ) (h : p ≤ length 
       → Unlinked Strings.scan Strings.begin text p start entry exit (why p)
   part_refused exit why w = in_part (ap (ran Strings.scan p Strings.begin) (sym (part_here text p)) ∙ w p)
 
-  pub part_closed : (exit : List ℕ) (taken n : ℕ) → PartSays (take (length text - p) (drop p text)) start entry exit (Part.Closed n taken)
+  pub part_closed : (exit : List ℕ) (taken n : ℕ) → PartSays (take (length text - p) (drop p text)) start entry exit (Ok (record { value = n; end = taken }))
       → Ended Strings.scan Strings.begin text p start entry exit (p + taken) n
   part_closed exit taken n w =
       let l = part_length text p in
@@ -120,10 +119,11 @@ module _ (text : List ℕ) (p start : ℕ) (entry : List ℕ) (h : p ≤ length 
 -- a part, by what follows it
 module _ {S : Type 0} {scan : ℕ → S → ℕ → Out S (List ℕ)} {begin : S} {text : List ℕ} {p start : ℕ} {entry exit : List ℕ} {q n : ℕ}
     (w : Ended scan begin text p start entry exit q n) where
-  pub part_linked : (j : Join) → JoinSays text q j → LinkSays scan begin text p start entry exit (link_of n j)
-  part_linked (Join.Next r) j = record { close = q; part = w; after = j }
-  part_linked (Join.Last r) j = record { close = q; part = w; after = j }
-  part_linked (Join.NotGrammar r) j = after_part {n = n} (record { close = q; part = w; after = j })
+  pub part_linked : (j : Join) → FollowsSays text q j → LinkSays scan begin text p start entry exit (Ok (record { bytes = n; follows = j }))
+  part_linked j f = record { close = q; part = w; after = f }
+
+  pub part_strays : {why : Refusal} → Stray text q why → LinkSays scan begin text p start entry exit (Err why)
+  part_strays f = after_part {n = n} (record { close = q; part = w; after = f })
 
 -- ---- what strings and binary have in common
 
@@ -243,7 +243,7 @@ module _ {S : Type 0} {scan : ℕ → S → ℕ → Out S (List ℕ)} {begin : S
     both_filled = w.meant.filled ∙ rw (sets_app, ← v.filled, ← v.placed)
 
   pub parts_refused : {exit : List ℕ} (why : Refusal) → Unlinked scan begin text p out store exit why
-      → BytesSays A part whole text from start entry exit (Bytes.Refused why)
+      → BytesSays A part whole text from start entry exit (Err why)
   parts_refused why (in_part e) = λ a d k. then_refused (v.runs a d k) (kind.refuses text a v.u p d k why e)
   parts_refused why (after_part l) = λ a d k.
       let u = v.u ++ l.part.u in
@@ -254,8 +254,8 @@ module _ {S : Type 0} {scan : ℕ → S → ℕ → Out S (List ℕ)} {begin : S
   parts_short h l = omega (arith, v.placed, v.room, l.part.meant.counted, l.part.meant.room, l.part.within)
 
   module _ {exit : List ℕ} {n r : ℕ} where
-    pub parts_last : (m : ℕ) → m + start ≡ out + n → LinkSays scan begin text p out store exit (Link.Last n r)
-        → BytesSays A part whole text from start entry exit (Bytes.Whole m r)
+    pub parts_last : (m : ℕ) → m + start ≡ out + n → Linked scan begin text p out store exit n (λ q. FollowsSays text q (Join.Last r))
+        → BytesSays A part whole text from start entry exit (Ok (taken m r))
     parts_last m e l =
         let w = l.part in
         let j = l.after in
@@ -273,7 +273,7 @@ module _ {S : Type 0} {scan : ℕ → S → ℕ → Out S (List ℕ)} {begin : S
           plusless = j.plusless;
         }
 
-    module _ (l : LinkSays scan begin text p out store exit (Link.Next n r)) where
+    module _ (l : Linked scan begin text p out store exit n (λ q. FollowsSays text q (Join.Next r))) where
       pub parts_next : Parts A part text from start entry exit r (out + n)
       parts_next =
           let w = l.part in

@@ -20,7 +20,10 @@ use Rattle.machine.specs.Names.{letter, figure, neither}
 use Rattle.items.specs.Between.Identifier.{NameEnds}
 use Rattle.reader.specs.Between.Scanning.{Hears, Refuses, Bare, Shut}
 use Rattle.reader.specs.Between.Joined.{BytesSays, string_part_of, KeySays}
-use Rattle.reader.specs.declared.joined.Bytes.{Bytes}
+use Rattle.std.specs.Prelude.{Result, Ok, Err}
+use Rattle.meaning.specs.declared.Refusal.{Refusal}
+use Rattle.items.specs.declared.Taken.{Taken}
+use Rattle.items.specs.Between.NumberOrTime.{taken}
 use Rattle.reader.proofs.ScanningLaws.{alike_hearing, stop, halt, then_refused}
 use Rattle.reader.proofs.JoinedLaws.{whole_is}
 use Rattle.machine.proofs.Lift.{string_quiet, name_quiet}
@@ -50,16 +53,16 @@ module _ (text : List ℕ) (p start : ℕ) (entry : List ℕ) where
         alike_hearing (at (base want_key) d k) (at (item (string_part_of as_key [])) d k) text p (starts p ∷ []) h
         (class_quote (get_or text p 0) (class_of (get_or text p 0)) e p d k) (string_quiet as_key [] p (get_or text p 0))
 
-    pub key_string : class_of (get_or text p 0) ≡ quote_c → (exit : List ℕ) (r : Bytes)
+    pub key_string : class_of (get_or text p 0) ≡ quote_c → (exit : List ℕ) (r : Result (Taken ℕ) Refusal)
         → BytesSays Use string_part_of string text p start entry exit r → KeySays text p start entry exit r
-    key_string e exit (Bytes.Whole n q) w = record {
+    key_string e exit (Ok t) w = record {
       u = w.u;
       runs = λ d k. quoted e d k
-          ∙ ap (after (starts p ∷ [])) (w.runs as_key d k ∙ whole_is (string as_key w.u) (key w.u) refl refl text q w.bare w.plusless d k);
+          ∙ ap (after (starts p ∷ [])) (w.runs as_key d k ∙ whole_is (string as_key w.u) (key w.u) refl refl text t.end w.bare w.plusless d k);
       meant = w.meant;
       within = w.within;
     }
-    key_string e exit (Bytes.Refused why) w = λ d k s. then_refused (quoted e d k) (w as_key d k)
+    key_string e exit (Err why) w = λ d k s. then_refused (quoted e d k) (w as_key d k)
 
 -- ---- identifiers
 
@@ -189,7 +192,7 @@ module _ (text : List ℕ) (p start : ℕ) (entry : List ℕ) (h : p < length te
         let m : suc p ≡ p + 1 = omega arith in
         rw (n, drop-cons text p 0, m)
 
-    pub key_named : (exit : List ℕ) → exit ≡ sets entry start (take (q - p) (drop p text)) → KeySays text p start entry exit (Bytes.Whole (q - p) q)
+    pub key_named : (exit : List ℕ) → exit ≡ sets entry start (take (q - p) (drop p text)) → KeySays text p start entry exit (Ok (taken (q - p) q))
     unfolding Names.scan
     key_named exit f =
         let l : length (take (q - p) (drop p text)) ≡ q - p = simp (length-take, length-drop) (omega (arith, w.onward.behind, w.onward.within)) in

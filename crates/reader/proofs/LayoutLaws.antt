@@ -14,8 +14,9 @@ use Rattle.machine.specs.Machine.{Base, want, want_key, want_string, want_binary
 use Rattle.machine.specs.Machine.{Class, class_of, blank_c, hash_c, slash_c, Note, note_of, line_end, star_n, slash_n, plain_n, control_n}
 use Rattle.items.specs.Between.Places.{Onward}
 use Rattle.reader.specs.Between.Scanning.{Goes}
-use Rattle.reader.specs.Between.Layout.{Passes, Commented, Breaks, Blanks, LayoutEnds, CommentSays, MaybeSays}
-use Rattle.reader.specs.declared.layout.Comment.{Comment}
+use Rattle.reader.specs.Between.Layout.{Passes, Commented, Breaks, Blanks, LayoutEnds, CommentSays}
+use Rattle.std.specs.Prelude.{Result, Ok, Err}
+use Rattle.items.specs.declared.NotGrammar as Broken
 use Rattle.machine.proofs.Layouts.{NoteIs, note_is_lem}
 use Rattle.reader.proofs.ScanningLaws.{move, both, go, stop_quietly, halt_quietly, alike_end}
 use Rattle.items.proofs.PlacesLaws.{here, further, then}
@@ -240,13 +241,10 @@ slash_breaks text p h i j =
 
 -- a comment goes on where another mode leads into it
 module _ {text : List ℕ} {m n : Base → Mode} {p q : ℕ} (v : Noting text m n p q) where
-  pub says_then : (r : Comment) → CommentSays text n q r → CommentSays text m p r
-  says_then Comment.Absent w = w
-  says_then (Comment.Ended t) w = note_then v w
-  says_then (Comment.NotGrammar t) w = note_then_breaks v w
+  pub says_then : (r : Result ℕ Broken.NotGrammar) → CommentSays text n q r → CommentSays text m p r
+  says_then (Ok t) w = note_then v w
+  says_then (Err e) w = note_then_breaks v w
 
 module _ {text : List ℕ} {n : Base → Mode} {p : ℕ} (v : Noting text base n p (p + 1)) where
-  pub maybe_then : (r : Comment) → CommentSays text n (p + 1) r → MaybeSays text p r
-  maybe_then Comment.Absent w = absurd w
-  maybe_then (Comment.Ended t) w = (note_then v w, omega (arith, w.onward.behind))
-  maybe_then (Comment.NotGrammar t) w = note_then_breaks v w
+  pub maybe_then : {q : ℕ} → Commented text n (p + 1) q → Commented text base p q × (p < q)
+  maybe_then w = (note_then v w, omega (arith, w.onward.behind))

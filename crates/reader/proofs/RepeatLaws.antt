@@ -6,9 +6,7 @@ use mathlib.Core.Logic.{inl, inr}
 use mathlib.Core.List.{List, [], ◌∷◌, ◌++◌}
 use Prim.Native.Nat.{ℕ, ◌+◌, ◌≤◌, ◌<◌}
 use native.Mathlib.Omega.{arith}
-use lib.Dec.{eqb}
 use lib.ListN.{length, length-append}
-use borrow.Author.Tests.{eqb-true, eqb-false}
 use Rattle.meaning.specs.Once.{same}
 use Rattle.once.specs.Groups.{Names, Sane, Newest, Stands, Earlier, Placed, Tagged, FromIs}
 use Rattle.once.specs.Windows.{Kept}
@@ -19,7 +17,7 @@ use Rattle.once.proofs.KeepingSeekLaws.{seek_ends}
 use Rattle.reader.specs.Between.Spelling.{InText, Spells, LetterSays}
 use Rattle.reader.specs.Between.Repeat.{KeyIs, AtKey, Keeping, Tabled, OverSays, SameSays, TagSays, Seeks, RepeatSays, NoteSays}
 use Rattle.reader.specs.declared.spelling.Spelling.{Spelling}
-use Rattle.reader.specs.declared.spelling.Letter.{Letter}
+use Rattle.std.specs.Prelude.{Option, Some, None, is_some, not, unwrap_or}
 use Rattle.reader.proofs.SpellingGivenLaws.{Front, spells_front}
 
 -- ---- two keys, side by side
@@ -34,11 +32,12 @@ other [] v w x y z = cc
 other (a ∷ e) v w x y z = let i : (e ++ (x ∷ [])) ++ v ≡ (e ++ (y ∷ [])) ++ w = cc in other e v w x y i
 
 module _ (text : List ℕ) where
-  pub over_yes : (s : Spelling) → LetterSays text s Letter.Over → OverSays text s true
-  over_yes s w e u h = sym (ap (same e) (sym (w e u h)) ∙ same_self e)
-
-  pub over_no : (s : Spelling) (b : ℕ) (t : Spelling) → LetterSays text s (Letter.Byte b t) → OverSays text s false
-  over_no s b t w e u h =
+  -- over where no byte comes
+  pub over_is : (s : Spelling) (r : Option (ℕ × Spelling)) (b : Bool) → is_some r ≡ not b → LetterSays text s r → OverSays text s b
+  over_is s None true i w e u h = sym (ap (same e) (sym (w e u h)) ∙ same_self e)
+  over_is s None false i w e u h = absurd (let z : ◌≡◌ {A = ℕ} 0 1 = cc in omega arith)
+  over_is s (Some (b, t)) true i w e u h = absurd (let z : ◌≡◌ {A = ℕ} 0 1 = cc in omega arith)
+  over_is s (Some (b, t)) false i w e u h =
       sym (apart e u (λ z. omega (arith, ap length z, longer e u b (spells_front text t (e ++ (b ∷ [])) u (w.1 e u h)))))
 
 abbrev Begins : List ℕ → ℕ → Spelling → Type 0
@@ -48,63 +47,56 @@ Begins text a s = InText text s × ((u : List ℕ) → KeyIs text a u → Spells
 abbrev Beside : List ℕ → Spelling → Spelling → List ℕ → List ℕ → Type 0
 Beside text s t u v = (e : List ℕ) × (Spells text s e u × Spells text t e v)
 
--- alike so far, or known to be apart
-pub record Comparing (text : List ℕ) (a b : ℕ) (s t : Spelling) (alike : Bool) : Type 0 where
+-- alike so far
+pub record Comparing (text : List ℕ) (a b : ℕ) (s t : Spelling) : Type 0 where
   pub left : InText text s
   pub right : InText text t
-  pub goes : alike ≡ true → (u v : List ℕ) → KeyIs text a u → KeyIs text b v → Beside text s t u v
-  pub parts : alike ≡ false → SameSays text a b false
+  pub goes : (u v : List ℕ) → KeyIs text a u → KeyIs text b v → Beside text s t u v
 
 module _ (text : List ℕ) (a b : ℕ) (s t : Spelling) where
-  pub compare_begins : Begins text a s → Begins text b t → Comparing text a b s t true
+  pub compare_begins : Begins text a s → Begins text b t → Comparing text a b s t
   compare_begins f g = record {
     left = f.0;
     right = g.0;
-    goes = λ z u v i j. ([], (f.1 u i, g.1 v j));
-    parts = λ z. absurd (let y : ◌≡◌ {A = ℕ} 0 1 = cc in omega arith);
+    goes = λ u v i j. ([], (f.1 u i, g.1 v j));
   }
 
-  module _ (alike : Bool) (c : Comparing text a b s t alike) (so : alike ≡ true) where
-    pub compare_over : LetterSays text s Letter.Over → (r : Bool) → OverSays text t r → SameSays text a b r
+  module _ (c : Comparing text a b s t) where
+    pub compare_over : LetterSays text s None → (r : Bool) → OverSays text t r → SameSays text a b r
     compare_over w r o u v i j =
-        let y = c.goes so u v i j in
+        let y = c.goes u v i j in
         o y.0 v y.1.1 ∙ ap (λ (d : List ℕ). same d v) (w y.0 u y.1.0)
 
-    module _ (x : ℕ) (s' : Spelling) (m : LetterSays text s (Letter.Byte x s')) where
+    module _ (x : ℕ) (s' : Spelling) (m : LetterSays text s (Some (x, s'))) where
       -- u begins with e and x
       front : (e u : List ℕ) → Spells text s e u → Front (e ++ (x ∷ [])) u
       front e u h = spells_front text s' (e ++ (x ∷ [])) u (m.1 e u h)
 
-      pub compare_longer : LetterSays text t Letter.Over → SameSays text a b false
+      pub compare_longer : LetterSays text t None → SameSays text a b false
       compare_longer w u v i j =
-          let y = c.goes so u v i j in
+          let y = c.goes u v i j in
           sym (apart u v (λ z. omega (arith, ap length z, ap length (w y.0 v y.1.1), longer y.0 u x (front y.0 u y.1.0))))
 
-      module _ (y : ℕ) (t' : Spelling) (n : LetterSays text t (Letter.Byte y t')) where
-        differ : (x ≡ y → ⊥) → SameSays text a b false
-        differ d u v i j =
-            let k = c.goes so u v i j in
+      module _ (y : ℕ) (t' : Spelling) (n : LetterSays text t (Some (y, t'))) where
+        pub compare_apart : (x ≡ y → ⊥) → SameSays text a b false
+        compare_apart d u v i j =
+            let k = c.goes u v i j in
             let l = front k.0 u k.1.0 in
             let r = spells_front text t' (k.0 ++ (y ∷ [])) v (n.1 k.0 v k.1.1) in
             sym (apart u v (λ z. d (other k.0 l.0 r.0 x y (sym l.1 ∙ z ∙ r.1))))
 
         go_on : x ≡ y → (u v : List ℕ) → KeyIs text a u → KeyIs text b v → Beside text s' t' u v
         go_on e u v i j =
-            let k = c.goes so u v i j in
+            let k = c.goes u v i j in
             (k.0 ++ (x ∷ []), (m.1 k.0 u k.1.0, subst (λ (b : ℕ). Spells text t' (k.0 ++ (b ∷ [])) v) (sym e) (n.1 k.0 v k.1.1)))
 
-        pub compare_more : Comparing text a b s' t' (eqb x y)
-        compare_more = record {
-          left = m.0.within;
-          right = n.0.within;
-          goes = λ e. go_on (eqb-true x y e);
-          parts = λ e. differ (eqb-false x y e);
-        }
+        pub compare_more : x ≡ y → Comparing text a b s' t'
+        compare_more e = record { left = m.0.within; right = n.0.within; goes = go_on e }
 
 -- ---- the keys that are taken in, one after the other
 
 -- the search at the slot i
-pub record Seeking (text seen : List ℕ) (q tag i : ℕ) : Type 0 where
+pub record Seeking (text seen : List ℕ) (q tag : ℕ) (i : Option ℕ) : Type 0 where
   pub goes : (f : ℕ) (u : List ℕ) → KeyIs text q u → tag ≡ hash_of f u → Sought (KeyIs text) (hash_of f) seen q f u i
 
 module _ (text seen : List ℕ) (q tag : ℕ) (w : Seeks text seen q tag) where
@@ -115,38 +107,37 @@ module _ (text seen : List ℕ) (q tag : ℕ) (w : Seeks text seen q tag) where
   pub seeks_sane : Sane seen
   seeks_sane = keeps_sane w.1.1.1.0
 
-  pub seeking_begins : (i : ℕ) → Newest seen tag i → Seeking text seen q tag i
+  pub seeking_begins : (i : Option ℕ) → Newest seen tag i → Seeking text seen q tag i
   seeking_begins i n = record { goes = λ f u k e. seek_begins tag i e n }
 
-  module _ (i : ℕ) (v : Seeking text seen q tag i) where
+  pub seeking_ends : Seeking text seen q tag None → RepeatSays text seen q false
+  seeking_ends v f s h u k = sym (seek_ends (v.goes f u k (tag_is h u k)) s h)
+
+  module _ (i : ℕ) (v : Seeking text seen q tag (Some i)) where
     -- for the key that is there
-    sought : Sought (KeyIs text) (hash_of w.1.0) seen q w.1.0 w.0.u i
+    sought : Sought (KeyIs text) (hash_of w.1.0) seen q w.1.0 w.0.u (Some i)
     sought = v.goes w.1.0 w.0.u w.0.is (w.1.1.1.1 w.0.u w.0.is)
 
-    pub seeking_ends : i ≤ 0 → RepeatSays text seen q false
-    seeking_ends l f s h u k = sym (seek_ends (v.goes f u k (tag_is h u k)) l s h)
+    pub seeking_stands : Stands seen i
+    seeking_stands = seek_stands sought w.1.1.1.0
 
-    module _ (z : 0 < i) where
-      pub seeking_stands : Stands seen i
-      seeking_stands = seek_stands sought w.1.1.1.0 z
+    pub seeking_before : (p : ℕ) → Placed seen i p → p < q
+    seeking_before p g = (seek_key sought w.1.1.1.0 p g).1.1
 
-      pub seeking_before : (p : ℕ) → Placed seen i p → p < q
-      seeking_before p g = (seek_key sought w.1.1.1.0 z p g).1.1
+    pub seeking_inside : (p : ℕ) → Placed seen i p → (q < length text) × (p < length text)
+    seeking_inside p g = (w.0.inside, omega (arith, seeking_before p g, w.0.inside))
 
-      pub seeking_inside : (p : ℕ) → Placed seen i p → (q < length text) × (p < length text)
-      seeking_inside p g = (w.0.inside, omega (arith, seeking_before p g, w.0.inside))
+    pub seeking_finds : (p : ℕ) → Placed seen i p → (r : Bool) → SameSays text q p r → r ≡ true → RepeatSays text seen q true
+    seeking_finds p g r c e f s h u k = sym (seek_finds (v.goes f u k (tag_is h u k)) p g (λ x y. sym (c u x k y) ∙ e) s h)
 
-      pub seeking_finds : (p : ℕ) → Placed seen i p → (r : Bool) → SameSays text q p r → r ≡ true → RepeatSays text seen q true
-      seeking_finds p g r c e f s h u k = sym (seek_finds (v.goes f u k (tag_is h u k)) z p g (λ x y. sym (c u x k y) ∙ e) s h)
+    pub seeking_falls : (j : Option ℕ) → Earlier seen i j → unwrap_or j 0 < i
+    seeking_falls j b = seek_falls sought w.1.1.1.0 j b
 
-      pub seeking_falls : (j : ℕ) → Earlier seen i j → j < i
-      seeking_falls j b = seek_falls sought w.1.1.1.0 z j b
+    pub seeking_past_tag : (t : ℕ) (j : Option ℕ) → Tagged seen i t → (t ≡ tag → ⊥) → Earlier seen i j → Seeking text seen q tag j
+    seeking_past_tag t j g n b = record { goes = λ f u k e. seek_past_tag (v.goes f u k e) tag t e g n j b }
 
-      pub seeking_past_tag : (t j : ℕ) → Tagged seen i t → (t ≡ tag → ⊥) → Earlier seen i j → Seeking text seen q tag j
-      seeking_past_tag t j g n b = record { goes = λ f u k e. seek_past_tag (v.goes f u k e) z tag t e g n j b }
-
-      pub seeking_past : (p j : ℕ) (r : Bool) → Placed seen i p → SameSays text q p r → r ≡ false → Earlier seen i j → Seeking text seen q tag j
-      seeking_past p j r g c n b = record { goes = λ f u k e. seek_past (v.goes f u k e) z p g (λ x y. sym (c u x k y) ∙ n) j b }
+    pub seeking_past : (p : ℕ) (j : Option ℕ) (r : Bool) → Placed seen i p → SameSays text q p r → r ≡ false → Earlier seen i j → Seeking text seen q tag j
+    seeking_past p j r g c n b = record { goes = λ f u k e. seek_past (v.goes f u k e) p g (λ x y. sym (c u x k y) ∙ n) j b }
 
 -- ---- a further key
 

@@ -30,7 +30,7 @@ use Rattle.reader.specs.Between.Spelling.{due_of, OctetSays, NamesNext, got_part
 use Rattle.reader.specs.Between.Spelling.{InText, to_come, Further, StepFromSays, StepSays, LetterSays, ThreeSays}
 use Rattle.reader.specs.declared.spelling.Spelling.{Spelling}
 use Rattle.reader.specs.declared.spelling.Spelt.{Spelt}
-use Rattle.reader.specs.declared.spelling.Letter.{Letter}
+use Rattle.std.specs.Prelude.{Some, None}
 use Rattle.reader.proofs.JoinedLaws.{part_here, part_length}
 use Rattle.reader.proofs.KeyLaws.{not_quote}
 use Rattle.reader.proofs.SpellingHeardLaws.{Ends, name_is, end_names, parts_are, parts_go_on, parts_stray, next_part, key_part, key_name}
@@ -657,10 +657,10 @@ module _ (text : List ℕ) (from : Spelling) where
   not_stepped h = record { within = h; falls = omega arith; goes = λ e u w. w }
 
   module _ (s : Spelling) (v : Stepping text from s) where
-    pub stepped_over : StepSays text s Spelt.Over → LetterSays text from Letter.Over
+    pub stepped_over : StepSays text s Spelt.Over → LetterSays text from None
     stepped_over w e u h = w e u (v.goes e u h)
 
-    pub stepped_byte : (b : ℕ) (t : Spelling) → StepSays text s (Spelt.Byte b t) → LetterSays text from (Letter.Byte b t)
+    pub stepped_byte : (b : ℕ) (t : Spelling) → StepSays text s (Spelt.Byte b t) → LetterSays text from (Some (b, t))
     stepped_byte b t w = (further_more (to_come text from) v.falls w.0, λ e u h. w.1 e u (v.goes e u h))
 
     pub stepped_on : (t : Spelling) → StepSays text s (Spelt.On t) → Stepping text from t

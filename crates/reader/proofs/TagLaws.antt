@@ -1,6 +1,8 @@
 -- The tag of a key, a byte at a time. Assumes nothing.
 use mathlib.Core.Path.{◌≡◌, refl, sym, ap, ◌∙◌, subst}
 use mathlib.Core.Bool.{Bool, true, false}
+use Rattle.std.specs.Prelude.{IfSome}
+use Rattle.std.specs.Bool.{then_some}
 use mathlib.Core.Logic.{◌⊎◌, inl, inr}
 use mathlib.Core.List.{List, [], ◌∷◌, ◌++◌}
 use Prim.Native.Nat.{ℕ, ◌+◌, ◌≤◌, ◌<◌}
@@ -70,10 +72,10 @@ colon_alone text p l e =
     }
 
 module _ (text : List ℕ) (q salt quote : ℕ) where
-  pub quoted_tag_begins : q < length text → get_or text q 0 ≡ quote → (quote ≡ ch "\"") ⊎ (quote ≡ ch "'") → q + 1 < length text
+  pub plain_tag_begins : q < length text → get_or text q 0 ≡ quote → (quote ≡ ch "\"") ⊎ (quote ≡ ch "'") → q + 1 < length text
       → (get_or text (q + 1) 0 ≡ quote → ⊥)
       → (h : ℕ) → h ≡ seed salt → Tagging text q salt (Spelling.Quoted (q + 1) quote) h
-  quoted_tag_begins l d o m n h e =
+  plain_tag_begins l d o m n h e =
       tag_begins text q salt (Spelling.Quoted (q + 1) quote) h e
       (λ u k. subst (λ (x : ℕ). Spells text (Spelling.Quoted (q + 1) x) [] u) d
       ((opening_plain text q l m (λ x. n (x ∙ d))).1 [] u (key_opens text q l (by o) u k)))
@@ -83,13 +85,15 @@ module _ (text : List ℕ) (q salt quote : ℕ) where
       by (inr x) = inr (d ∙ x)
 
   module _ (small : quote < 256) (i h : ℕ) (v : Tagging text q salt (Spelling.Quoted i quote) h) (l : i < length text) (n : get_or text i 0 ≡ ch "\\" → ⊥) where
-    pub quoted_tag_more : (get_or text i 0 ≡ quote → ⊥) → (g : ℕ) → g ≡ mix h (get_or text i 0) → Tagging text q salt (Spelling.Quoted (i + 1) quote) g
-    quoted_tag_more d g x =
+    pub plain_tag_more : (get_or text i 0 ≡ quote → ⊥) → (g : ℕ) → g ≡ mix h (get_or text i 0) → Tagging text q salt (Spelling.Quoted (i + 1) quote) g
+    plain_tag_more d g x =
         tag_more text q salt (Spelling.Quoted i quote) h v (get_or text i 0) (Spelling.Quoted (i + 1) quote) g (quoted_byte text i quote small l n d).1 x
 
-    pub quoted_tag_done : get_or text i 0 ≡ quote → (c : Bool) → ColonAtSays text (i + 1) c → c ≡ true → (r : ℕ) → r ≡ finish h → TagSays text q salt r
-    quoted_tag_done d c w z r x =
-        let y = w z in
+    pub plain_tag_done : get_or text i 0 ≡ quote → (c : Bool) → ColonAtSays text (i + 1) c → (r : ℕ) → r ≡ finish h
+        → IfSome (then_some c r) (λ tag. TagSays text q salt tag)
+    plain_tag_done d false w r x = tt
+    plain_tag_done d true w r x =
+        let y = w refl in
         tag_done text q salt (Spelling.Quoted i quote) h v r
         (quoted_closes text i quote small l n d Spelt.Over (λ e u m. parts_are text u e (i + 1) (i + 1) (colon_alone text (i + 1) y.0 y.1) m)) x
 

@@ -18,8 +18,8 @@ use Rattle.reader.specs.Between.Layout.{Breaks, LayoutEnds}
 use Rattle.reader.specs.Between.Cursor.{AtValue, Seen, Took, Left, wants, keeping}
 use Rattle.reader.specs.Between.Walk.{Finishes, EndedSays, WalkSays}
 use Rattle.reader.specs.declared.cursor.Cursor.{Cursor}
-use Rattle.reader.specs.declared.Answer.{Answer}
-use Rattle.reader.specs.declared.Answer.TheVariants.{Counts, Refused}
+use Rattle.std.specs.Prelude.{Result}
+use Rattle.reader.specs.Answers.{Answer, counts}
 use Rattle.reader.proofs.ScanningLaws.{stop, at_end, then_refused, faulted, then_goes}
 use Rattle.machine.proofs.Heard.{verdict_is}
 use Rattle.once.proofs.KeepingLaws.{keeps_further, goes_further}
@@ -55,16 +55,16 @@ nothing_more letter_c m q d s = refl
 nothing_more other_c m q d s = refl
 
 module _ (text : List ℕ) (c : Cursor) where
-  pub ended_breaks : (r : ℕ) → Breaks text base c.at r → EndedSays text c (Refused (NotGrammar r))
+  pub ended_breaks : (r : ℕ) → Breaks text base c.at r → EndedSays text c (Result.Err (NotGrammar r))
   ended_breaks r b m d = faulted (b (got (value m)) d [])
 
   module _ (e : ℕ) (l : LayoutEnds text c.at e) where
-    pub ended_more : e < length text → EndedSays text c (Refused (NotGrammar e))
+    pub ended_more : e < length text → EndedSays text c (Result.Err (NotGrammar e))
     ended_more h m d =
         let fails = nothing_more (class_of (get_or text e 0)) m e d (solid l.bare h) in
         then_refused (l.goes (got (value m)) d []) (stop (at (base (got (value m))) d []) text e (NotGrammar e) h fails)
 
-    pub ended_done : length text ≤ e → EndedSays text c (Counts c.records c.stored)
+    pub ended_done : length text ≤ e → EndedSays text c (counts c.records c.stored)
     ended_done h = (λ m d. l.goes (got (value m)) d [] ∙ at_end (at (base (got (value m))) d []) text e h, refl, refl)
 
 -- ---- the walk
@@ -103,8 +103,8 @@ module _ (text : List ℕ) (q : ℕ) (v : LayoutEnds text 0 q) where
     -- the walk says what its end says
     pub walk_ended : (a : Answer) → EndedSays text n a → WalkSays text tape tape' store store' seen seen' a
     unfolding reading telling depth_limit tape_of
-    walk_ended (Refused why) e = sym (verdict_is text 0 (at (base want) 64 [])) ∙ then_refused comes (e w.m 64)
-    walk_ended (Counts r s) (e, er, es) = (
+    walk_ended (Result.Err why) e = sym (verdict_is text 0 (at (base want) 64 [])) ∙ then_refused comes (e w.m 64)
+    walk_ended (Result.Ok a) (e, er, es) = (
       w.m,
       record {
         keys = w.keys;

@@ -19,23 +19,24 @@ use Rattle.once.proofs.KeepingLaws.{zeroes_keep, begun_keeps, searched_first, se
 use Rattle.reader.specs.Between.Repeat.{KeyIs, Keeping, Led}
 use Rattle.reader.specs.Between.Cursor.{Seen}
 use Rattle.reader.specs.Between.Walk.{WalkSays, Walked, Searching, AtWindow}
-use Rattle.reader.specs.declared.Answer.TheVariants.{Counts}
+use Rattle.std.specs.Prelude.{Option, Some, Result}
+use Rattle.reader.specs.declared.Counts.{Counts}
 
 -- ---- the table before a window
 
 pub zeroes_there : (text : List ℕ) (n : ℕ) → 16 ≤ n → n < 2 ^ 32 → Keeping text (replicate n 0) 0 0 nothing
 zeroes_there text n l m = zeroes_keep (KeyIs text) (hash_of 0) n 0 l m (omega arith)
 
-begun_there : {text seen : List ℕ} {best from : ℕ} → AtWindow text seen best from → (seen' : List ℕ) → Begun from seen seen'
+begun_there : {text seen : List ℕ} {best : Option ℕ} {from : ℕ} → AtWindow text seen best from → (seen' : List ℕ) → Begun from seen seen'
     → Keeping text seen' 0 from nothing
 begun_there {text} {seen} {from = f} a seen' b = begun_keeps (KeyIs text) (hash_of f) seen seen' 0 f b a.roomy (omega arith)
 
-pub window_seen : {text seen : List ℕ} {best from : ℕ} → AtWindow text seen best from → (seen' : List ℕ) → Begun from seen seen' → Seen text seen' 0
+pub window_seen : {text seen : List ℕ} {best : Option ℕ} {from : ℕ} → AtWindow text seen best from → (seen' : List ℕ) → Begun from seen seen' → Seen text seen' 0
 window_seen {from = f} a seen' b = inr (f, (nothing, begun_there a seen' b))
 
-pub zeroes_window : (n : ℕ) → 16 ≤ n → n < 2 ^ 32 → {text : List ℕ} {best from : ℕ} → Searching text best from → (from ≡ 0 → ⊥)
+pub zeroes_window : (n : ℕ) → 16 ≤ n → n < 2 ^ 32 → {text : List ℕ} {best : Option ℕ} {from : ℕ} → Searching text best (Some from)
     → AtWindow text (replicate n 0) best from
-zeroes_window n l m s o = let e = length-replicate {A = ℕ} n 0 in record { searching = s; more = o; roomy = omega arith; small = omega arith }
+zeroes_window n l m s = let e = length-replicate {A = ℕ} n 0 in record { searching = s; roomy = omega arith; small = omega arith }
 
 -- ---- the keys of the text
 
@@ -47,7 +48,7 @@ keys_span {text} x keys h =
 -- ---- one window
 
 module _ {text tape tape' store store' seen seen' : List ℕ} {m : Meaning} (w : Walked text tape tape' store store' seen seen' m)
-    (twice stop : ℕ) (i : TwiceIs seen' twice) (j : StopIs seen' stop) where
+    (twice stop : Option ℕ) (i : TwiceIs seen' twice) (j : StopIs seen' stop) where
   heard : (telling text).heard ≡ heard_of w.keys
   heard = ap (λ (z : Told). z.heard) w.told
 
@@ -55,16 +56,16 @@ module _ {text tape tape' store store' seen seen' : List ℕ} {m : Meaning} (w :
       → Searching text twice (onward twice stop)
   first_window k s l = record { keys = w.keys; told = heard; windows = searched_first (w.noted 0 nothing k) s twice stop i j; short = l }
 
-  next_window : (best from : ℕ) → Searching text best from → (from ≡ 0 → ⊥) → Keeping text seen 0 from nothing
+  next_window : (best : Option ℕ) (from : ℕ) → Searching text best (Some from) → Keeping text seen 0 from nothing
       → Searching text (least best twice) (onward (least best twice) stop) × NoneOrLater from (onward (least best twice) stop)
-  next_window best from s n k =
+  next_window best from s k =
       let q : w.keys ≡ s.keys = heard_one w.keys s.keys (sym heard ∙ s.told) in
       let g = subst (Led text seen' (length text) from nothing) q (w.noted from nothing k) in
-      let z = searched_next g s.windows n twice stop i j in
+      let z = searched_next g s.windows twice stop i j in
       (record { keys = s.keys; told = s.told; windows = z.0; short = s.short }, z.1)
 
-pub window_says : {text tape tape' store store' seen₀ seen seen' : List ℕ} {best from : ℕ} → AtWindow text seen₀ best from → Begun from seen₀ seen
-    → (r s : ℕ) → WalkSays text tape tape' store store' seen seen' (Counts r s) → (twice stop : ℕ) → TwiceIs seen' twice → StopIs seen' stop
+pub window_says : {text tape tape' store store' seen₀ seen seen' : List ℕ} {best : Option ℕ} {from : ℕ} → AtWindow text seen₀ best from → Begun from seen₀ seen
+    → (n : Counts) → WalkSays text tape tape' store store' seen seen' (Result.Ok n) → (twice stop : Option ℕ) → TwiceIs seen' twice → StopIs seen' stop
     → Searching text (least best twice) (onward (least best twice) stop) × NoneOrLater from (onward (least best twice) stop)
-window_says {seen = seen} {best = best} {from = from} a b r s (m, w, er, es) twice stop i j =
-    next_window w twice stop i j best from a.searching a.more (begun_there a seen b)
+window_says {seen = seen} {best = best} {from = from} a b n (m, w, er, es) twice stop i j =
+    next_window w twice stop i j best from a.searching (begun_there a seen b)

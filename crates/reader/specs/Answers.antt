@@ -1,5 +1,5 @@
 -- What `measure` and `read` promise (docs/FORMAT.md, 13), by the grammar alone. Assumes nothing.
-use Rattle.std.specs.Prelude.{◌≡◌, true, List, ℕ, ◌*◌, ◌≤◌, ◌<◌, length}
+use Rattle.std.specs.Prelude.{◌≡◌, true, List, ℕ, ◌*◌, ◌≤◌, ◌<◌, length, Result, Ok, Err}
 use Rattle.rules.specs.Paper.{Said, done, refused}
 use Rattle.meaning.specs.declared.Refusal.{Refusal}
 use Rattle.meaning.specs.Bytes.{laid}
@@ -8,12 +8,20 @@ use Rattle.meaning.specs.Paper.{refusal_said}
 use Rattle.meaning.specs.Tape.{records, bytes, tape_of, store_of}
 use Rattle.grammar.specs.Values.{Loose, Text}
 use Rattle.grammar.specs.Refused.{LooseRefused, TextRefused}
-use Rattle.reader.specs.declared.Answer.{Answer}
+use Rattle.reader.specs.declared.Counts.{Counts}
+
+-- what `measure` and `read` answer
+abbrev pub Answer : Type 0
+Answer = Result Counts Refusal
+
+-- so many records and store bytes
+abbrev pub counts : ℕ → ℕ → Answer
+counts r s = Ok (record { records = r; bytes = s })
 
 -- in the terms of docs/FORMAT.md, 10.1: the number of records and of store bytes, or a refusal
 abbrev pub answer_said : Answer → Said (ℕ × ℕ)
-answer_said (Answer.Counts recordCount byte_count) = done (recordCount, byte_count)
-answer_said (Answer.Refused why) = refusal_said why
+answer_said (Ok n) = done (n.records, n.bytes)
+answer_said (Err why) = refusal_said why
 
 -- what `measure` may answer for this text
 pub data Measures (text : List ℕ) (a : Answer) : Type 0 where

@@ -6,13 +6,10 @@ ghost use Rattle.once.specs.Groups.{Sane};
 ghost use Rattle.reader.specs.Between.Cursor.{record_item, item_bytes, SpeltSays, Quoted, AtScalar, ScalarSays};
 ghost use Rattle.reader.specs.Between.Cursor.{Ready, AtMember, AtValue, Inner, Seen, HeadSays, AheadSays, AfterSays};
 ghost use Rattle.reader.specs.Between.Cursor.{ColonSays, MemberSays, MemberAheadSays, ValueSays, InsideSays};
-ghost use Rattle.reader.specs.Between.Cursor.{ArrayClosed, ObjectClosed, StepReady, FollowedSays};
+ghost use Rattle.reader.specs.Between.Cursor.{ArrayClosed, ObjectClosed};
 
-use crate::joined::Bytes;
-use crate::layout::Layout;
 use crate::{joined, key, layout, repeat};
-use items::word::Word;
-use items::{Item, Scanned, number_or_time, word};
+use items::{Item, Scanned, Taken, number_or_time, word};
 use meaning::{Record, Refusal};
 use tape::put_record;
 
@@ -24,20 +21,12 @@ pub struct Cursor {
     pub stored: usize,
 }
 
-// A value has been read, or a refusal is given.
-#[derive(Clone, Copy)]
-pub enum Step {
-    Value(Cursor),
-    Refused(Refusal),
-}
-
 // What begins where a value is wanted: an item, or an opening bracket.
 #[derive(Clone, Copy)]
 enum Head {
     Item(Item, Cursor),
     Array(Cursor),
     Object(Cursor),
-    Refused(Refusal),
 }
 
 // In a container, where an element or a member may stand.
@@ -45,7 +34,6 @@ enum Head {
 enum Ahead {
     Close(Cursor),
     More(Cursor),
-    Refused(Refusal),
 }
 
 // After an element or a member.
@@ -53,14 +41,6 @@ enum Ahead {
 enum After {
     Comma(Cursor),
     Close(Cursor),
-    Refused(Refusal),
-}
-
-// A key and its colon, with how many store bytes it has; the next cursor stands at the value.
-#[derive(Clone, Copy)]
-enum Member {
-    Key(usize, Cursor),
-    Refused(Refusal),
 }
 
 // The record of an item whose store bytes begin at `start`.
@@ -82,10 +62,8 @@ fn spelt(text: &[u8], at: usize, letters: &[u8], item: Item) -> Scanned
     requires { at ≤ length text.now }
     ensures { SpeltSays text.now at letters.now item result }
 {
-    match word::spell(text, at, letters) {
-        Word::NotGrammar(p) => Scanned::Refused(Refusal::NotGrammar(p)),
-        Word::Whole(end) => Scanned::Item(item, end),
-    }
+    let end = word::spell(text, at, letters)?;
+    Ok(Taken { value: item, end })
 }
 
 // A string as an item.
@@ -93,10 +71,11 @@ fn string(text: &[u8], at: usize, store: &mut [u8], start: usize) -> Scanned
     requires { Quoted text.now at × (start ≤ at) }
     ensures { ScalarSays text.now at start store.old store.new result }
 {
-    match joined::string(text, at, store, start) {
-        Bytes::Refused(why) => Scanned::Refused(why),
-        Bytes::Whole { bytes: n, end } => Scanned::Item(Item::Str(n), end),
-    }
+    let bytes = joined::string(text, at, store, start)?;
+    Ok(Taken {
+        value: Item::Str(bytes.value),
+        end: bytes.end,
+    })
 }
 
 // Binary as an item.
@@ -104,10 +83,11 @@ fn binary(text: &[u8], at: usize, store: &mut [u8], start: usize) -> Scanned
     requires { (at < length text.now) × (get_or text.now at 0 ≡ ch "$") × (start ≤ at) }
     ensures { ScalarSays text.now at start store.old store.new result }
 {
-    match joined::binary(text, at, store, start) {
-        Bytes::Refused(why) => Scanned::Refused(why),
-        Bytes::Whole { bytes: n, end } => Scanned::Item(Item::Bin(n), end),
-    }
+    let bytes = joined::binary(text, at, store, start)?;
+    Ok(Taken {
+        value: Item::Bin(bytes.value),
+        end: bytes.end,
+    })
 }
 
 // The item at a place where a value is wanted, no layout and no opening bracket stands.
@@ -115,26 +95,14 @@ fn scalar(text: &[u8], at: usize, store: &mut [u8], start: usize) -> Scanned
     requires { AtScalar text.now at start }
     ensures { ScalarSays text.now at start store.old store.new result }
 {
-    let b = text[at];
-    if b == b'"' {
-        return string(text, at, store, start);
+    match text[at] {
+        b'"' | b'\'' => string(text, at, store, start),
+        b'$' => binary(text, at, store, start),
+        b'n' => spelt(text, at, b"null", Item::Null),
+        b't' => spelt(text, at, b"true", Item::Bool(true)),
+        b'f' => spelt(text, at, b"false", Item::Bool(false)),
+        _ => number_or_time::numeric(text, at),
     }
-    if b == b'\'' {
-        return string(text, at, store, start);
-    }
-    if b == b'$' {
-        return binary(text, at, store, start);
-    }
-    if b == b'n' {
-        return spelt(text, at, b"null", Item::Null);
-    }
-    if b == b't' {
-        return spelt(text, at, b"true", Item::Bool(true));
-    }
-    if b == b'f' {
-        return spelt(text, at, b"false", Item::Bool(false));
-    }
-    number_or_time::numeric(text, at)
 }
 
 // How many store bytes an item has.
@@ -142,194 +110,136 @@ fn stored_by(item: Item) -> usize
     ensures { result ≡ item_bytes item }
 {
     match item {
-        Item::Null => 0,
-        Item::Bool(_) => 0,
-        Item::Number(_) => 0,
-        Item::Time(_) => 0,
-        Item::Str(n) => n,
-        Item::Bin(n) => n,
+        Item::Null | Item::Bool(_) | Item::Number(_) | Item::Time(_) => 0,
+        Item::Str(n) | Item::Bin(n) => n,
     }
 }
 
 impl Cursor {
     // What begins here, where a value is wanted and no layout stands.
-    fn head(self, text: &[u8], store: &mut [u8]) -> Head
+    fn head(self, text: &[u8], store: &mut [u8]) -> Result<Head, Refusal>
         requires { AtValue text.now self }
         ensures { HeadSays text.now self store.old store.new result }
     {
         let at = self.at;
         if at >= text.len() {
-            return Head::Refused(Refusal::NotGrammar(at));
+            return Err(Refusal::NotGrammar(at));
         }
         let b = text[at];
         if b == b'[' {
-            return Head::Array(Cursor {
-                at: at + 1,
-                records: self.records,
-                stored: self.stored,
-            });
+            return Ok(Head::Array(Cursor { at: at + 1, ..self }));
         }
         if b == b'{' {
-            return Head::Object(Cursor {
-                at: at + 1,
-                records: self.records,
-                stored: self.stored,
-            });
+            return Ok(Head::Object(Cursor { at: at + 1, ..self }));
         }
-        match scalar(text, at, store, self.stored) {
-            Scanned::Refused(why) => Head::Refused(why),
-            Scanned::Item(item, end) => Head::Item(
-                item,
-                Cursor {
-                    at: end,
-                    records: self.records + 1,
-                    stored: self.stored + stored_by(item),
-                },
-            ),
-        }
+        let item = scalar(text, at, store, self.stored)?;
+        let behind = Cursor {
+            at: item.end,
+            records: self.records + 1,
+            stored: self.stored + stored_by(item.value),
+        };
+        Ok(Head::Item(item.value, behind))
     }
 
     // In a container that this byte closes: its end, or where an element or a member begins.
-    fn ahead(self, text: &[u8], closing: u8) -> Ahead
+    fn ahead(self, text: &[u8], closing: u8) -> Result<Ahead, Refusal>
         requires { Ready text.now self }
         ensures { AheadSays text.now self closing result }
     {
-        match layout::pass(text, self.at) {
-            Layout::NotGrammar(p) => Ahead::Refused(Refusal::NotGrammar(p)),
-            Layout::Ended(at) => {
-                if at >= text.len() {
-                    return Ahead::Refused(Refusal::NotGrammar(at));
-                }
-                if text[at] == closing {
-                    return Ahead::Close(Cursor {
-                        at: at + 1,
-                        records: self.records,
-                        stored: self.stored,
-                    });
-                }
-                Ahead::More(Cursor {
-                    at,
-                    records: self.records,
-                    stored: self.stored,
-                })
-            }
+        let at = layout::pass(text, self.at)?;
+        if at >= text.len() {
+            return Err(Refusal::NotGrammar(at));
         }
+        if text[at] == closing {
+            return Ok(Ahead::Close(Cursor { at: at + 1, ..self }));
+        }
+        Ok(Ahead::More(Cursor { at, ..self }))
     }
 
     // After an element or a member of a container that this byte closes.
-    fn after(self, text: &[u8], closing: u8) -> After
+    fn after(self, text: &[u8], closing: u8) -> Result<After, Refusal>
         requires { Ready text.now self }
         ensures { AfterSays text.now self closing result }
     {
-        match layout::pass(text, self.at) {
-            Layout::NotGrammar(p) => After::Refused(Refusal::NotGrammar(p)),
-            Layout::Ended(at) => {
-                if at >= text.len() {
-                    return After::Refused(Refusal::NotGrammar(at));
-                }
-                let b = text[at];
-                if b == b',' {
-                    return After::Comma(Cursor {
-                        at: at + 1,
-                        records: self.records,
-                        stored: self.stored,
-                    });
-                }
-                if b == closing {
-                    return After::Close(Cursor {
-                        at: at + 1,
-                        records: self.records,
-                        stored: self.stored,
-                    });
-                }
-                After::Refused(Refusal::NotGrammar(at))
-            }
+        let at = layout::pass(text, self.at)?;
+        if at >= text.len() {
+            return Err(Refusal::NotGrammar(at));
         }
+        let b = text[at];
+        if b == b',' {
+            return Ok(After::Comma(Cursor { at: at + 1, ..self }));
+        }
+        if b == closing {
+            return Ok(After::Close(Cursor { at: at + 1, ..self }));
+        }
+        Err(Refusal::NotGrammar(at))
     }
 
-    // After a key of n store bytes: a colon, and the layout before the value.
-    fn colon(self, text: &[u8], n: usize) -> Member
+    // After a key: a colon, and the layout before the value, where the cursor stands then.
+    fn colon(self, text: &[u8]) -> Result<Cursor, Refusal>
         requires { self.at ≤ length text.now }
-        ensures { ColonSays text.now self n result }
+        ensures { ColonSays text.now self result }
     {
-        match layout::pass(text, self.at) {
-            Layout::NotGrammar(p) => Member::Refused(Refusal::NotGrammar(p)),
-            Layout::Ended(at) => {
-                if at >= text.len() {
-                    return Member::Refused(Refusal::NotGrammar(at));
-                }
-                if text[at] != b':' {
-                    return Member::Refused(Refusal::NotGrammar(at));
-                }
-                match layout::pass(text, at + 1) {
-                    Layout::NotGrammar(p) => Member::Refused(Refusal::NotGrammar(p)),
-                    Layout::Ended(next) => Member::Key(
-                        n,
-                        Cursor {
-                            at: next,
-                            records: self.records,
-                            stored: self.stored,
-                        },
-                    ),
-                }
-            }
+        let at = layout::pass(text, self.at)?;
+        if at >= text.len() {
+            return Err(Refusal::NotGrammar(at));
         }
+        if text[at] != b':' {
+            return Err(Refusal::NotGrammar(at));
+        }
+        let next = layout::pass(text, at + 1)?;
+        Ok(Cursor { at: next, ..self })
     }
 
-    // A key and its colon.
-    fn member(self, text: &[u8], store: &mut [u8]) -> Member
+    // A key and its colon: how many store bytes the key has, and the cursor at the value.
+    fn member(self, text: &[u8], store: &mut [u8]) -> Result<(usize, Cursor), Refusal>
         requires { AtMember text.now self }
         ensures { MemberSays text.now self store.old store.new result }
     {
-        match key::key(text, self.at, store, self.stored) {
-            Bytes::Refused(why) => Member::Refused(why),
-            Bytes::Whole { bytes: n, end } => (Cursor {
-                at: end,
-                records: self.records + 1,
-                stored: self.stored + n,
-            })
-            .colon(text, n),
-        }
+        let key = key::key(text, self.at, store, self.stored)?;
+        let behind = Cursor {
+            at: key.end,
+            records: self.records + 1,
+            stored: self.stored + key.value,
+        };
+        let held = behind.colon(text)?;
+        Ok((key.value, held))
     }
 
     // In an object: its end, or the value of the next member, whose key has been put and noted.
-    fn member_ahead(self, text: &[u8], tape: &mut [u8], store: &mut [u8], seen: &mut [u32]) -> Ahead
+    fn member_ahead(
+        self,
+        text: &[u8],
+        tape: &mut [u8],
+        store: &mut [u8],
+        seen: &mut [u32],
+    ) -> Result<Ahead, Refusal>
         requires { Ready text.now self × Seen text.now seen.old self.at }
         ensures { MemberAheadSays text.now self tape.old tape.new
             store.old store.new seen.old seen.new result }
     {
-        match self.ahead(text, b'}') {
-            Ahead::Refused(why) => Ahead::Refused(why),
-            Ahead::Close(next) => Ahead::Close(next),
-            Ahead::More(first) => match first.member(text, store) {
-                Member::Refused(why) => Ahead::Refused(why),
-                Member::Key(n, held) => {
-                    put_record(
-                        tape,
-                        self.records,
-                        Record::Key {
-                            length: n,
-                            start: self.stored,
-                        },
-                    );
-                    repeat::note(text, first.at, seen);
-                    Ahead::More(held)
-                }
-            },
-        }
+        let first = match self.ahead(text, b'}')? {
+            Ahead::Close(next) => return Ok(Ahead::Close(next)),
+            Ahead::More(first) => first,
+        };
+        let (length, held) = first.member(text, store)?;
+        let start = self.stored;
+        put_record(tape, self.records, Record::Key { length, start });
+        repeat::note(text, first.at, seen);
+        Ok(Ahead::More(held))
     }
 
     // After an array's closing bracket: the array's own record is put.
-    fn array_closed(self, tape: &mut [u8], own: usize, count: usize) -> Step
+    fn array_closed(self, tape: &mut [u8], own: usize, count: usize) -> Cursor
         ensures { ArrayClosed self own count tape.old tape.new result }
     {
         let end = self.records;
         put_record(tape, own, Record::Array { count, end });
-        Step::Value(self)
+        self
     }
 
     // After an object's closing bracket: the object's own record is put, and its keys leave the table.
-    fn object_closed(self, tape: &mut [u8], seen: &mut [u32], own: usize, count: usize) -> Step
+    fn object_closed(self, tape: &mut [u8], seen: &mut [u32], own: usize, count: usize) -> Cursor
         requires { Sane seen.old }
         ensures { ObjectClosed self own count tape.old tape.new
             seen.old seen.new result }
@@ -337,7 +247,7 @@ impl Cursor {
         let end = self.records;
         put_record(tape, own, Record::Object { count, end });
         once::closed(seen);
-        Step::Value(self)
+        self
     }
 
     // A value, where no layout stands; `depth` more arrays and objects may open.
@@ -349,26 +259,25 @@ impl Cursor {
         tape: &mut [u8],
         store: &mut [u8],
         seen: &mut [u32],
-    ) -> Step
+    ) -> Result<Cursor, Refusal>
         requires { AtValue text.now self × Seen text.now seen.old self.at }
         ensures { ValueSays text.now depth self tape.old tape.new
             store.old store.new seen.old seen.new result }
     {
-        match self.head(text, store) {
-            Head::Refused(why) => Step::Refused(why),
+        match self.head(text, store)? {
             Head::Item(item, next) => {
                 put_record(tape, self.records, record_of(item, self.stored));
-                Step::Value(next)
+                Ok(next)
             }
             Head::Array(inside) => {
                 if depth == 0 {
-                    return Step::Refused(Refusal::TooDeep(self.at));
+                    return Err(Refusal::TooDeep(self.at));
                 }
                 inside.array(text, depth - 1, tape, store, seen)
             }
             Head::Object(inside) => {
                 if depth == 0 {
-                    return Step::Refused(Refusal::TooDeep(self.at));
+                    return Err(Refusal::TooDeep(self.at));
                 }
                 inside.object(text, depth - 1, tape, store, seen)
             }
@@ -384,7 +293,7 @@ impl Cursor {
         tape: &mut [u8],
         store: &mut [u8],
         seen: &mut [u32],
-    ) -> Step
+    ) -> Result<Cursor, Refusal>
         requires { Inner text.now self × Seen text.now seen.old (self.at - 1) }
         ensures { InsideSays text.now square depth self tape.old tape.new
             store.old store.new seen.old seen.new result }
@@ -392,25 +301,19 @@ impl Cursor {
         let own = self.records;
         let mut count: usize = 0;
         let mut here = Cursor {
-            at: self.at,
             records: own + 1,
-            stored: self.stored,
+            ..self
         };
         loop {
-            match here.ahead(text, b']') {
-                Ahead::Refused(why) => return Step::Refused(why),
-                Ahead::Close(next) => return next.array_closed(tape, own, count),
-                Ahead::More(first) => match first
-                    .value(text, depth, tape, store, seen)
-                    .followed(text, b']')
-                {
-                    After::Refused(why) => return Step::Refused(why),
-                    After::Close(next) => return next.array_closed(tape, own, count + 1),
-                    After::Comma(next) => {
-                        count += 1;
-                        here = next;
-                    }
-                },
+            let first = match here.ahead(text, b']')? {
+                Ahead::Close(next) => return Ok(next.array_closed(tape, own, count)),
+                Ahead::More(first) => first,
+            };
+            let last = first.value(text, depth, tape, store, seen)?;
+            count += 1;
+            match last.after(text, b']')? {
+                After::Close(next) => return Ok(next.array_closed(tape, own, count)),
+                After::Comma(next) => here = next,
             }
         }
     }
@@ -424,7 +327,7 @@ impl Cursor {
         tape: &mut [u8],
         store: &mut [u8],
         seen: &mut [u32],
-    ) -> Step
+    ) -> Result<Cursor, Refusal>
         requires { Inner text.now self × Seen text.now seen.old (self.at - 1) }
         ensures { InsideSays text.now curly depth self tape.old tape.new
             store.old store.new seen.old seen.new result }
@@ -433,39 +336,20 @@ impl Cursor {
         let own = self.records;
         let mut count: usize = 0;
         let mut here = Cursor {
-            at: self.at,
             records: own + 1,
-            stored: self.stored,
+            ..self
         };
         loop {
-            match here.member_ahead(text, tape, store, seen) {
-                Ahead::Refused(why) => return Step::Refused(why),
-                Ahead::Close(next) => return next.object_closed(tape, seen, own, count),
-                Ahead::More(held) => match held
-                    .value(text, depth, tape, store, seen)
-                    .followed(text, b'}')
-                {
-                    After::Refused(why) => return Step::Refused(why),
-                    After::Close(next) => return next.object_closed(tape, seen, own, count + 1),
-                    After::Comma(next) => {
-                        count += 1;
-                        here = next;
-                    }
-                },
+            let held = match here.member_ahead(text, tape, store, seen)? {
+                Ahead::Close(next) => return Ok(next.object_closed(tape, seen, own, count)),
+                Ahead::More(held) => held,
+            };
+            let last = held.value(text, depth, tape, store, seen)?;
+            count += 1;
+            match last.after(text, b'}')? {
+                After::Close(next) => return Ok(next.object_closed(tape, seen, own, count)),
+                After::Comma(next) => here = next,
             }
-        }
-    }
-}
-
-impl Step {
-    // After the value of an element or a member, in a container that this byte closes.
-    fn followed(self, text: &[u8], closing: u8) -> After
-        requires { StepReady text.now self }
-        ensures { FollowedSays text.now self closing result }
-    {
-        match self {
-            Step::Refused(why) => After::Refused(why),
-            Step::Value(last) => last.after(text, closing),
         }
     }
 }

@@ -3,7 +3,7 @@ ghost use Rattle.std.specs.Prelude.{◌<◌, length};
 ghost use Rattle.reader.specs.Between.Spelling.{InText};
 ghost use Rattle.reader.specs.Between.Repeat.{AtKey, Tabled, OverSays, SameSays, Seeks, RepeatSays, NoteSays};
 
-use crate::spelling::{Letter, Spelling};
+use crate::spelling::Spelling;
 use crate::{spelling, tag};
 
 // Whether a key has no byte left.
@@ -11,10 +11,7 @@ fn over(text: &[u8], from: Spelling) -> bool
     requires { InText text.now from }
     ensures { OverSays text.now from result }
 {
-    match spelling::next(text, from) {
-        Letter::Over => true,
-        Letter::Byte(_, _) => false,
-    }
+    spelling::next(text, from).is_none()
 }
 
 // Whether the keys at two places mean the same bytes. They are spelled as far as they are alike.
@@ -24,21 +21,17 @@ fn same_key(text: &[u8], a: usize, b: usize) -> bool
 {
     let mut s = spelling::begun(text, a);
     let mut t = spelling::begun(text, b);
-    let mut alike = true;
-    while alike {
-        match spelling::next(text, s) {
-            Letter::Over => return over(text, t),
-            Letter::Byte(x, s1) => match spelling::next(text, t) {
-                Letter::Over => return false,
-                Letter::Byte(y, t1) => {
-                    alike = x == y;
-                    s = s1;
-                    t = t1;
-                }
-            },
+    while let Some((x, s1)) = spelling::next(text, s) {
+        let Some((y, t1)) = spelling::next(text, t) else {
+            return false;
+        };
+        if x != y {
+            return false;
         }
+        s = s1;
+        t = t1;
     }
-    false
+    over(text, t)
 }
 
 // Whether a key of the present object that is taken in is the one at this place.
@@ -46,15 +39,15 @@ fn repeated(text: &[u8], at: usize, tag: u32, seen: &[u32]) -> bool
     requires { Seeks text.now seen.now at tag }
     ensures { RepeatSays text.now seen.now at result }
 {
-    let mut i = once::newest(seen, tag);
-    while i > 0 {
+    let mut slot = once::newest(seen, tag);
+    while let Some(i) = slot {
         if once::tag_of(seen, i) == tag {
             let place = once::place_of(seen, i) as usize;
             if same_key(text, at, place) {
                 return true;
             }
         }
-        i = once::earlier(seen, i);
+        slot = once::earlier(seen, i);
     }
     false
 }

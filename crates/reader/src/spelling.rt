@@ -10,7 +10,6 @@ ghost use Rattle.reader.specs.Between.Spelling.{NamesNext, got_parts, ThreeSays}
 use crate::joined;
 use crate::joined::Join;
 use items::identifier::Sort;
-use items::string_part::Char;
 use items::{identifier, string_part};
 
 // Where a key is being spelled: among an identifier's letters; where a string part begins; in a part, or in one of many
@@ -40,13 +39,6 @@ pub enum Spelling {
 enum Spelt {
     Byte(u8, Spelling),
     On(Spelling),
-    Over,
-}
-
-// The next byte, or the key's end.
-#[derive(Clone, Copy)]
-pub enum Letter {
-    Byte(u8, Spelling),
     Over,
 }
 
@@ -119,9 +111,9 @@ fn after(text: &[u8], end: usize) -> Spelt
         (λ e u. NamesNext text.now (got_parts e) end u) result }
 {
     match joined::after_part(text, end) {
-        Join::NotGrammar(_) => Spelt::Over,
-        Join::Last(_) => Spelt::Over,
-        Join::Next(at) => Spelt::On(Spelling::Opening(at)),
+        Ok(Join::Next(at)) => Spelt::On(Spelling::Opening(at)),
+        Ok(Join::Last(_)) => Spelt::Over,
+        Err(_) => Spelt::Over,
     }
 }
 
@@ -156,10 +148,13 @@ fn escaped(text: &[u8], at: usize, quote: u8) -> Spelt
     requires { (at < length text.now) × (get_or text.now at 0 ≡ ch "\\") }
     ensures { StepSays text.now (Spellings.Quoted at quote) result }
 {
-    match string_part::character(text, at) {
-        Char::NotGrammar(_) => Spelt::Over,
-        Char::BadEscape(next) => Spelt::On(Spelling::Quoted { at: next, quote }),
-        Char::Whole { character, next } => due(character, octets(character), next, quote),
+    let Ok(escape) = string_part::character(text, at) else {
+        return Spelt::Over;
+    };
+    let next = escape.end;
+    match escape.value {
+        None => Spelt::On(Spelling::Quoted { at: next, quote }),
+        Some(character) => due(character, octets(character), next, quote),
     }
 }
 
@@ -220,8 +215,7 @@ fn name(text: &[u8], at: usize) -> Spelt
     let b = text[at];
     match identifier::sort_of(b) {
         Sort::Neither => Spelt::Over,
-        Sort::Letter => Spelt::Byte(b, Spelling::Name(at + 1)),
-        Sort::Figure => Spelt::Byte(b, Spelling::Name(at + 1)),
+        Sort::Letter | Sort::Figure => Spelt::Byte(b, Spelling::Name(at + 1)),
     }
 }
 
@@ -250,29 +244,23 @@ pub fn begun(text: &[u8], at: usize) -> Spelling
     ensures { InText text.now result
         × ((u : List ℕ) → KeyIs text.now at u → Spells text.now result [] u) }
 {
-    let b = text[at];
-    if b == b'"' {
-        return Spelling::Opening(at);
+    match text[at] {
+        b'"' | b'\'' => Spelling::Opening(at),
+        _ => Spelling::Name(at),
     }
-    if b == b'\'' {
-        return Spelling::Opening(at);
-    }
-    Spelling::Name(at)
 }
 
-// The next byte.
-pub fn next(text: &[u8], from: Spelling) -> Letter
+// The next byte, and where the key is being spelled after it; none at the key's end.
+pub fn next(text: &[u8], from: Spelling) -> Option<(u8, Spelling)>
     requires { InText text.now from }
     ensures { LetterSays text.now from result }
 {
     let mut s = from;
     loop {
         match step(text, s) {
-            Spelt::Over => return Letter::Over,
-            Spelt::Byte(b, t) => return Letter::Byte(b, t),
-            Spelt::On(t) => {
-                s = t;
-            }
+            Spelt::Over => return None,
+            Spelt::Byte(b, t) => return Some((b, t)),
+            Spelt::On(t) => s = t,
         }
     }
 }

@@ -1,10 +1,9 @@
 // The tag of a key: a number that the bytes it means and a salt determine.
-ghost use Rattle.std.specs.Prelude.{◌≡◌, ◌⊎◌, ◌<◌, length, get_or};
+ghost use Rattle.std.specs.Prelude.{◌≡◌, ◌⊎◌, ◌<◌, length, get_or, IfSome};
 ghost use Rattle.meaning.specs.Letters.{ch};
 ghost use Rattle.reader.specs.Between.Repeat.{TagSays, ColonAtSays};
 
 use crate::spelling;
-use crate::spelling::Letter;
 use items::identifier;
 use items::identifier::Sort;
 
@@ -15,56 +14,43 @@ fn spelled_tag(text: &[u8], at: usize, salt: u32) -> u32
 {
     let mut h = once::seeded(salt);
     let mut s = spelling::begun(text, at);
-    loop {
-        match spelling::next(text, s) {
-            Letter::Over => return once::finished(h),
-            Letter::Byte(b, t) => {
-                h = once::mixed(h, b);
-                s = t;
-            }
-        }
+    while let Some((b, t)) = spelling::next(text, s) {
+        h = once::mixed(h, b);
+        s = t;
     }
+    once::finished(h)
 }
 
 // Whether a colon stands at a place.
 fn colon_at(text: &[u8], at: usize) -> bool
     ensures { ColonAtSays text.now at result }
 {
-    if at >= text.len() {
-        return false;
-    }
-    text[at] == b':'
+    at < text.len() && text[at] == b':'
 }
 
-// Of a key that begins with a quote. Where it is one part with no escape, and a colon right behind it, its bytes are those
-// of the text.
-fn quoted_tag(text: &[u8], at: usize, quote: u8, salt: u32) -> u32
-    requires { (at < length text.now) × (get_or text.now at 0 ≡ quote) × ((quote ≡ ch "\"") ⊎ (quote ≡ ch "'")) }
-    ensures { TagSays text.now at salt result }
+// Of a key that is one part with no escape, and a colon right behind it: its bytes are those of the text. None for any other
+// that begins with a quote.
+fn plain_tag(text: &[u8], at: usize, salt: u32) -> Option<u32>
+    requires { (at < length text.now) × ((get_or text.now at 0 ≡ ch "\"") ⊎ (get_or text.now at 0 ≡ ch "'")) }
+    ensures { IfSome result (λ tag. TagSays text.now at salt tag) }
 {
+    let quote = text[at];
+    let begin = at + 1;
+    if begin >= text.len() || text[begin] == quote {
+        return None;
+    }
     let mut h = once::seeded(salt);
-    let mut i = at + 1;
-    if i >= text.len() {
-        return spelled_tag(text, at, salt);
-    }
-    if text[i] == quote {
-        return spelled_tag(text, at, salt);
-    }
-    while i < text.len() {
+    for i in begin..text.len() {
         let b = text[i];
         if b == b'\\' {
-            return spelled_tag(text, at, salt);
+            return None;
         }
         if b == quote {
-            if colon_at(text, i + 1) {
-                return once::finished(h);
-            }
-            return spelled_tag(text, at, salt);
+            return colon_at(text, i + 1).then_some(once::finished(h));
         }
         h = once::mixed(h, b);
-        i = i + 1;
     }
-    spelled_tag(text, at, salt)
+    None
 }
 
 // Of a key that is an identifier.
@@ -73,21 +59,11 @@ fn name_tag(text: &[u8], at: usize, salt: u32) -> u32
     ensures { TagSays text.now at salt result }
 {
     let mut h = once::seeded(salt);
-    let mut i = at;
-    while i < text.len() {
+    for i in at..text.len() {
         let b = text[i];
         match identifier::sort_of(b) {
-            Sort::Neither => {
-                return once::finished(h);
-            }
-            Sort::Letter => {
-                h = once::mixed(h, b);
-                i = i + 1;
-            }
-            Sort::Figure => {
-                h = once::mixed(h, b);
-                i = i + 1;
-            }
+            Sort::Neither => return once::finished(h),
+            Sort::Letter | Sort::Figure => h = once::mixed(h, b),
         }
     }
     once::finished(h)
@@ -98,12 +74,11 @@ pub fn key_tag(text: &[u8], at: usize, salt: u32) -> u32
     requires { at < length text.now }
     ensures { TagSays text.now at salt result }
 {
-    let b = text[at];
-    if b == b'"' {
-        return quoted_tag(text, at, b'"', salt);
+    match text[at] {
+        b'"' | b'\'' => match plain_tag(text, at, salt) {
+            Some(tag) => tag,
+            None => spelled_tag(text, at, salt),
+        },
+        _ => name_tag(text, at, salt),
     }
-    if b == b'\'' {
-        return quoted_tag(text, at, b'\'', salt);
-    }
-    name_tag(text, at, salt)
 }

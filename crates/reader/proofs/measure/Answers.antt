@@ -1,16 +1,18 @@
-use mathlib.Core.Path.{sym, ◌∙◌, subst}
-use mathlib.Core.Logic.{inr}
 use native.Mathlib.Omega.{arith}
-use Rattle.rules.specs.declared.Utf8Answer.{Utf8Answer}
-use Rattle.rules.specs.Rfc3629.{Judged}
+use mathlib.Core.Logic.{inr}
+use mathlib.Core.Path.{sym, subst}
+use Rattle.std.proofs.lemmas.Result.{err_from_is_err_and}
 use Rattle.once.specs.Windows.{nothing}
 use Rattle.reader.specs.Between.Walk.{Searching}
 use Rattle.reader.proofs.WalkWindowLaws.{zeroes_there}
-use Rattle.reader.proofs.AnswersLaws.{measure_long, measure_ill, measure_refused, measure_counted, search_refused, measure_answered}
+use Rattle.reader.proofs.AnswersLaws.{measure_long, measure_ill, measure_refused, measure_counted, search_refused, all_searched, measure_answered}
 use Rattle.reader.proofs.measure.Goals as goal
 
 pub returns-then-text-gt-TEXT_LIMIT : goal.returns-then-text-gt-TEXT_LIMIT
 returns-then-text-gt-TEXT_LIMIT c = measure_long c.args.text.now (omega (arith, c.if-text-gt-TEXT_LIMIT.true))
+
+pub returns-in-Err : goal.returns-in-Err
+returns-in-Err c = measure_ill c.args.text.now (omega (arith, c.if-text-gt-TEXT_LIMIT.false)) c.in-Err.e c.in-Err.ensures
 
 pub walk-requires : goal.walk-requires
 walk-requires c = (
@@ -18,41 +20,21 @@ walk-requires c = (
   inr (0, (nothing, zeroes_there _ 520 (omega arith) (omega arith))),
 )
 
-pub returns-then-from-eq0 : goal.returns-then-from-eq0
-returns-then-from-eq0 c = let t = (measure_counted c.args.text.now (omega (arith, c.if-text-gt-TEXT_LIMIT.false))
-    (subst (λ (r : Utf8Answer). Judged c.args.text.now r) c.in-Done.is c.utf8-2.ensures) c.in-Counts.records c.in-Counts.bytes
-    (rw c.in-Counts.is at c.walk.ensures) (zeroes_there _ 520 (omega arith) (omega arith))) in
-    measure_answered t _ (subst (Searching _ _) (sym c.further-from.ensures ∙ c.if-from-eq0.true)
-    (t.searching _ _ c.first_twice-twice.ensures c.stopped.ensures)) _ c.answered.ensures
+pub returns-in_err-counts : goal.returns-in_err-counts
+returns-in_err-counts c = let p = err_from_is_err_and c.from_residual.result c.from_residual.ensures.1 in
+    rw (p.1, p.2) (measure_refused c.args.text.now (omega (arith, c.if-text-gt-TEXT_LIMIT.false)) c.in_default.ensures _ c.in_err-counts.ensures)
+
+pub returns-then-is_none : goal.returns-then-is_none
+returns-then-is_none c = let t = (measure_counted c.args.text.now (omega (arith, c.if-text-gt-TEXT_LIMIT.false)) c.in_default.ensures c.in_ok-counts.ensures) in
+    measure_answered t _ (all_searched t _ _ _ c.first_twice-twice.ensures c.stopped.ensures c.further-from.ensures c.if-is_none.ensures) _ c.answered.ensures
 
 pub searched-requires : goal.searched-requires
 searched-requires c = subst (Searching _ _) (sym c.further-from.ensures)
-    ((measure_counted c.args.text.now (omega (arith, c.if-text-gt-TEXT_LIMIT.false))
-    (subst (λ (r : Utf8Answer). Judged c.args.text.now r) c.in-Done.is c.utf8-2.ensures) c.in-Counts.records c.in-Counts.bytes
-    (rw c.in-Counts.is at c.walk.ensures) (zeroes_there _ 520 (omega arith) (omega arith))).searching _ _ c.first_twice-twice.ensures
-    c.stopped.ensures)
+    ((measure_counted c.args.text.now (omega (arith, c.if-text-gt-TEXT_LIMIT.false)) c.in_default.ensures c.in_ok-counts.ensures).searching _ _
+    c.first_twice-twice.ensures c.stopped.ensures)
 
-pub returns-in-IllFormed : goal.returns-in-IllFormed
-returns-in-IllFormed c = measure_ill c.args.text.now (omega (arith, c.if-text-gt-TEXT_LIMIT.false)) c.in-IllFormed.p
-    (subst (λ (r : Utf8Answer). Judged c.args.text.now r) c.in-IllFormed.is c.utf8-2.ensures)
+pub returns-in_err-best : goal.returns-in_err-best
+returns-in_err-best c = absurd (search_refused (measure_counted c.args.text.now (omega (arith, c.if-text-gt-TEXT_LIMIT.false)) c.in_default.ensures c.in_ok-counts.ensures) _ c.in_err-best.ensures)
 
-pub returns-in-Refused : goal.returns-in-Refused
-returns-in-Refused c = measure_refused c.args.text.now (omega (
-  arith,
-  c.if-text-gt-TEXT_LIMIT.false,
-))
-    (subst (λ (r : Utf8Answer). Judged c.args.text.now r) c.in-Done.is c.utf8-2.ensures) c.in-Refused.why
-    (rw c.in-Refused.is at c.walk.ensures)
-
-pub returns-in-Refused-searched : goal.returns-in-Refused-searched
-returns-in-Refused-searched c = absurd (search_refused (measure_counted c.args.text.now (omega (arith, c.if-text-gt-TEXT_LIMIT.false))
-    (subst (λ (r : Utf8Answer). Judged c.args.text.now r) c.in-Done.is c.utf8-2.ensures) c.in-Counts.records c.in-Counts.bytes
-    (rw c.in-Counts.is at c.walk.ensures) (zeroes_there _ 520 (omega arith) (omega arith)))
-    c.in-Refused-searched.why
-    (rw c.in-Refused-searched.is at c.searched.ensures))
-
-pub returns-in-Done-searched : goal.returns-in-Done-searched
-returns-in-Done-searched c = measure_answered (measure_counted c.args.text.now (omega (arith, c.if-text-gt-TEXT_LIMIT.false))
-    (subst (λ (r : Utf8Answer). Judged c.args.text.now r) c.in-Done.is c.utf8-2.ensures) c.in-Counts.records c.in-Counts.bytes
-    (rw c.in-Counts.is at c.walk.ensures) (zeroes_there _ 520 (omega arith) (omega arith))) _
-    (rw c.in-Done-searched.is at c.searched.ensures) _ c.answered-in-Done-searched.ensures
+pub returns : goal.returns
+returns c = measure_answered (measure_counted c.args.text.now (omega (arith, c.if-text-gt-TEXT_LIMIT.false)) c.in_default.ensures c.in_ok-counts.ensures) _ c.in_ok-best.ensures _ c.answered-2.ensures

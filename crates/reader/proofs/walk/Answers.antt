@@ -1,24 +1,20 @@
+use Rattle.std.proofs.lemmas.Result.{err_from_is_err_and}
 use Rattle.reader.proofs.WalkLaws.{walk_at, walk_seen, walk_breaks, walk_refused, walk_ended}
 use Rattle.reader.proofs.walk.Goals as goal
 
+pub returns-in_err-pass : goal.returns-in_err-pass
+returns-in_err-pass c = let p = err_from_is_err_and c.from_residual.result c.from_residual.ensures.1 in
+    rw (p.1, p.2) (walk_breaks _ _ c.in_err-pass.ensures)
+
 pub value-requires : goal.value-requires
-value-requires c = (
-  walk_at _ _ (rw c.in-Ended.is at c.pass.ensures) c.requires.0,
-  walk_seen _ _ (rw c.in-Ended.is at c.pass.ensures) _ c.requires.0 c.requires.1,
-)
+value-requires c = (walk_at _ _ c.in_ok-pass.ensures c.requires.0, walk_seen _ _ c.in_ok-pass.ensures _ c.requires.0 c.requires.1)
+
+pub returns-in_err-next : goal.returns-in_err-next
+returns-in_err-next c = let p = err_from_is_err_and c.from_residual-in_err-next.result c.from_residual-in_err-next.ensures.1 in
+    rw (p.1, p.2) (walk_refused _ _ c.in_ok-pass.ensures _ c.in_err-next.ensures)
 
 pub ended-requires : goal.ended-requires
-ended-requires c = let w = rw c.in-Value.is at c.value.ensures in
-    w.within
+ended-requires c = c.in_ok-next.ensures.within
 
-pub returns-in-NotGrammar : goal.returns-in-NotGrammar
-returns-in-NotGrammar c = walk_breaks _ _ (rw c.in-NotGrammar.is at c.pass.ensures)
-
-pub returns-in-Refused : goal.returns-in-Refused
-returns-in-Refused c = walk_refused _ _ (rw c.in-Ended.is at c.pass.ensures) c.in-Refused.why
-    (rw c.in-Refused.is at c.value.ensures)
-
-pub returns-in-Value : goal.returns-in-Value
-returns-in-Value c = let w = rw c.in-Value.is at c.value.ensures in
-    walk_ended _ _ (rw c.in-Ended.is at c.pass.ensures) _ _ _ _ _ _ _
-    c.requires.0 w c.ended.result c.ended.ensures
+pub returns : goal.returns
+returns c = walk_ended _ _ c.in_ok-pass.ensures _ _ _ _ _ _ _ c.requires.0 c.in_ok-next.ensures c.ended.result c.ended.ensures

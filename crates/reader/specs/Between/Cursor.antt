@@ -1,5 +1,6 @@
 -- What the cursor's methods promise, by their answer: values, arrays and objects (docs/FORMAT.md, 7). Assumes nothing.
-use Rattle.std.specs.Prelude.{◌≡◌, ◌⊎◌, List, [], ◌∷◌, ◌++◌, ℕ, suc, ◌+◌, ◌*◌, ◌-◌, ◌≤◌, ◌<◌, length, get_or, drop}
+use Rattle.std.specs.Prelude.{◌≡◌, ◌⊎◌, List, [], ◌∷◌, ◌++◌, ℕ, suc, ◌+◌, ◌*◌, ◌-◌, ◌≤◌, ◌<◌, length, get_or, drop, Result}
+use Rattle.std.specs.Prelude.{Ok, Err}
 use Rattle.std.proofs.Math.Option.{some}
 use Rattle.std.proofs.lemmas.List.Edits.{sets}
 use Rattle.meaning.specs.declared.Record.{Record}
@@ -23,13 +24,11 @@ use Rattle.tape.specs.Between.Putting.{put_record}
 use Rattle.reader.specs.Between.Scanning.{Goes, Hears, Tells, Refuses, Bare, Shut}
 use Rattle.reader.specs.Between.Repeat.{Keeping, Led}
 use Rattle.items.specs.declared.Item.{Item}
-use Rattle.items.specs.declared.Scanned.{Scanned}
+use Rattle.items.specs.Between.NumberOrTime.{Scanned}
 use Rattle.reader.specs.declared.cursor.Cursor.{Cursor}
-use Rattle.reader.specs.declared.cursor.Step.{Step}
 use Rattle.reader.specs.declared.cursor.Head.{Head}
 use Rattle.reader.specs.declared.cursor.Ahead.{Ahead}
 use Rattle.reader.specs.declared.cursor.After.{After}
-use Rattle.reader.specs.declared.cursor.Member.{Member}
 
 -- ---- items
 
@@ -67,14 +66,14 @@ abbrev pub Unwanted : List ℕ → ℕ → Refusal → Type 0
 Unwanted text p why = (d : ℕ) (k : List Frame) → Shut text p d k → Refuses text (at (base want) d k) p why
 
 abbrev pub ScalarSays : List ℕ → ℕ → ℕ → List ℕ → List ℕ → Scanned → Type 0
-ScalarSays text p start entry exit (Scanned.Item i q) = Scalar text p start entry exit i q
-ScalarSays text p start entry exit (Scanned.Refused why) = Unwanted text p why
+ScalarSays text p start entry exit (Ok t) = Scalar text p start entry exit t.value t.end
+ScalarSays text p start entry exit (Err why) = Unwanted text p why
 
 -- a word that means this item
 abbrev pub SpeltSays : List ℕ → ℕ → List ℕ → Item → Scanned → Type 0
-SpeltSays text p letters item (Scanned.Item i q) =
-    (ran_at word_scan text letters p ≡ ended tt q) × (q ≤ length text) × (i ≡ item)
-SpeltSays text p letters item (Scanned.Refused why) = ran_at word_scan text letters p ≡ broke why
+SpeltSays text p letters item (Ok t) =
+    (ran_at word_scan text letters p ≡ ended tt t.end) × (t.end ≤ length text) × (t.value ≡ item)
+SpeltSays text p letters item (Err why) = ran_at word_scan text letters p ≡ broke why
 
 -- a quote stands at p
 pub record Quoted (text : List ℕ) (p : ℕ) : Type 0 where
@@ -153,11 +152,11 @@ pub record OneItem (text : List ℕ) (c : Cursor) (entry exit : List ℕ) (i : I
   pub records : n.records ≡ c.records + 1
   pub stored : n.stored ≡ c.stored + item_bytes i
 
-abbrev pub HeadSays : List ℕ → Cursor → List ℕ → List ℕ → Head → Type 0
-HeadSays text c entry exit (Head.Item i n) = OneItem text c entry exit i n
-HeadSays text c entry exit (Head.Array n) = Opened text c square n × (exit ≡ entry)
-HeadSays text c entry exit (Head.Object n) = Opened text c curly n × (exit ≡ entry)
-HeadSays text c entry exit (Head.Refused why) = Unwanted text c.at why
+abbrev pub HeadSays : List ℕ → Cursor → List ℕ → List ℕ → Result Head Refusal → Type 0
+HeadSays text c entry exit (Ok (Head.Item i n)) = OneItem text c entry exit i n
+HeadSays text c entry exit (Ok (Head.Array n)) = Opened text c square n × (exit ≡ entry)
+HeadSays text c entry exit (Ok (Head.Object n)) = Opened text c curly n × (exit ≡ entry)
+HeadSays text c entry exit (Err why) = Unwanted text c.at why
 
 -- the byte that closes
 abbrev pub closer : Inside → ℕ
@@ -182,12 +181,12 @@ pub record Begins (text : List ℕ) (c : Cursor) (closing : ℕ) (n : Cursor) : 
   pub records : n.records ≡ c.records
   pub stored : n.stored ≡ c.stored
 
-abbrev pub AheadSays : List ℕ → Cursor → ℕ → Ahead → Type 0
-AheadSays text c closing (Ahead.Close n) =
+abbrev pub AheadSays : List ℕ → Cursor → ℕ → Result Ahead Refusal → Type 0
+AheadSays text c closing (Ok (Ahead.Close n)) =
     ((y : Inside) → closer y ≡ closing → (d : ℕ) (k : List Frame)
     → Tells text (within y d k) c.at (closing_of y) (closed y d k) n.at) × Moved text c n
-AheadSays text c closing (Ahead.More n) = Begins text c closing n
-AheadSays text c closing (Ahead.Refused why) =
+AheadSays text c closing (Ok (Ahead.More n)) = Begins text c closing n
+AheadSays text c closing (Err why) =
     (y : Inside) → closer y ≡ closing → (d : ℕ) (k : List Frame) → Refuses text (within y d k) c.at why
 
 -- in a frame whose container this byte closes, one more value makes of it what the function says
@@ -195,15 +194,15 @@ pub data Adds : Frame → ℕ → (Meaning → Inside) → Type 0 where
   element : {x : Meanings} → Adds (inside (elements x)) (ch "]") (λ m. elements (Meanings.more x m))
   member : {x : Members} {u : List ℕ} → Adds (pair x u) (ch "}") (λ m. members (Members.member x u m))
 
-abbrev pub AfterSays : List ℕ → Cursor → ℕ → After → Type 0
-AfterSays text c closing (After.Comma n) =
+abbrev pub AfterSays : List ℕ → Cursor → ℕ → Result After Refusal → Type 0
+AfterSays text c closing (Ok (After.Comma n)) =
     ((f : Frame) (y : Meaning → Inside) → Adds f closing y → (m : Meaning) (d : ℕ) (k : List Frame)
     → Goes text (at (base (got (value m))) d (f ∷ k)) c.at (within (y m) d k) n.at) × Moved text c n
-AfterSays text c closing (After.Close n) =
+AfterSays text c closing (Ok (After.Close n)) =
     ((f : Frame) (y : Meaning → Inside) → Adds f closing y → (m : Meaning) (d : ℕ) (k : List Frame)
     → Tells text (at (base (got (value m))) d (f ∷ k)) c.at (closing_of (y m)) (closed (y m) d k) n.at)
     × Moved text c n
-AfterSays text c closing (After.Refused why) =
+AfterSays text c closing (Err why) =
     (f : Frame) (y : Meaning → Inside) → Adds f closing y → (m : Meaning) (d : ℕ) (k : List Frame)
     → Refuses text (at (base (got (value m))) d (f ∷ k)) c.at why
 
@@ -218,9 +217,9 @@ pub record Coloned (text : List ℕ) (c n : Cursor) : Type 0 where
   pub bare : Bare text n.at
   pub moved : Moved text c n
 
-abbrev pub ColonSays : List ℕ → Cursor → ℕ → Member → Type 0
-ColonSays text c size (Member.Key n v) = Coloned text c v × (n ≡ size)
-ColonSays text c size (Member.Refused why) =
+abbrev pub ColonSays : List ℕ → Cursor → Result Cursor Refusal → Type 0
+ColonSays text c (Ok v) = Coloned text c v
+ColonSays text c (Err why) =
     (x : Members) (u : List ℕ) (d : ℕ) (k : List Frame)
     → Refuses text (at (base (got (key u))) d (inside (members x) ∷ k)) c.at why
 
@@ -241,9 +240,9 @@ pub record Named (text : List ℕ) (c : Cursor) (first : ℕ) (entry exit : List
   pub past : c.at + 1 < v.at
   pub within : v.at ≤ length text
 
-abbrev pub MemberSays : List ℕ → Cursor → List ℕ → List ℕ → Member → Type 0
-MemberSays text c entry exit (Member.Key n v) = Named text c c.at entry exit n v
-MemberSays text c entry exit (Member.Refused why) =
+abbrev pub MemberSays : List ℕ → Cursor → List ℕ → List ℕ → Result (ℕ × Cursor) Refusal → Type 0
+MemberSays text c entry exit (Ok (n, v)) = Named text c c.at entry exit n v
+MemberSays text c entry exit (Err why) =
     (x : Members) (d : ℕ) (k : List Frame) → Refuses text (within (members x) d k) c.at why
 
 -- a member begins: its key and its colon, with the key's record put and the key noted
@@ -257,13 +256,14 @@ pub record MemberBegins (text : List ℕ) (c : Cursor) (tape tape' store store' 
       → Led text seen' v.at f s (named first key_is.u ∷ [])
 
 -- in an object where a member may stand
-abbrev pub MemberAheadSays : List ℕ → Cursor → List ℕ → List ℕ → List ℕ → List ℕ → List ℕ → List ℕ → Ahead → Type 0
-MemberAheadSays text c tape tape' store store' seen seen' (Ahead.Close n) =
-    AheadSays text c (ch "}") (Ahead.Close n) × (tape' ≡ tape) × (store' ≡ store) × (seen' ≡ seen)
-MemberAheadSays text c tape tape' store store' seen seen' (Ahead.More v) =
+abbrev pub MemberAheadSays : List ℕ → Cursor → List ℕ → List ℕ → List ℕ → List ℕ → List ℕ → List ℕ
+    → Result Ahead Refusal → Type 0
+MemberAheadSays text c tape tape' store store' seen seen' (Ok (Ahead.Close n)) =
+    AheadSays text c (ch "}") (Ok (Ahead.Close n)) × (tape' ≡ tape) × (store' ≡ store) × (seen' ≡ seen)
+MemberAheadSays text c tape tape' store store' seen seen' (Ok (Ahead.More v)) =
     MemberBegins text c tape tape' store store' seen seen' v
-MemberAheadSays text c tape tape' store store' seen seen' (Ahead.Refused why) =
-    AheadSays text c (ch "}") (Ahead.Refused why)
+MemberAheadSays text c tape tape' store store' seen seen' (Err why) =
+    AheadSays text c (ch "}") (Err why)
 
 -- ---- values
 
@@ -306,29 +306,19 @@ abbrev pub Left : List ℕ → (List Frame → Conf) → (List Frame → Type 0)
 Left text start ok p why = (k : List Frame) → ok k → Refuses text (start k) p why
 
 abbrev pub Says : List ℕ → (List Frame → Conf) → (List Frame → Type 0) → ℕ → List Event → Stood → Cursor
-    → List ℕ → List ℕ → List ℕ → List ℕ → List ℕ → Step → Type 0
-Says text start ok top heard stood c tape tape' store store' seen' (Step.Value n) =
+    → List ℕ → List ℕ → List ℕ → List ℕ → List ℕ → Result Cursor Refusal → Type 0
+Says text start ok top heard stood c tape tape' store store' seen' (Ok n) =
     Took text start top heard stood c tape tape' store store' seen' n
-Says text start ok top heard stood c tape tape' store store' seen' (Step.Refused why) = Left text start ok c.at why
+Says text start ok top heard stood c tape tape' store store' seen' (Err why) = Left text start ok c.at why
 
 -- after a container's closing bracket: its own record is put; an object's keys leave the table
-abbrev pub ArrayClosed : Cursor → ℕ → ℕ → List ℕ → List ℕ → Step → Type 0
+abbrev pub ArrayClosed : Cursor → ℕ → ℕ → List ℕ → List ℕ → Cursor → Type 0
 ArrayClosed c own count tape tape' r =
-    (r ≡ Step.Value c) × (tape' ≡ put_record tape own (Record.Array count c.records))
+    (r ≡ c) × (tape' ≡ put_record tape own (Record.Array count c.records))
 
-abbrev pub ObjectClosed : Cursor → ℕ → ℕ → List ℕ → List ℕ → List ℕ → List ℕ → Step → Type 0
+abbrev pub ObjectClosed : Cursor → ℕ → ℕ → List ℕ → List ℕ → List ℕ → List ℕ → Cursor → Type 0
 ObjectClosed c own count tape tape' seen seen' r =
-    (r ≡ Step.Value c) × (tape' ≡ put_record tape own (Record.Object count c.records)) × Does shallower seen seen'
-
--- where a value has been read, what has been put is no more than what has been passed
-abbrev pub StepReady : List ℕ → Step → Type 0
-StepReady text (Step.Value n) = Ready text n
-StepReady text (Step.Refused why) = Unit {0}
-
--- after the value of an element or a member, or with the refusal that stood in its place
-abbrev pub FollowedSays : List ℕ → Step → ℕ → After → Type 0
-FollowedSays text (Step.Value n) closing r = AfterSays text n closing r
-FollowedSays text (Step.Refused why) closing r = r ≡ After.Refused why
+    (r ≡ c) × (tape' ≡ put_record tape own (Record.Object count c.records)) × Does shallower seen seen'
 
 -- where a value is wanted
 abbrev pub wants : ℕ → List Frame → Conf
@@ -342,13 +332,14 @@ abbrev pub always : List Frame → Type 0
 always k = Unit {0}
 
 -- what `value` promises, and what `array` and `object` do
-abbrev pub ValueSays : List ℕ → ℕ → Cursor → List ℕ → List ℕ → List ℕ → List ℕ → List ℕ → List ℕ → Step → Type 0
+abbrev pub ValueSays : List ℕ → ℕ → Cursor → List ℕ → List ℕ → List ℕ → List ℕ → List ℕ → List ℕ
+    → Result Cursor Refusal → Type 0
 ValueSays text depth c tape tape' store store' seen seen' r =
     Says text (wants depth) (λ k. Shut text c.at depth k) depth [] (keeping text seen c) c tape tape' store store'
     seen' r
 
-abbrev pub InsideSays : List ℕ → Bracket → ℕ → Cursor → List ℕ → List ℕ → List ℕ → List ℕ → List ℕ → List ℕ → Step
-    → Type 0
+abbrev pub InsideSays : List ℕ → Bracket → ℕ → Cursor → List ℕ → List ℕ → List ℕ → List ℕ → List ℕ → List ℕ
+    → Result Cursor Refusal → Type 0
 InsideSays text b depth c tape tape' store store' seen seen' r =
     Says text (bare_in b depth) always (suc depth) (opening_of b) (keeping_before text seen c) c tape tape' store store'
     seen'

@@ -1,7 +1,9 @@
 -- What the readers of strings, binary and keys (docs/FORMAT.md, 3.5, 4 and 7.2) promise. Assumes nothing.
-use Rattle.std.specs.Prelude.{◌≡◌, List, [], ◌∷◌, ℕ, ◌≤◌, ◌<◌, length, get_or, drop}
+use Rattle.std.specs.Prelude.{◌≡◌, List, [], ◌∷◌, ℕ, ◌≤◌, ◌<◌, length, get_or, drop, Result, Ok, Err}
 use Rattle.meaning.specs.declared.Refusal.{Refusal}
-use Rattle.meaning.specs.declared.Refusal.TheVariants.{NotGrammar}
+use Rattle.meaning.specs.declared.Refusal.TheVariants as refusal
+use Rattle.items.specs.declared.NotGrammar.{NotGrammar}
+use Rattle.items.specs.declared.Taken.{Taken}
 use Rattle.machine.specs.Machine.{Use, Item, string_part, binary_part, Got, binary, key, Base, want_key, got}
 use Rattle.machine.specs.Machine.{base, item, Frame, at, class_of, plus_c, plus_after}
 use Rattle.machine.specs.Heard.{starts}
@@ -13,7 +15,6 @@ use Rattle.items.specs.Between.PlacedPart.{Meant, Ended}
 use Rattle.reader.specs.Between.Scanning.{Goes, Hears, Refuses, Faults, Bare, Shut}
 use Rattle.reader.specs.declared.joined.Join.{Join}
 use Rattle.reader.specs.declared.joined.Link.{Link}
-use Rattle.reader.specs.declared.joined.Bytes.{Bytes}
 
 -- no plus stands at p
 abbrev pub Plusless : List ℕ → ℕ → Type 0
@@ -43,16 +44,13 @@ abbrev pub Stray : List ℕ → ℕ → Refusal → Type 0
 Stray text p why =
     (g : Got) (s : Base) → Plus g s → (d : ℕ) (k : List Frame) → Faults text (at (base (got g)) d k) p why
 
-abbrev pub JoinSays : List ℕ → ℕ → Join → Type 0
-JoinSays text p (Join.Next q) = Joining text p q
-JoinSays text p (Join.Last q) = Alone text p q
-JoinSays text p (Join.NotGrammar q) = Stray text p (NotGrammar q)
+abbrev pub FollowsSays : List ℕ → ℕ → Join → Type 0
+FollowsSays text p (Join.Next q) = Joining text p q
+FollowsSays text p (Join.Last q) = Alone text p q
 
--- a part of n bytes, by what follows it
-abbrev pub link_of : ℕ → Join → Link
-link_of n (Join.Next q) = Link.Next n q
-link_of n (Join.Last q) = Link.Last n q
-link_of n (Join.NotGrammar q) = Link.Refused (NotGrammar q)
+abbrev pub JoinSays : List ℕ → ℕ → Result Join NotGrammar → Type 0
+JoinSays text p (Ok j) = FollowsSays text p j
+JoinSays text p (Err e) = Stray text p (refusal.NotGrammar e.place)
 
 -- a part at its place in the text, and what follows it
 module _ {S : Type 0} (scan : ℕ → S → ℕ → Out S (List ℕ)) (begin : S) where
@@ -68,10 +66,9 @@ module _ {S : Type 0} (scan : ℕ → S → ℕ → Out S (List ℕ)) (begin : S
     after_part : {n : ℕ} → Linked text p start entry exit n (λ q. Stray text q why)
         → Unlinked text p start entry exit why
 
-  abbrev pub LinkSays : List ℕ → ℕ → ℕ → List ℕ → List ℕ → Link → Type 0
-  LinkSays text p start entry exit (Link.Next n r) = Linked text p start entry exit n (λ q. Joining text q r)
-  LinkSays text p start entry exit (Link.Last n r) = Linked text p start entry exit n (λ q. Alone text q r)
-  LinkSays text p start entry exit (Link.Refused why) = Unlinked text p start entry exit why
+  abbrev pub LinkSays : List ℕ → ℕ → ℕ → List ℕ → List ℕ → Result Link Refusal → Type 0
+  LinkSays text p start entry exit (Ok l) = Linked text p start entry exit l.bytes (λ q. FollowsSays text q l.follows)
+  LinkSays text p start entry exit (Err why) = Unlinked text p start entry exit why
 
 -- joined parts, from where the first begins; A tells apart what they are joined to
 pub record Joined (A : Type 0) (part : A → List ℕ → Item) (whole : A → List ℕ → Got)
@@ -85,9 +82,9 @@ pub record Joined (A : Type 0) (part : A → List ℕ → Item) (whole : A → L
   pub plusless : Plusless text q
 
 abbrev pub BytesSays : (A : Type 0) → (A → List ℕ → Item) → (A → List ℕ → Got)
-    → List ℕ → ℕ → ℕ → List ℕ → List ℕ → Bytes → Type 0
-BytesSays A part whole text p start entry exit (Bytes.Whole n q) = Joined A part whole text p start entry exit q n
-BytesSays A part whole text p start entry exit (Bytes.Refused why) =
+    → List ℕ → ℕ → ℕ → List ℕ → List ℕ → Result (Taken ℕ) Refusal → Type 0
+BytesSays A part whole text p start entry exit (Ok t) = Joined A part whole text p start entry exit t.end t.value
+BytesSays A part whole text p start entry exit (Err why) =
     (a : A) (d : ℕ) (k : List Frame) → Refuses text (at (item (part a [])) d k) p why
 
 abbrev pub string_part_of : Use → List ℕ → Item
@@ -107,7 +104,7 @@ pub record Keyed (text : List ℕ) (p start : ℕ) (entry exit : List ℕ) (q n 
   pub meant : Meant start entry exit u n p q
   pub within : q ≤ length text
 
-abbrev pub KeySays : List ℕ → ℕ → ℕ → List ℕ → List ℕ → Bytes → Type 0
-KeySays text p start entry exit (Bytes.Whole n q) = Keyed text p start entry exit q n
-KeySays text p start entry exit (Bytes.Refused why) =
+abbrev pub KeySays : List ℕ → ℕ → ℕ → List ℕ → List ℕ → Result (Taken ℕ) Refusal → Type 0
+KeySays text p start entry exit (Ok t) = Keyed text p start entry exit t.end t.value
+KeySays text p start entry exit (Err why) =
     (d : ℕ) (k : List Frame) → Shut text p d k → Refuses text (at (base want_key) d k) p why

@@ -1,7 +1,7 @@
 -- What the functions that spell a key (docs/FORMAT.md, 7.2) promise: the bytes that it means, one at a time. All is
 -- said of every key that the machine hears from there on; where it hears none, nothing is. Assumes nothing.
 use Rattle.std.specs.Prelude.{◌≡◌, Bool, true, false, List, [], ◌∷◌, ◌++◌, ℕ, ◌+◌, ◌*◌, ◌-◌, ◌≤◌, ◌<◌, length, drop}
-use Rattle.std.specs.Prelude.{get_or}
+use Rattle.std.specs.Prelude.{get_or, Option, Some, None}
 use Rattle.std.proofs.Math.Option.{some}
 use Rattle.rules.specs.Rfc3629.{encode}
 use Rattle.machine.specs.Scan.{ended, ran}
@@ -12,7 +12,6 @@ use Rattle.machine.specs.Machine.{as_key, string, key, got, base, Conf, at}
 use Rattle.machine.specs.Heard.{tell, key_heard}
 use Rattle.reader.specs.declared.spelling.Spelling.{Spelling}
 use Rattle.reader.specs.declared.spelling.Spelt.{Spelt}
-use Rattle.reader.specs.declared.spelling.Letter.{Letter}
 
 -- ---- a character
 
@@ -105,10 +104,10 @@ StepFromSays text most From Spelt.Over = (e u : List ℕ) → From e u → e ≡
 abbrev pub StepSays : List ℕ → Spelling → Spelt → Type 0
 StepSays text s = StepFromSays text (to_come text s) (Spells text s)
 
-abbrev pub LetterSays : List ℕ → Spelling → Letter → Type 0
-LetterSays text s (Letter.Byte b t) =
+abbrev pub LetterSays : List ℕ → Spelling → Option (ℕ × Spelling) → Type 0
+LetterSays text s (Some (b, t)) =
     Further text (to_come text s) t × ((e u : List ℕ) → Spells text s e u → Spells text t (e ++ (b ∷ [])) u)
-LetterSays text s Letter.Over = (e u : List ℕ) → Spells text s e u → e ≡ u
+LetterSays text s None = (e u : List ℕ) → Spells text s e u → e ≡ u
 
 -- three quotes stand at p, or not
 abbrev pub ThreeSays : List ℕ → ℕ → ℕ → Bool → Type 0

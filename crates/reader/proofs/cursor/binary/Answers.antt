@@ -1,10 +1,10 @@
+use Rattle.std.proofs.lemmas.Result.{err_from_is_err_and}
 use Rattle.reader.proofs.CursorHeadLaws.{binary_whole, binary_refused}
 use Rattle.reader.proofs.cursor.binary.Goals as goal
 
-pub returns-in-Refused : goal.returns-in-Refused
-returns-in-Refused c = binary_refused c.args.text.now c.args.at c.args.start c.args.store.now c.requires.0 c.requires.1 c.in-Refused.why
-    (rw c.in-Refused.is at c.binary.ensures)
+pub returns-in_err-bytes : goal.returns-in_err-bytes
+returns-in_err-bytes c = let p = err_from_is_err_and c.from_residual.result c.from_residual.ensures.1 in
+    rw (p.1, p.2) (binary_refused c.args.text.now c.args.at c.args.start c.args.store.now c.requires.0 c.requires.1 _ c.in_err-bytes.ensures)
 
-pub returns-in-Whole : goal.returns-in-Whole
-returns-in-Whole c = binary_whole c.args.text.now c.args.at c.args.start c.args.store.now c.requires.0 c.requires.1 _ c.in-Whole.end
-    c.in-Whole.n (rw c.in-Whole.is at c.binary.ensures)
+pub returns : goal.returns
+returns c = binary_whole c.args.text.now c.args.at c.args.start c.args.store.now c.requires.0 c.requires.1 _ _ _ c.in_ok-bytes.ensures

@@ -1,8 +1,10 @@
 use mathlib.Core.Path.{refl}
+use Rattle.std.proofs.lemmas.Result.{err_from_is_err_and}
 use Rattle.reader.proofs.cursor.spelt.Goals as goal
 
-pub returns-in-NotGrammar : goal.returns-in-NotGrammar
-returns-in-NotGrammar c = let w = rw c.in-NotGrammar.is at c.spell.ensures in w.0
+pub returns-in_err-end : goal.returns-in_err-end
+returns-in_err-end c = let p = err_from_is_err_and c.from_residual.result c.from_residual.ensures.1 in
+    rw (p.1, p.2) (c.in_err-end.ensures.0)
 
-pub returns-in-Whole : goal.returns-in-Whole
-returns-in-Whole c = let w = rw c.in-Whole.is at c.spell.ensures in (w.0, w.1, refl)
+pub returns : goal.returns
+returns c = (c.in_ok-end.ensures.0, c.in_ok-end.ensures.1, refl)

@@ -5,8 +5,8 @@ use Rattle.reader.specs.Between.Joined.{binary_part_of}
 use Rattle.reader.proofs.JoinedLaws.{Parts}
 use Rattle.reader.proofs.joined.binary.Given as goal
 
-abbrev pub invariant-loop-why : goal.invariant-loop-why
-invariant-loop-why l = Parts Unit binary_part_of l.text l.from l.start l.initial.store l.store l.at l.out × (length l.store ≡ length l.initial.store)
+abbrev pub invariant-loop-part : goal.invariant-loop-part
+invariant-loop-part l = Parts Unit binary_part_of l.text l.from l.start l.initial.store l.store l.at l.out × (length l.store ≡ length l.initial.store)
 
-abbrev pub decreases-loop-why : goal.decreases-loop-why
-decreases-loop-why l = length l.text - l.at
+abbrev pub decreases-loop-part : goal.decreases-loop-part
+decreases-loop-part l = length l.text - l.at

@@ -1,13 +1,15 @@
+use Rattle.std.proofs.lemmas.Result.{err_from_is_err_and}
 use Rattle.reader.specs.Between.Joined.{in_part}
-use Rattle.reader.proofs.JoinedLaws.{part_linked}
+use Rattle.reader.proofs.JoinedLaws.{part_linked, part_strays}
 use Rattle.reader.proofs.joined.binary_part.Goals as goal
 
-pub after_part-requires : goal.after_part-requires
-after_part-requires c = let w = rw c.in-Closed.is at c.read_part.ensures in w.within
+pub returns-in_err-part : goal.returns-in_err-part
+returns-in_err-part c = let p = err_from_is_err_and c.from_residual.result c.from_residual.ensures.1 in
+    rw (p.1, p.2) (in_part c.in_err-part.ensures)
 
-pub returns-in-NotGrammar : goal.returns-in-NotGrammar
-returns-in-NotGrammar c = in_part (rw c.in-NotGrammar.is at c.read_part.ensures)
+pub returns-in_err-follows : goal.returns-in_err-follows
+returns-in_err-follows c = let p = err_from_is_err_and c.from_residual-in_err-follows.result c.from_residual-in_err-follows.ensures.1 in
+    rw (p.1, p.2) (part_strays c.in_ok-part.ensures c.in_err-follows.ensures)
 
-pub returns-in-Closed : goal.returns-in-Closed
-returns-in-Closed c = let w = rw c.in-Closed.is at c.read_part.ensures in
-    rw c.link_of.ensures (part_linked w c.after_part.result c.after_part.ensures)
+pub returns : goal.returns
+returns c = part_linked c.in_ok-part.ensures _ c.in_ok-follows.ensures

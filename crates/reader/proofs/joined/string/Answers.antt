@@ -1,40 +1,34 @@
 use borrow.Author.Rules.{rules}
 use native.Mathlib.Omega.{arith}
 use mathlib.Core.Path.{refl}
+use Rattle.std.proofs.lemmas.Result.{err_from_is_err_and}
 use Rattle.machine.specs.Machine.{Use}
 use Rattle.reader.specs.Between.Joined.{string_part_of}
 use Rattle.reader.proofs.JoinedLaws.{strings, no_part, parts_refused, parts_short, parts_last, parts_next, parts_further}
 use Rattle.reader.proofs.joined.string.Goals as goal
 
-pub loop-why-init : goal.loop-why-init
-loop-why-init c = (no_part Use string_part_of c.args.text.now c.args.from c.args.start c.args.store.now (omega arith), refl)
+pub loop-part-init : goal.loop-part-init
+loop-part-init c = (no_part Use string_part_of c.args.text.now c.args.from c.args.start c.args.store.now (omega arith), refl)
 
 pub string_part-requires : goal.string_part-requires
-string_part-requires c = (c.loop-why.invariant.0.within, omega (arith, c.loop-why.invariant.0.placed, c.loop-why.invariant.0.room, c.requires))
+string_part-requires c = (c.loop-part.invariant.0.within, omega (arith, c.loop-part.invariant.0.placed, c.loop-part.invariant.0.room, c.requires))
 
-pub returns-in-Refused : goal.returns-in-Refused
-returns-in-Refused c = let w = rw c.in-Refused.is at c.string_part.ensures in
-    parts_refused strings c.loop-why.invariant.0 c.in-Refused.why w
-
-pub overflow_add-result : goal.overflow_add-result
-overflow_add-result c = let w = rw c.in-Last.is at c.string_part.ensures in
-    omega (arith, parts_short strings c.loop-why.invariant.0 c.requires.1 w)
-
-pub overflow_sub-result : goal.overflow_sub-result
-overflow_sub-result c = omega (arith, c.loop-why.invariant.0.placed)
-
-pub returns-in-Last : goal.returns-in-Last
-returns-in-Last c = let w = rw c.in-Last.is at c.string_part.ensures in
-    parts_last strings c.loop-why.invariant.0 _ (omega (arith, c.loop-why.invariant.0.placed)) w
+pub returns-in_err-part : goal.returns-in_err-part
+returns-in_err-part c = let p = err_from_is_err_and c.from_residual.result c.from_residual.ensures.1 in
+    rw (p.1, p.2) (parts_refused strings c.loop-part.invariant.0 _ c.in_err-part.ensures)
 
 pub overflow_add-out : goal.overflow_add-out
-overflow_add-out c = let w = rw c.in-Next.is at c.string_part.ensures in
-    omega (arith, parts_short strings c.loop-why.invariant.0 c.requires.1 w)
+overflow_add-out c = omega (arith, parts_short strings c.loop-part.invariant.0 c.requires.1 c.in_ok-part.ensures)
 
-pub loop-why-smaller : goal.loop-why-smaller
-loop-why-smaller c = let w = rw c.in-Next.is at c.string_part.ensures in
-    parts_further strings c.loop-why.invariant.0 w
+pub overflow_sub-result : goal.overflow_sub-result
+overflow_sub-result c = omega (arith, c.loop-part.invariant.0.placed)
 
-pub loop-why-preserved : goal.loop-why-preserved
-loop-why-preserved c = let w = rw c.in-Next.is at c.string_part.ensures in
-    (parts_next strings c.loop-why.invariant.0 w, search rules)
+pub returns-in-Last : goal.returns-in-Last
+returns-in-Last c = parts_last strings c.loop-part.invariant.0 _ (omega (arith, c.loop-part.invariant.0.placed))
+    (simp c.in-Last.is at c.in_ok-part.ensures)
+
+pub loop-part-smaller : goal.loop-part-smaller
+loop-part-smaller c = parts_further strings c.loop-part.invariant.0 (simp c.in-Next.is at c.in_ok-part.ensures)
+
+pub loop-part-preserved : goal.loop-part-preserved
+loop-part-preserved c = (parts_next strings c.loop-part.invariant.0 (simp c.in-Next.is at c.in_ok-part.ensures), search rules)

@@ -1,11 +1,6 @@
 -- `layout::blanks`: the bytes passed so far are blanks. Assumes nothing.
-use Prim.Native.Nat.{◌-◌}
-use lib.ListN.{length}
 use Rattle.reader.proofs.LayoutLaws.{Passing}
 use Rattle.reader.proofs.layout.blanks.Given as goal
 
 abbrev pub invariant-loop-at : goal.invariant-loop-at
 invariant-loop-at l = Passing l.text l.from l.at
-
-abbrev pub decreases-loop-at : goal.decreases-loop-at
-decreases-loop-at l = length l.text - l.at

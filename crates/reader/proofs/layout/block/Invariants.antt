@@ -1,6 +1,4 @@
-use Prim.Native.Nat.{◌-◌}
 use lib.Dec.{eqb}
-use lib.ListN.{length}
 use Rattle.meaning.specs.Letters.{ch}
 use Rattle.machine.specs.Machine.{block}
 use Rattle.reader.proofs.LayoutLaws.{Noting}
@@ -9,6 +7,3 @@ use Rattle.reader.proofs.layout.block.Given as goal
 
 abbrev pub invariant-loop-at : goal.invariant-loop-at
 invariant-loop-at l = Noting l.text block (blocked (eqb l.last (ch "*"))) l.from l.at
-
-abbrev pub decreases-loop-at : goal.decreases-loop-at
-decreases-loop-at l = length l.text - l.at

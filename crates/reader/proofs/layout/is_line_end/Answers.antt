@@ -1,12 +1,10 @@
+use native.Mathlib.Omega.{arith}
 use Rattle.rules.specs.Between.Tests.{holds, fails}
-use Rattle.reader.proofs.ScanningClassLaws.{not_line_end}
+use Rattle.reader.proofs.ScanningClassLaws.{ends_line, not_line_end}
 use Rattle.reader.proofs.layout.is_line_end.Goals as goal
 
-pub returns-then-b-eq10 : goal.returns-then-b-eq10
-returns-then-b-eq10 c = holds (rw c.if-b-eq10.true)
+pub returns-in-10 : goal.returns-in-10
+returns-in-10 c = holds (ends_line c.args.b (λ i. omega (arith, c.in-10.is)))
 
-pub returns-then-b-eq13 : goal.returns-then-b-eq13
-returns-then-b-eq13 c = holds (rw c.if-b-eq13.true)
-
-pub returns : goal.returns
-returns c = fails (not_line_end c.args.b c.if-b-eq10.false c.if-b-eq13.false)
+pub returns-in_default : goal.returns-in_default
+returns-in_default c = fails (not_line_end c.args.b (grind arith) (grind arith))

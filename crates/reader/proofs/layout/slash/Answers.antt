@@ -7,11 +7,11 @@ use Rattle.reader.proofs.layout.slash.Goals as goal
 pub returns-then-at-text : goal.returns-then-at-text
 returns-then-at-text c = note_unended (noting slash c.args.at (omega arith)) (omega arith) (λ s d k. refl)
 
-pub returns-then-b-eq47 : goal.returns-then-b-eq47
-returns-then-b-eq47 c = says_then (slash_line (omega arith) c.if-b-eq47.true) c.line.result c.line.ensures
+pub returns-in-47 : goal.returns-in-47
+returns-in-47 c = says_then (slash_line (omega arith) c.in-47.is) c.line.result c.line.ensures
 
-pub returns-then-b-eq42 : goal.returns-then-b-eq42
-returns-then-b-eq42 c = says_then (slash_block (omega arith) c.if-b-eq42.true) c.block.result c.block.ensures
+pub returns-in-42 : goal.returns-in-42
+returns-in-42 c = says_then (slash_block (omega arith) c.in-42.is) c.block.result c.block.ensures
 
-pub returns : goal.returns
-returns c = slash_breaks c.args.text.now c.args.at (omega arith) c.if-b-eq47.false c.if-b-eq42.false
+pub returns-in_default : goal.returns-in_default
+returns-in_default c = slash_breaks c.args.text.now c.args.at (omega arith) (grind arith) (grind arith)

@@ -4,24 +4,24 @@ use Rattle.reader.proofs.RepeatLaws.{seeking_past, seeking_past_tag, seeking_end
 use Rattle.reader.proofs.repeat.repeated.Goals as goal
 use Rattle.reader.proofs.repeat.repeated.Goals.{then-tag_of-tag+else-same_key, else-tag_of-tag}
 
-pub newest-i-requires : goal.newest-i-requires
-newest-i-requires c = seeks_sane c.args.text.now c.args.seen.now c.args.at
+pub newest-slot-requires : goal.newest-slot-requires
+newest-slot-requires c = seeks_sane c.args.text.now c.args.seen.now c.args.at
     c.args.tag c.requires
 
-pub loop-i-init : goal.loop-i-init
-loop-i-init c = seeking_begins c.args.text.now c.args.seen.now c.args.at
-    c.args.tag c.requires _ c.newest-i.ensures
+pub loop-slot-init : goal.loop-slot-init
+loop-slot-init c = seeking_begins c.args.text.now c.args.seen.now c.args.at
+    c.args.tag c.requires _ c.newest-slot.ensures
 
 pub tag_of-requires : goal.tag_of-requires
 tag_of-requires c = seeking_stands c.args.text.now c.args.seen.now
     c.args.at c.args.tag
-    c.requires c.loop-i.i c.loop-i.invariant c.loop-i-test.true
+    c.requires _ (rw c.in-Some.is at c.loop-slot.invariant)
 
 pub place_of-place-requires : goal.place_of-place-requires
 place_of-place-requires c = seeking_stands c.args.text.now
     c.args.seen.now c.args.at
     c.args.tag c.requires
-    c.loop-i.i c.loop-i.invariant c.loop-i-test.true
+    _ (rw c.in-Some.is at c.loop-slot.invariant)
 
 pub overflow_cast-place : goal.overflow_cast-place
 overflow_cast-place c = omega (
@@ -31,50 +31,46 @@ overflow_cast-place c = omega (
       c.args.seen.now
       c.args.at
       c.args.tag
-      c.requires c.loop-i.i
-      c.loop-i.invariant c.loop-i-test.true _ c.place_of-place.ensures,
+      c.requires _ (rw c.in-Some.is at c.loop-slot.invariant) _ c.place_of-place.ensures,
 )
 
 pub same_key-requires : goal.same_key-requires
 same_key-requires c = seeking_inside c.args.text.now
     c.args.seen.now
     c.args.at c.args.tag
-    c.requires c.loop-i.i
-    c.loop-i.invariant c.loop-i-test.true _ c.place_of-place.ensures
+    c.requires _ (rw c.in-Some.is at c.loop-slot.invariant) _ c.place_of-place.ensures
 
 pub returns-then-same_key : goal.returns-then-same_key
 returns-then-same_key c = seeking_finds c.args.text.now
     c.args.seen.now
     c.args.at
     c.args.tag
-    c.requires c.loop-i.i
-    c.loop-i.invariant c.loop-i-test.true _
+    c.requires _ (rw c.in-Some.is at c.loop-slot.invariant) _
     c.place_of-place.ensures _ c.same_key.ensures c.if-same_key.true
 
-pub earlier-i-requires : goal.earlier-i-requires
-earlier-i-requires c = seeking_stands c.args.text.now
+pub earlier-slot-requires : goal.earlier-slot-requires
+earlier-slot-requires c = seeking_stands c.args.text.now
     c.args.seen.now c.args.at
     c.args.tag c.requires
-    c.loop-i.i c.loop-i.invariant c.loop-i-test.true
+    _ (rw c.in-Some.is at c.loop-slot.invariant)
 
-pub loop-i-smaller : goal.loop-i-smaller
-loop-i-smaller c = seeking_falls c.args.text.now
+pub loop-slot-smaller : goal.loop-slot-smaller
+loop-slot-smaller c = rw c.in-Some.is (seeking_falls c.args.text.now
     c.args.seen.now
     c.args.at c.args.tag
-    c.requires c.loop-i.i
-    c.loop-i.invariant c.loop-i-test.true _ c.earlier-i.ensures
+    c.requires _ (rw c.in-Some.is at c.loop-slot.invariant) _ c.earlier-slot.ensures)
 
-pub loop-i-preserved : goal.loop-i-preserved
-loop-i-preserved c = elim c.if-tag_of-tag.branch [
+pub loop-slot-preserved : goal.loop-slot-preserved
+loop-slot-preserved c = elim c.if-tag_of-tag.branch [
   | then-tag_of-tag+else-same_key w ↦ seeking_past c.args.text.now c.args.seen.now c.args.at c.args.tag c.requires
-      c.loop-i.i c.loop-i.invariant c.loop-i-test.true _ _ _
-      w.place_of-place.ensures w.same_key.ensures w.if-same_key.false c.earlier-i.ensures
+      _ (rw c.in-Some.is at c.loop-slot.invariant) _ _ _
+      w.place_of-place.ensures w.same_key.ensures w.if-same_key.false c.earlier-slot.ensures
   | else-tag_of-tag w ↦ seeking_past_tag c.args.text.now c.args.seen.now c.args.at c.args.tag c.requires
-      c.loop-i.i c.loop-i.invariant c.loop-i-test.true _ _
-      c.tag_of.ensures w.if-tag_of-tag.false c.earlier-i.ensures
+      _ (rw c.in-Some.is at c.loop-slot.invariant) _ _
+      c.tag_of.ensures w.if-tag_of-tag.false c.earlier-slot.ensures
 ]
 
 pub returns : goal.returns
 returns c = seeking_ends c.args.text.now c.args.seen.now
     c.args.at c.args.tag
-    c.requires c.loop-i.i c.loop-i.invariant c.loop-i-test.false
+    c.requires (rw c.in_default.is at c.loop-slot.invariant)

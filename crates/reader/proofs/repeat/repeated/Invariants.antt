@@ -1,8 +1,9 @@
+use Rattle.std.specs.Prelude.{unwrap_or}
 use Rattle.reader.proofs.RepeatLaws.{Seeking}
 use Rattle.reader.proofs.repeat.repeated.Given as goal
 
-abbrev pub invariant-loop-i : goal.invariant-loop-i
-invariant-loop-i l = Seeking l.text l.seen l.at l.tag l.i
+abbrev pub invariant-loop-slot : goal.invariant-loop-slot
+invariant-loop-slot l = Seeking l.text l.seen l.at l.tag l.slot
 
-abbrev pub decreases-loop-i : goal.decreases-loop-i
-decreases-loop-i l = l.i
+abbrev pub decreases-loop-slot : goal.decreases-loop-slot
+decreases-loop-slot l = unwrap_or l.slot 0

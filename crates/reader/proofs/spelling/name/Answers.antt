@@ -1,3 +1,4 @@
+use mathlib.Core.Logic.{inl, inr}
 use Rattle.reader.proofs.SpellingLaws.{name_over, name_stops, name_letter, name_figure}
 use Rattle.reader.proofs.spelling.name.Goals as goal
 
@@ -9,9 +10,7 @@ returns-in-Neither c = name_stops c.args.text.now c.args.at
     c.if-at-text.false (rw c.in-Neither.is at c.sort_of.ensures)
 
 pub returns-in-Letter : goal.returns-in-Letter
-returns-in-Letter c = name_letter c.args.text.now c.args.at
-    c.if-at-text.false (rw c.in-Letter.is at c.sort_of.ensures)
-
-pub returns-in-Figure : goal.returns-in-Figure
-returns-in-Figure c = name_figure c.args.text.now c.args.at
-    c.if-at-text.false (rw c.in-Figure.is at c.sort_of.ensures)
+returns-in-Letter c = elim c.in-Letter.is [
+  | inl e ↦ name_letter c.args.text.now c.args.at c.if-at-text.false (rw e at c.sort_of.ensures)
+  | inr e ↦ name_figure c.args.text.now c.args.at c.if-at-text.false (rw e at c.sort_of.ensures)
+]

@@ -14,18 +14,18 @@ loop-b-init c = (
 pub next-requires : goal.next-requires
 next-requires c = c.loop-b.invariant.0
 
-pub returns-in-Over : goal.returns-in-Over
-returns-in-Over c = tag_done c.args.text.now
+pub returns : goal.returns
+returns c = tag_done c.args.text.now
     c.args.at
     c.args.salt c.loop-b.s
     c.loop-b.h c.loop-b.invariant.1 _
-    (rw c.in-Over.is at c.next.ensures) c.finished.ensures
+    (rw c.in_default.is at c.next.ensures) c.finished.ensures
 
 pub loop-b-smaller : goal.loop-b-smaller
-loop-b-smaller c = let w = rw c.in-Byte.is at c.next.ensures in w.0.falls
+loop-b-smaller c = let w = rw c.in-Some.is at c.next.ensures in w.0.falls
 
 pub loop-b-preserved : goal.loop-b-preserved
-loop-b-preserved c = let w = rw c.in-Byte.is at c.next.ensures in (
+loop-b-preserved c = let w = rw c.in-Some.is at c.next.ensures in (
   w.0.within,
   tag_more c.args.text.now
       c.args.at

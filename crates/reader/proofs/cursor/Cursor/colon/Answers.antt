@@ -1,22 +1,20 @@
+use Rattle.std.proofs.lemmas.Result.{err_from_is_err_and}
 use Rattle.reader.proofs.CursorBracketLaws.{colon_broken, colon_end, colon_wrong, colon_breaks, colon_key}
 use Rattle.reader.proofs.cursor.Cursor.colon.Goals as goal
 
+pub returns-in_err-at : goal.returns-in_err-at
+returns-in_err-at c = let p = err_from_is_err_and c.from_residual.result c.from_residual.ensures.1 in
+    rw (p.1, p.2) (colon_broken c.args.text.now c.args.self _ c.in_err-at.ensures)
+
 pub returns-then-at-text : goal.returns-then-at-text
-returns-then-at-text c = colon_end c.args.text.now c.args.self c.args.n c.in-Ended.at (rw c.in-Ended.is at c.pass.ensures) c.if-at-text.true
+returns-then-at-text c = colon_end c.args.text.now c.args.self c.in_ok-at.at c.in_ok-at.ensures c.if-at-text.true
 
 pub returns-then-text-at-ne58 : goal.returns-then-text-at-ne58
-returns-then-text-at-ne58 c = colon_wrong c.args.text.now c.args.self c.args.n c.in-Ended.at (rw c.in-Ended.is at c.pass.ensures)
-    c.if-at-text.false c.if-text-at-ne58.true
+returns-then-text-at-ne58 c = colon_wrong c.args.text.now c.args.self c.in_ok-at.at c.in_ok-at.ensures c.if-at-text.false c.if-text-at-ne58.true
 
-pub returns-in-NotGrammar : goal.returns-in-NotGrammar
-returns-in-NotGrammar c = colon_broken c.args.text.now c.args.self c.args.n c.in-NotGrammar.p
-    (rw c.in-NotGrammar.is at c.pass.ensures)
+pub returns-in_err-next : goal.returns-in_err-next
+returns-in_err-next c = let p = err_from_is_err_and c.from_residual-in_err-next.result c.from_residual-in_err-next.ensures.1 in
+    rw (p.1, p.2) (colon_breaks c.args.text.now c.args.self c.in_ok-at.at c.in_ok-at.ensures c.if-at-text.false c.if-text-at-ne58.false _ c.in_err-next.ensures)
 
-pub returns-in-NotGrammar-pass : goal.returns-in-NotGrammar-pass
-returns-in-NotGrammar-pass c = colon_breaks c.args.text.now c.args.self c.args.n c.in-Ended.at (rw c.in-Ended.is at c.pass.ensures) c.if-at-text.false
-    c.if-text-at-ne58.false c.in-NotGrammar-pass.p (rw c.in-NotGrammar-pass.is at c.pass-in-Ended.ensures)
-
-pub returns-in-Ended-pass : goal.returns-in-Ended-pass
-returns-in-Ended-pass c = colon_key c.args.text.now c.args.self c.args.n c.in-Ended.at (rw c.in-Ended.is at c.pass.ensures) c.if-at-text.false
-    c.if-text-at-ne58.false c.in-Ended-pass.next
-    (rw c.in-Ended-pass.is at c.pass-in-Ended.ensures)
+pub returns : goal.returns
+returns c = colon_key c.args.text.now c.args.self c.in_ok-at.at c.in_ok-at.ensures c.if-at-text.false c.if-text-at-ne58.false c.in_ok-next.next c.in_ok-next.ensures

@@ -1,19 +1,17 @@
-use native.Mathlib.Omega.{arith}
-use Rattle.reader.proofs.CursorBracketLaws.{member_refused, member_says}
+use Rattle.std.proofs.lemmas.Result.{err_from_is_err_and}
+use Rattle.reader.proofs.CursorBracketLaws.{member_refused, member_says, member_unsaid}
 use Rattle.reader.proofs.cursor.Cursor.member.Goals as goal
 
-pub overflow_add-self-in-Whole : goal.overflow_add-self-in-Whole
-overflow_add-self-in-Whole c = let w = rw c.in-Whole.is at c.key.ensures in
-    omega (arith, w.meant.room, w.meant.counted, w.within, c.requires.ready.stored)
+pub returns-in_err-key : goal.returns-in_err-key
+returns-in_err-key c = let p = err_from_is_err_and c.from_residual.result c.from_residual.ensures.1 in
+    rw (p.1, p.2) (member_refused c.args.text.now c.args.self c.args.store.now c.requires _ c.in_err-key.ensures)
 
 pub colon-requires : goal.colon-requires
-colon-requires c = let w = rw c.in-Whole.is at c.key.ensures in
-    w.within
+colon-requires c = c.in_ok-key.ensures.within
 
-pub returns-in-Refused : goal.returns-in-Refused
-returns-in-Refused c = member_refused c.args.text.now c.args.self c.args.store.now c.requires c.in-Refused.why
-    (rw c.in-Refused.is at c.key.ensures)
+pub returns-in_err-held : goal.returns-in_err-held
+returns-in_err-held c = let p = err_from_is_err_and c.from_residual-in_err-held.result c.from_residual-in_err-held.ensures.1 in
+    rw (p.1, p.2) (member_unsaid c.args.text.now c.args.self c.args.store.now _ _ _ c.in_ok-key.ensures _ c.in_err-held.ensures)
 
-pub returns-in-Whole : goal.returns-in-Whole
-returns-in-Whole c = member_says c.args.text.now c.args.self c.args.store.now _ c.in-Whole.end c.in-Whole.n
-    (rw c.in-Whole.is at c.key.ensures) c.colon.result c.colon.ensures
+pub returns : goal.returns
+returns c = member_says c.args.text.now c.args.self c.args.store.now _ _ _ c.in_ok-key.ensures _ c.in_ok-held.ensures
