@@ -1,14 +1,15 @@
 -- Identifiers, letter by letter. Assumes nothing.
-use mathlib.Core.Path.{◌≡◌, ◌∙◌}
+use mathlib.Core.Path.{◌≡◌, refl, ◌∙◌}
 use mathlib.Core.List.{List, [], ◌∷◌, ◌++◌, append_assoc, append-nil}
 use Prim.Native.Nat.{ℕ, suc, ◌+◌, ◌-◌, ◌≤◌, ◌<◌}
 use native.Mathlib.Omega.{arith}
 use lib.ListN.{length, take, drop, get_or, length-drop}
 use lib.Seq.{take-suc, get_or-drop}
 use Rattle.machine.specs.Scan.{takes, ran}
-use Rattle.machine.specs.Names.{name, scan, on_name, class_of, letter, figure, neither}
+use Rattle.machine.specs.Names.{name, scan, on_name, class_of, neither}
 use Rattle.items.specs.Between.Places.{Onward}
-use Rattle.items.specs.Between.Identifier.{NameEnds}
+use Rattle.items.specs.Between.Identifier.{sort_is, NameEnds}
+use Rattle.items.specs.declared.identifier.Sort.{Sort}
 use Rattle.items.proofs.PlacesLaws.{run_take, here, further}
 
 -- one byte more of the text
@@ -35,13 +36,11 @@ module _ {text : List ℕ} {p q : ℕ} (v : Naming text p q) where
     onward = further v.onward h;
   }
 
-  pub name_letter : q < length text → class_of (get_or text q 0) ≡ letter → Naming text p (q + 1)
+  pub name_more : q < length text → (k : Sort) → class_of (get_or text q 0) ≡ sort_is k → (k ≡ Sort.Neither → ⊥) → Naming text p (q + 1)
   unfolding scan on_name
-  name_letter h e = name_on h (λ a. rw e)
-
-  pub name_figure : q < length text → class_of (get_or text q 0) ≡ figure → Naming text p (q + 1)
-  unfolding scan on_name
-  name_figure h e = name_on h (λ a. rw e)
+  name_more h Sort.Letter e n = name_on h (λ a. rw e)
+  name_more h Sort.Figure e n = name_on h (λ a. rw e)
+  name_more h Sort.Neither e n = absurd (n refl)
 
   pub name_stops : class_of (get_or text q 0) ≡ neither → NameEnds text p q
   name_stops e = record { goes = v.goes; onward = v.onward; stopped = λ h. e }

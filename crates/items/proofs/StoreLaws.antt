@@ -1,10 +1,10 @@
 -- Bytes put into a store, as far as there is room. Assumes nothing.
 use mathlib.Core.Path.{◌≡◌, refl, sym, ap, ◌∙◌}
-use Prim.Native.Nat.{ℕ, suc, ◌+◌, ◌-◌, ◌/◌, ◌%◌, ◌≤◌, ◌<◌}
-use mathlib.Core.List.{List, [], ◌∷◌, ◌++◌}
+use Prim.Native.Nat.{ℕ, suc, ◌+◌, ◌-◌, ◌/◌, ◌%◌, ◌≤◌, ◌<◌, min}
+use mathlib.Core.List.{List, [], ◌∷◌, ◌++◌, append_assoc}
 use mathlib.Core.Bool.{Bool, true, false}
-use lib.ListN.{length, take, drop, set, get_or, length-take, length-drop}
-use lib.Seq.{sets, length-sets, set_out, take-suc, take-add, get_or-drop}
+use lib.ListN.{length, take, drop, set, length-take, length-drop}
+use lib.Seq.{sets, sets-eq, length-sets, set_out, take-add, drop-drop}
 use lib.Dec.{ltb}
 use native.Mathlib.Omega.{arith}
 use native.Mathlib.Numerals.{add-one}
@@ -22,16 +22,6 @@ pub sets_out : (t : List ℕ) (at : ℕ) (b : List ℕ) → length t ≤ at → 
 sets_out t at [] h = refl
 sets_out t at (x ∷ b) h = rw (set_out t at x h) (sets_out t (suc at) b (omega arith))
 
--- one more byte of a segment
-pub seg_more : (s t : List ℕ) (from i at o : ℕ) → from ≤ i → i < length s → o ≡ at + (i - from) → (u : List ℕ) → u ≡ sets t at (take (i - from) (drop from s))
-    → set u o (get_or s i 0) ≡ sets t at (take (i + 1 - from) (drop from s))
-seg_more s t from i at o l h e u q =
-    let n : i + 1 - from ≡ suc (i - from) = omega arith in
-    let m : from + (i - from) ≡ i = omega arith in
-    let k : i - from < length (drop from s) = simp length-drop (omega arith) in
-    let z : o ≡ at + length (take (i - from) (drop from s)) = simp (length-take, length-drop) (omega arith) in
-    rw (n, take-suc (drop from s) (i - from) 0 k, sets_app, get_or-drop, m, ← q, ← z)
-
 seg_out : (s t : List ℕ) (from i to at : ℕ) → from ≤ i → i ≤ to → to ≤ length s → length t ≤ at + (i - from) → (u : List ℕ) → u
     ≡ sets t at (take (i - from) (drop from s)) → u ≡ sets t at (take (to - from) (drop from s))
 seg_out s t from i to at l g h r u q =
@@ -48,6 +38,17 @@ seg_limit s t from i to at l g h f u q = by (ltb i to) refl
     by : (x : Bool) → ltb i to ≡ x → u ≡ sets t at (take (to - from) (drop from s))
     by true e = seg_out s t from i to at l g h (f (ltb-true i to e)) u q
     by false e = let z : i ≡ to = omega (arith, ltb-false i to e) in rw z at q
+
+-- a part of the store, written over
+part_sets : (t v : List ℕ) (at k : ℕ) → k ≡ length v → at + length v ≤ length t → take at t ++ (v ++ drop k (drop at t)) ≡ sets t at v
+part_sets t v at k e h = rw (e, drop-drop (length v) at t) (sym (append_assoc (take at t) v (drop (at + length v) t)) ∙ sym (sets-eq v t at h))
+
+pub copied : (s t : List ℕ) (from to at n : ℕ) → from ≤ to → to ≤ length s → at < length t → n ≡ min (length t - at) (to - from)
+    → take at t ++ (take (from + n - from) (drop from s) ++ drop (at + n - at) (drop at t)) ≡ sets t at (take (to - from) (drop from s))
+copied s t from to at n l h r m =
+    let e : length (take (from + n - from) (drop from s)) ≡ n = simp (length-take, length-drop) (omega arith) in
+    seg_limit s t from (from + n) to at (omega arith) (omega arith) h (λ g. omega arith) _
+    (part_sets t (take (from + n - from) (drop from s)) at (at + n - at) (omega arith) (omega arith))
 
 -- the bytes of a character, put one by one
 module _ (t : List ℕ) (at c : ℕ) where

@@ -8,6 +8,7 @@ use lib.ListN.{length, drop, take, get_or, replicate, length-append, length-take
 use lib.Seq.{sets, take-suc, get_or-drop, take_at, take-take}
 use lib.Dec.{eqb}
 use native.Mathlib.Omega.{arith}
+use native.Mathlib.Decide.{dec_lt, ℕ_discrete}
 use native.Mathlib.Numerals.{add-one}
 use borrow.Author.Tests.{lt-ltb, eq-eqb, ne_eqb}
 use Rattle.meaning.specs.declared.Refusal.TheVariants.{NotGrammar}
@@ -71,6 +72,16 @@ module _ (s : List ℕ) (l : 2 < length s) where
         from_cr z f = begun3 (λ base q g. to_cr base q ∙ like scan base s (lines_cr q) (lines q 0 (letters "\r")) 4 z (simp (ne_eqb _ _ f))
             ∙ sym (kept_cr base q g))
 
+  -- what comes is no line end
+  pub from_bytes : (3 < length s → get_or s 3 0 ≡ ch "\n" → ⊥) → (4 < length s → get_or s 3 0 ≡ ch "\r" → get_or s 4 0 ≡ ch "\n" → ⊥) → Begun s 3
+  from_bytes n m = by (dec_lt 3 (length s)) (ℕ_discrete (get_or s 3 0) (ch "\r")) (dec_lt 4 (length s))
+    where
+      by : Dec (3 < length s) → Dec (get_or s 3 0 ≡ ch "\r") → Dec (4 < length s) → Begun s 3
+      by (no h) x y = from_end (omega arith)
+      by (yes h) (no x) y = from_other h (n h) x
+      by (yes h) (yes x) (no y) = from_cr_end h (n h) x (omega arith)
+      by (yes h) (yes x) (yes y) = from_cr h (n h) x y (m y x)
+
 -- ---- the next three quotes
 
 pub line_last : (b : ℕ) → b < 0x20 → (b ≡ ch "\t" → ⊥) → (b ≡ ch "\n" → ⊥) → eqb b (ch "\r") ≡ line_byte b
@@ -102,13 +113,13 @@ module _ (s : List ℕ) (q from : ℕ) where
   }
 
   module _ (i n : ℕ) (t : Lining s q from i n) where
-    pub lining_end : q < over → length s ≤ i → Breaks s q from i
+    pub lining_end : q < over → length s ≤ i → Breaks s q from (length s)
     unfolding scan on_lines line_byte
-    lining_end small h = record {
+    lining_end small h = let e : i ≡ length s = omega (arith, t.within) in rw (← e) (record {
       ends = λ base. t.goes base ∙ end scan base s (lines q n t.acc) (NotGrammar (base + i)) i h
           (let m : over ≡ q → ⊥ = λ e. omega arith in simp (ne_eqb over q m));
       within = t.within;
-    }
+    })
 
     counted : length t.acc + n ≡ i - from
     counted =

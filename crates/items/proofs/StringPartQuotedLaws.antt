@@ -81,8 +81,10 @@ module _ (s : List ℕ) (q from : ℕ) where
     pub pass_stop : at < length s → plain q (get_or s at 0) ≡ false → Passed s q from at
     pass_stop h e = record { goes = t.goes; behind = t.behind; within = t.within; stopped = rw (byte_in s at h) e }
 
-    pub pass_end : length s ≤ at → Passed s q from at
-    pass_end h = record { goes = t.goes; behind = t.behind; within = t.within; stopped = rw (byte_out s at h) (plain_over q) }
+    pub pass_end : length s ≤ at → Passed s q from (length s)
+    pass_end h =
+        let e : at ≡ length s = omega (arith, t.within) in
+        rw (← e) (record { goes = t.goes; behind = t.behind; within = t.within; stopped = rw (byte_out s at h) (plain_over q) })
 
 -- ---- the first bad escape
 

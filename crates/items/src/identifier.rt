@@ -12,40 +12,15 @@ pub enum Sort {
 }
 
 // The sort of a byte; `$` and `_` count as letters.
+#[tactic(auto, using(std::proofs::lemmas::Bool::Decides::nat_tests), unfolding(machine::specs::Names::class_of))]
 pub fn sort_of(b: u8) -> Sort
     ensures { class_of b ≡ sort_is result }
 {
-    if b < b'$' {
-        return Sort::Neither;
+    match b {
+        b'$' | b'A'..=b'Z' | b'_' | b'a'..=b'z' => Sort::Letter,
+        b'0'..=b'9' => Sort::Figure,
+        _ => Sort::Neither,
     }
-    if b == b'$' {
-        return Sort::Letter;
-    }
-    if b < b'0' {
-        return Sort::Neither;
-    }
-    if b <= b'9' {
-        return Sort::Figure;
-    }
-    if b < b'A' {
-        return Sort::Neither;
-    }
-    if b <= b'Z' {
-        return Sort::Letter;
-    }
-    if b < b'_' {
-        return Sort::Neither;
-    }
-    if b == b'_' {
-        return Sort::Letter;
-    }
-    if b < b'a' {
-        return Sort::Neither;
-    }
-    if b <= b'z' {
-        return Sort::Letter;
-    }
-    Sort::Neither
 }
 
 // The end of an identifier, from among its letters on.
@@ -53,19 +28,10 @@ pub fn name_end(text: &[u8], from: usize) -> usize
     requires { from ≤ length text.now }
     ensures { NameEnds text.now from result }
 {
-    let mut at = from;
-    while at < text.len() {
-        match sort_of(text[at]) {
-            Sort::Neither => {
-                return at;
-            }
-            Sort::Letter => {
-                at = at + 1;
-            }
-            Sort::Figure => {
-                at = at + 1;
-            }
+    for at in from..text.len() {
+        if let Sort::Neither = sort_of(text[at]) {
+            return at;
         }
     }
-    at
+    text.len()
 }

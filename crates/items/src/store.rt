@@ -2,7 +2,6 @@
 ghost use Rattle.std.specs.Prelude.{◌≡◌, ◌+◌, ◌-◌, ◌≤◌, ◌<◌, ◌^◌, length, take, drop, set};
 ghost use Rattle.std.proofs.lemmas.List.Edits.{sets};
 ghost use Rattle.rules.specs.Rfc3629.{encode};
-ghost use Rattle.items.specs.Between.StringPart.{Limited};
 
 // One byte.
 pub fn put_byte(store: &mut [u8], at: usize, b: u8)
@@ -13,32 +12,14 @@ pub fn put_byte(store: &mut [u8], at: usize, b: u8)
     }
 }
 
-// How far of `from` to `to` there is room for at `at` of `len` bytes.
-fn limit(from: usize, to: usize, len: usize, at: usize) -> usize
-    requires { from ≤ to }
-    ensures { Limited from to len at result }
-{
-    if len <= at {
-        return from;
-    }
-    if to - from <= len - at {
-        return to;
-    }
-    from + (len - at)
-}
-
 // The bytes of s from `from` to `to`, put at `at`.
 pub fn copy(s: &[u8], from: usize, to: usize, store: &mut [u8], at: usize)
     requires { (from ≤ to) × (to ≤ length s.now) }
     ensures { store.new ≡ sets store.old at (take (to - from) (drop from s.now)) }
 {
-    let end = limit(from, to, store.len(), at);
-    let mut i = from;
-    let mut o = at;
-    while i < end {
-        store[o] = s[i];
-        i = i + 1;
-        o = o + 1;
+    if at < store.len() {
+        let n = (store.len() - at).min(to - from);
+        store[at..at + n].copy_from_slice(&s[from..from + n]);
     }
 }
 

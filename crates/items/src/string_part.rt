@@ -175,20 +175,6 @@ pub fn character(s: &[u8], at: usize) -> Result<Taken<Option<u32>>, NotGrammar>
     }
 }
 
-// How far apart two bytes are.
-fn apart(a: u8, b: u8) -> u8
-    ensures { result ≡ gap a b }
-{
-    if a < b { b - a } else { a - b }
-}
-
-// The lesser of two bytes.
-fn lesser(a: u8, b: u8) -> u8
-    ensures { (result ≤ a) × (result ≤ b) }
-{
-    if a < b { a } else { b }
-}
-
 // Whether each of the 16 bytes at `at` is plain. There is no early exit, so that it is compiled to vector instructions.
 fn plain_block(s: &[u8], at: usize, q: u8) -> bool
     requires { at + 16 ≤ length s.now }
@@ -197,24 +183,13 @@ fn plain_block(s: &[u8], at: usize, q: u8) -> bool
     let mut least: u8 = 255;
     let mut slash: u8 = 255;
     let mut quote: u8 = 255;
-    let mut k: usize = 0;
-    while k < 16 {
+    for k in 0..16 {
         let b = s[at + k];
-        least = lesser(least, b);
-        slash = lesser(slash, apart(b, b'\\'));
-        quote = lesser(quote, apart(b, q));
-        k += 1;
+        least = least.min(b);
+        slash = slash.min(b.abs_diff(b'\\'));
+        quote = quote.min(b.abs_diff(q));
     }
-    if least < 0x20 {
-        return false;
-    }
-    if slash == 0 {
-        return false;
-    }
-    if quote == 0 {
-        return false;
-    }
-    true
+    0x20 <= least && slash != 0 && quote != 0
 }
 
 // The first place from `from` on that is no plain byte, one at a time.
@@ -222,21 +197,13 @@ fn plain_bytes(s: &[u8], from: usize, q: u8) -> usize
     requires { from ≤ length s.now }
     ensures { Passed s.now q from result }
 {
-    let mut at = from;
-    while at < s.len() {
+    for at in from..s.len() {
         let b = s[at];
-        if b == b'\\' {
+        if b == b'\\' || b == q || b < 0x20 {
             return at;
         }
-        if b == q {
-            return at;
-        }
-        if b < 0x20 {
-            return at;
-        }
-        at = at + 1;
     }
-    at
+    s.len()
 }
 
 // The same, in blocks of 16 as long as all of a block is plain.
@@ -300,39 +267,19 @@ pub fn lines_start(s: &[u8]) -> usize
     requires { 2 < length s.now }
     ensures { Begun s.now result }
 {
-    if s.len() <= 3 {
-        return 3;
+    match s {
+        [_, _, _, b'\n', ..] => 4,
+        [_, _, _, b'\r', b'\n', ..] => 5,
+        _ => 3,
     }
-    let b = s[3];
-    if b == b'\n' {
-        return 4;
-    }
-    if b != b'\r' {
-        return 3;
-    }
-    if s.len() <= 4 {
-        return 3;
-    }
-    if s[4] == b'\n' {
-        return 5;
-    }
-    3
 }
 
 // Whether a byte may stand in a multiline part.
+#[tactic(auto, using(std::proofs::lemmas::Bool::Decides::nat_tests), unfolding(machine::specs::Strings::line_byte))]
 pub fn line_byte(b: u8) -> bool
     ensures { result ≡ line_byte b }
 {
-    if 0x20 <= b {
-        return true;
-    }
-    if b == b'\t' {
-        return true;
-    }
-    if b == b'\n' {
-        return true;
-    }
-    b == b'\r'
+    0x20 <= b || matches!(b, b'\t' | b'\n' | b'\r')
 }
 
 // The next three quotes from `from` on: the last three of them.
@@ -340,26 +287,20 @@ fn lines_end(s: &[u8], from: usize, q: u8) -> Result<usize, NotGrammar>
     requires { from ≤ length s.now }
     ensures { LinesSays s.now q from result }
 {
-    let mut i = from;
     let mut n: usize = 0;
-    while i < s.len() {
-        let b = s[i];
-        if b == q {
+    for i in from..s.len() {
+        if s[i] == q {
             if n == 2 {
                 return Ok(i - 2);
             }
-            n = n + 1;
-            i = i + 1;
+            n += 1;
+        } else if line_byte(s[i]) {
+            n = 0;
         } else {
-            if line_byte(b) {
-                n = 0;
-                i = i + 1;
-            } else {
-                return Err(NotGrammar { place: i });
-            }
+            return Err(NotGrammar { place: i });
         }
     }
-    Err(NotGrammar { place: i })
+    Err(NotGrammar { place: s.len() })
 }
 
 // After three quotes.

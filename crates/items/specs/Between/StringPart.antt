@@ -137,15 +137,6 @@ abbrev pub marked : ℕ → Option ℕ → S.Bad
 marked base None = fine
 marked base (Some at) = spoilt (base + at)
 
--- ---- stores
-
--- from `from` to r there is room, and r is `to` or there is no more
-pub record Limited (from to len at r : ℕ) : Type 0 where
-  pub low : from ≤ r
-  pub high : r ≤ to
-  pub room : from < r → at + (r - from) ≤ len
-  pub full : r < to → len ≤ at + (r - from)
-
 -- ---- parts
 
 -- The part ends before the place `taken`, of n bytes; its value is in the store from `at` on, as far as there is room.

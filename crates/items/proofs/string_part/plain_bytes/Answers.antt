@@ -1,45 +1,25 @@
+-- Assumes nothing.
+use mathlib.Core.Path.{◌≡◌}
+use mathlib.Core.Bool.{false}
 use native.Mathlib.Omega.{arith}
-use Rattle.items.proofs.StringPartQuotedLaws.{pass_none, pass_more, pass_stop, pass_end, plain_slash, plain_quote, plain_low}
+use lib.ListN.{get_or}
+use Rattle.items.specs.Between.StringPart.{plain}
+use Rattle.items.proofs.StringPartQuotedLaws.{pass_more, pass_stop, pass_end, plain_slash, plain_quote, plain_low}
 use Rattle.items.proofs.string_part.plain_bytes.Goals as goal
-
-pub loop-at-init : goal.loop-at-init
-loop-at-init c = pass_none c.args.s.now c.args.q c.args.from (omega arith)
-
-pub bounds-s-at : goal.bounds-s-at
-bounds-s-at c = omega arith
+use Rattle.items.proofs.string_part.plain_bytes.Goals.{then-b-eq92-via-then-b-eq92, then-b-eq92-via-else-b-eq92+then-b-q}
+use Rattle.items.proofs.string_part.plain_bytes.Goals.{then-b-eq92-via-else-b-eq92+else-b-q+then-b-lt32}
 
 pub returns-then-b-eq92 : goal.returns-then-b-eq92
-returns-then-b-eq92 c = pass_stop c.args.s.now c.args.q
-    c.args.from c.loop-at.at c.loop-at.invariant
-    c.loop-at-test.true (plain_slash c.args.q _ c.if-b-eq92.true)
-
-pub returns-then-b-q : goal.returns-then-b-q
-returns-then-b-q c = pass_stop c.args.s.now c.args.q
-    c.args.from c.loop-at.at c.loop-at.invariant
-    c.loop-at-test.true (plain_quote c.args.q _ c.if-b-eq92.false c.if-b-q.true)
-
-pub returns-then-b-lt32 : goal.returns-then-b-lt32
-returns-then-b-lt32 c = pass_stop c.args.s.now c.args.q
-    c.args.from c.loop-at.at
-    c.loop-at.invariant c.loop-at-test.true
-    (plain_low c.args.q _ c.if-b-eq92.false c.if-b-q.false c.if-b-lt32.true)
-
-pub overflow_add-at : goal.overflow_add-at
-overflow_add-at c = omega arith
-
-pub loop-at-smaller : goal.loop-at-smaller
-loop-at-smaller c = omega arith
+returns-then-b-eq92 c = let e : plain c.args.q (get_or c.args.s.now c.loop-at.at 0) ≡ false = elim c.then-b-eq92.branch [
+  | then-b-eq92-via-then-b-eq92 w ↦ plain_slash c.args.q _ w.if-b-eq92.true
+  | then-b-eq92-via-else-b-eq92+then-b-q w ↦ plain_quote c.args.q _ w.if-b-eq92.false w.if-b-q.true
+  | then-b-eq92-via-else-b-eq92+else-b-q+then-b-lt32 w ↦ plain_low c.args.q _ w.if-b-eq92.false w.if-b-q.false w.if-b-lt32.true
+] in
+    pass_stop _ _ _ _ c.loop-at.invariant c.loop-at-test.true e
 
 pub loop-at-preserved : goal.loop-at-preserved
-loop-at-preserved c = pass_more c.args.s.now c.args.q
-    c.args.from c.loop-at.at
-    c.loop-at.invariant c.loop-at-test.true c.if-b-eq92.false
-    c.if-b-q.false c.if-b-lt32.false (omega (
-      arith,
-      c.type_inv.s
-          c.loop-at.at,
-    ))
+loop-at-preserved c = pass_more _ _ _ _ c.loop-at.invariant c.loop-at-test.true c.if-b-eq92.false
+    c.if-b-q.false c.if-b-lt32.false (omega (arith, c.type_inv.s c.loop-at.at))
 
 pub returns : goal.returns
-returns c = pass_end c.args.s.now c.args.q c.args.from c.loop-at.at
-    c.loop-at.invariant c.loop-at-test.false
+returns c = pass_end _ _ _ _ c.loop-at.invariant c.loop-at-test.false

@@ -1,11 +1,6 @@
 -- The bytes so far are plain. Assumes nothing.
-use Prim.Native.Nat.{◌-◌}
-use lib.ListN.{length}
 use Rattle.items.proofs.StringPartQuotedLaws.{Passing}
 use Rattle.items.proofs.string_part.plain_bytes.Given as goal
 
 abbrev pub invariant-loop-at : goal.invariant-loop-at
 invariant-loop-at l = Passing l.s l.q l.initial.at l.at
-
-abbrev pub decreases-loop-at : goal.decreases-loop-at
-decreases-loop-at l = length l.s - l.at
