@@ -21,14 +21,7 @@ const MARK: u8 = 170;
 
 // Whether all of it is as it was.
 fn kept(s: &[u8]) -> bool {
-    let mut i: usize = 0;
-    while i < s.len() {
-        if s[i] != MARK {
-            return false;
-        }
-        i += 1;
-    }
-    true
+    s.iter().all(|b| *b == MARK)
 }
 
 // All from this place on is as it was.
@@ -53,9 +46,9 @@ pub(crate) fn utf8(rt: &impl Print, rest: &[u8]) -> io::Result<bool> {
 
 // Prints whether the three numbers are a date.
 pub(crate) fn date(rt: &impl Print, rest: &[u8]) -> io::Result<bool> {
-    let year = spelling::find(rest, 0, b' ');
+    let year = spelling::find(rest, b' ');
     let tail = spelling::after(rest, year);
-    let month = spelling::find(tail, 0, b' ');
+    let month = spelling::find(tail, b' ');
     let day = spelling::after(tail, month);
     showing::status(
         rt,
@@ -93,21 +86,15 @@ fn alike(a: Sizes, b: Sizes) -> bool {
 // Whether a check answers what `measure` does, with 15 left out: counts in its place.
 fn left_out(answer: Sizes, measured: Sizes) -> bool {
     if measured.refused == 15 {
-        return answer.refused == 0;
+        answer.refused == 0
+    } else {
+        alike(answer, measured)
     }
-    alike(answer, measured)
 }
 
 // Whether a check answers this for a text, wherever it is cut.
 fn cut_anywhere(text: &[u8], answer: Sizes) -> bool {
-    let mut cut: usize = 0;
-    while cut < text.len() {
-        if !alike(in_two(&text[..cut], &text[cut..]), answer) {
-            return false;
-        }
-        cut += 1;
-    }
-    true
+    (0..text.len()).all(|cut| alike(in_two(&text[..cut], &text[cut..]), answer))
 }
 
 // What a check answers for a text, and a fault where it is not what `measure` answers, 15 left out, for some place where the text is cut.
@@ -141,9 +128,9 @@ fn read_into(rt: &impl Print, text: &[u8], tape: &mut [u8], store: &mut [u8]) ->
 
 // Prints the same of a text that is read into a tape and a store of the lengths before it.
 pub(crate) fn read(rt: &impl Print, rest: &[u8]) -> io::Result<bool> {
-    let first = spelling::find(rest, 0, b' ');
+    let first = spelling::find(rest, b' ');
     let tail = spelling::after(rest, first);
-    let second = spelling::find(tail, 0, b' ');
+    let second = spelling::find(tail, b' ');
     let mut text = [0u8; BUFFER];
     let n = spelling::decode(spelling::after(tail, second), false, &mut text);
     let mut tape = [MARK; TAPE];
@@ -205,9 +192,10 @@ pub(crate) fn goes_round(text: &[u8]) -> bool {
 // The answer of the JSON call or of the JAXN call.
 fn write(json: bool, tape: &[u8], store: &[u8], out: &mut [u8]) -> Text {
     if json {
-        return lanternrung_write_json(tape, store, out);
+        lanternrung_write_json(tape, store, out)
+    } else {
+        lanternrung_write_jaxn(tape, store, out)
     }
-    lanternrung_write_jaxn(tape, store, out)
 }
 
 // The text or the refusal; what is not written is as it was.
@@ -261,9 +249,9 @@ pub(crate) fn json(rt: &impl Print, rest: &[u8]) -> io::Result<bool> {
 
 // Prints the record at an index of a spelled tape, beside a spelled store.
 pub(crate) fn look(rt: &impl Print, rest: &[u8]) -> io::Result<bool> {
-    let first = spelling::find(rest, 0, b' ');
+    let first = spelling::find(rest, b' ');
     let tail = spelling::after(rest, first);
-    let bar = spelling::find(tail, 0, b'|');
+    let bar = spelling::find(tail, b'|');
     let mut tape = [0u8; BUFFER];
     let mut store = [0u8; BUFFER];
     let t = spelling::decode(&tail[..bar], true, &mut tape);
@@ -277,9 +265,9 @@ pub(crate) fn look(rt: &impl Print, rest: &[u8]) -> io::Result<bool> {
 
 // Prints what is written of a spelled tape and store, into an output of the length before them.
 fn write_case(rt: &impl Print, json: bool, rest: &[u8]) -> io::Result<bool> {
-    let first = spelling::find(rest, 0, b' ');
+    let first = spelling::find(rest, b' ');
     let tail = spelling::after(rest, first);
-    let bar = spelling::find(tail, 0, b'|');
+    let bar = spelling::find(tail, b'|');
     let mut tape = [0u8; BUFFER];
     let mut store = [0u8; BUFFER];
     let mut out = [MARK; TAPE];

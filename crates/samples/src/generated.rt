@@ -1,38 +1,36 @@
 // Generated records: pieces of every kind, chosen by the bits of a number.
 use crate::{calls, showing, spelling};
-use items::store;
 use std::io;
 
 // The bytes from a place on, and the place after them.
 fn put(out: &mut [u8; 4096], at: usize, s: &[u8]) -> usize {
-    if at <= 1024 {
-        if s.len() <= 64 {
-            store::copy(s, 0, s.len(), out, at);
-            return at + s.len();
-        }
+    if at > 1024 || s.len() > 64 {
+        return at;
     }
-    at
+    let end = at + s.len();
+    out[at..end].copy_from_slice(s);
+    end
 }
 
-// One of sixteen values, by the last hex digit of the number, and the place after it.
-fn piece(out: &mut [u8; 4096], at: usize, kind: u64) -> usize {
+// One of sixteen values, by the last hex digit of the number.
+fn piece(kind: u64) -> &'static [u8] {
     match kind % 16 {
-        0 => put(out, at, b"null"),
-        1 => put(out, at, b"{a:true,'b' : [] , }"),
-        2 => put(out, at, b"-12.3400e-7"),
-        3 => put(out, at, b"0x7fffffffffffffff"),
-        4 => put(out, at, b"-Infinity"),
-        5 => put(out, at, b"'it\\u00e9' + \"\\t\\v\""),
-        6 => put(out, at, b"$00ff80 + $'\\x7f~'"),
-        7 => put(out, at, b"2024-02-29"),
-        8 => put(out, at, b"23:59:59.120"),
-        9 => put(out, at, b"1999-12-31T00:00:00"),
-        10 => put(out, at, b"0001-01-01 12:30:45.000000001-23:59"),
-        11 => put(out, at, b"[false,[NaN,[18446744073709551615]]]"),
-        12 => put(out, at, b"/* note */ 1e300 # end\n"),
-        13 => put(out, at, b"\"\"\"\nlines\n\"\"\""),
-        14 => put(out, at, b"{\"\":{k:'',$_9:-0}}"),
-        _ => put(out, at, b"\"\xc3\xa9\xf0\x9d\x84\x9e\""),
+        0 => b"null",
+        1 => b"{a:true,'b' : [] , }",
+        2 => b"-12.3400e-7",
+        3 => b"0x7fffffffffffffff",
+        4 => b"-Infinity",
+        5 => b"'it\\u00e9' + \"\\t\\v\"",
+        6 => b"$00ff80 + $'\\x7f~'",
+        7 => b"2024-02-29",
+        8 => b"23:59:59.120",
+        9 => b"1999-12-31T00:00:00",
+        10 => b"0001-01-01 12:30:45.000000001-23:59",
+        11 => b"[false,[NaN,[18446744073709551615]]]",
+        12 => b"/* note */ 1e300 # end\n",
+        13 => b"\"\"\"\nlines\n\"\"\"",
+        14 => b"{\"\":{k:'',$_9:-0}}",
+        _ => b"\"\xc3\xa9\xf0\x9d\x84\x9e\"",
     }
 }
 
@@ -40,12 +38,10 @@ fn piece(out: &mut [u8; 4096], at: usize, kind: u64) -> usize {
 fn values(out: &mut [u8; 4096], seed: u64) -> usize {
     let mut at: usize = 1;
     let mut rest = seed;
-    let mut left: u64 = 8;
-    while left > 0 {
-        at = piece(out, at, rest);
+    for _ in 0..8 {
+        at = put(out, at, piece(rest));
         at = put(out, at, b",\n");
         rest /= 16;
-        left -= 1;
     }
     at
 }
@@ -76,15 +72,13 @@ fn mixed(seed: u64) -> u64 {
 // How many generated records come back before one does not, of so many.
 fn come_back(count: u64) -> u64 {
     let mut seed: u64 = 88172645463325252;
-    let mut i: u64 = 0;
-    while i < count {
+    for i in 0..count {
         seed = mixed(seed);
         if !generated(seed) {
             return i;
         }
-        i += 1;
     }
-    i
+    count
 }
 
 // Prints how many of so many generated records come back.

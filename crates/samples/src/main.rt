@@ -71,7 +71,7 @@ fn call(rt: &impl Print, name: &[u8], rest: &[u8]) -> io::Result<bool> {
 // Prints a case with its outcome, and a fault where there is no such call.
 fn line(rt: &impl Print, s: &[u8]) -> io::Result<()> {
     rt.write_all(s)?;
-    let end = spelling::find(s, 0, b' ');
+    let end = spelling::find(s, b' ');
     if !call(rt, &s[..end], spelling::after(s, end))? {
         showing::fault(rt, b"a call")?;
     }
@@ -80,14 +80,8 @@ fn line(rt: &impl Print, s: &[u8]) -> io::Result<()> {
 
 // Each line of the cases.
 fn each(rt: &impl Print, cases: &[u8]) -> io::Result<()> {
-    let mut at: usize = 0;
-    while at < cases.len() {
-        let end = spelling::find(cases, at, b'\n');
-        line(rt, &cases[at..end])?;
-        if end == cases.len() {
-            return Ok(());
-        }
-        at = end + 1;
+    for s in cases.split_inclusive(|b| *b == b'\n') {
+        line(rt, s.strip_suffix(b"\n").unwrap_or(s))?;
     }
     Ok(())
 }

@@ -1,15 +1,11 @@
 // Outcomes, as they are printed.
 use lanternrung::exports::{Fields, Sizes, Status};
+use std::fmt::Display;
 use std::io;
 
 // Prints the bytes as they are.
 fn word(rt: &impl Print, s: &[u8]) -> io::Result<()> {
     rt.write_all(s)
-}
-
-// Prints a number in decimal digits.
-fn decimal(rt: &impl Print, n: u64) -> io::Result<()> {
-    rt.print(n)
 }
 
 // An answer follows.
@@ -32,9 +28,9 @@ pub(crate) fn fault(rt: &impl Print, s: &[u8]) -> io::Result<()> {
 // A refusal, by its number and its place.
 pub(crate) fn refused(rt: &impl Print, number: u32, place: u64) -> io::Result<()> {
     say(rt, b"refused ")?;
-    decimal(rt, number as u64)?;
+    rt.print(number)?;
     word(rt, b" at ")?;
-    decimal(rt, place)
+    rt.print(place)
 }
 
 // The refusal, or `done`.
@@ -52,9 +48,9 @@ pub(crate) fn sizes(rt: &impl Print, s: Sizes) -> io::Result<()> {
         refused(rt, s.refused, s.place)
     } else {
         arrow(rt)?;
-        decimal(rt, s.records)?;
+        rt.print(s.records)?;
         word(rt, b" records, ")?;
-        decimal(rt, s.bytes)?;
+        rt.print(s.bytes)?;
         word(rt, b" bytes")
     }
 }
@@ -62,47 +58,26 @@ pub(crate) fn sizes(rt: &impl Print, s: Sizes) -> io::Result<()> {
 // A number and what it counts, after an arrow.
 pub(crate) fn count(rt: &impl Print, n: u64, of: &[u8]) -> io::Result<()> {
     arrow(rt)?;
-    decimal(rt, n)?;
+    rt.print(n)?;
     word(rt, of)
 }
 
-// The number without its sign, never by negating: the least one has no opposite in 32 bits.
-fn magnitude(x: i32) -> u64 {
-    if x < 0 {
-        return (-1 - x) as u64 + 1;
-    }
-    x as u64
-}
-
-// A number with its sign.
-fn signed(rt: &impl Print, x: i32) -> io::Result<()> {
-    if x < 0 {
-        word(rt, b"-")?;
-    }
-    decimal(rt, magnitude(x))
-}
-
 // A field that is not 0.
-fn field(rt: &impl Print, name: &[u8], n: u64) -> io::Result<()> {
-    if n > 0 {
+fn field<N: Display + Default + PartialEq + Copy>(
+    rt: &impl Print,
+    name: &[u8],
+    n: N,
+) -> io::Result<()> {
+    if n != N::default() {
         word(rt, name)?;
-        decimal(rt, n)?;
-    }
-    Ok(())
-}
-
-// The same with its sign.
-fn signed_field(rt: &impl Print, name: &[u8], x: i32) -> io::Result<()> {
-    if x != 0 {
-        word(rt, name)?;
-        signed(rt, x)?;
+        rt.print(n)?;
     }
     Ok(())
 }
 
 // The fields of numbers, and of strings, keys and binary.
 fn number_fields(rt: &impl Print, f: Fields) -> io::Result<()> {
-    signed_field(rt, b" power ", f.power)?;
+    field(rt, b" power ", f.power)?;
     field(rt, b" coefficient ", f.coefficient)?;
     field(rt, b" length ", f.length)?;
     field(rt, b" start ", f.start)
@@ -110,10 +85,10 @@ fn number_fields(rt: &impl Print, f: Fields) -> io::Result<()> {
 
 // The fields of the time types.
 fn time_fields(rt: &impl Print, f: Fields) -> io::Result<()> {
-    field(rt, b" year ", f.year as u64)?;
-    field(rt, b" month ", f.month as u64)?;
-    field(rt, b" day ", f.day as u64)?;
-    signed_field(rt, b" offset ", f.offset)?;
+    field(rt, b" year ", f.year)?;
+    field(rt, b" month ", f.month)?;
+    field(rt, b" day ", f.day)?;
+    field(rt, b" offset ", f.offset)?;
     field(rt, b" time ", f.time)
 }
 
@@ -123,8 +98,8 @@ pub(crate) fn fields(rt: &impl Print, f: Fields) -> io::Result<()> {
         refused(rt, f.refused, f.place)
     } else {
         say(rt, b"kind")?;
-        field(rt, b" ", f.kind as u64)?;
-        field(rt, b" flag ", f.flag as u64)?;
+        field(rt, b" ", f.kind)?;
+        field(rt, b" flag ", f.flag)?;
         number_fields(rt, f)?;
         time_fields(rt, f)?;
         field(rt, b" count ", f.count)?;
@@ -134,22 +109,18 @@ pub(crate) fn fields(rt: &impl Print, f: Fields) -> io::Result<()> {
 
 // A byte as a case spells it, in a tape with dots.
 fn spell(rt: &impl Print, b: u8, dots: bool) -> io::Result<()> {
-    if dots && b == 0 {
-        word(rt, b".")
-    } else if b > 32 && b < 127 && b != b'%' && b != b'|' && (b != b'.' || !dots) {
-        word(rt, &[b])
-    } else {
-        word(rt, b"%")?;
-        print!(rt; "{b:02x}")
+    match b {
+        0 if dots => word(rt, b"."),
+        b'.' if dots => print!(rt; "%{b:02x}"),
+        0..=32 | b'%' | b'|' | 127..=255 => print!(rt; "%{b:02x}"),
+        _ => word(rt, &[b]),
     }
 }
 
 // All the bytes, as a case spells them.
 fn spelled(rt: &impl Print, s: &[u8], dots: bool) -> io::Result<()> {
-    let mut i: usize = 0;
-    while i < s.len() {
-        spell(rt, s[i], dots)?;
-        i += 1;
+    for b in s {
+        spell(rt, *b, dots)?;
     }
     Ok(())
 }

@@ -2,38 +2,20 @@
 ghost use Rattle.std.specs.Prelude.{◌≤◌, ◌<◌, ◌≡◌, length};
 ghost use Rattle.std.specs.Counts.{IsPrefixLen};
 
-// A byte, and where what follows it begins.
-#[derive(Clone, Copy)]
-struct Spelled {
-    byte: u8,
-    next: usize,
-}
+use items::Taken;
 
-// Where the byte stands from a place on, or the length.
-pub(crate) fn find(s: &[u8], from: usize, b: u8) -> usize
-    requires { from ≤ length s.now }
-    ensures lower_bound { from ≤ result }
-    ensures prefix_len { IsPrefixLen result s.now }
+// Where the byte stands first, or the length.
+pub(crate) fn find(s: &[u8], b: u8) -> usize
+    ensures { IsPrefixLen result s.now }
 {
-    let mut i = from;
-    while i < s.len() {
-        if s[i] == b {
-            return i;
-        }
-        i += 1;
-    }
-    i
+    s.iter().position(|c| *c == b).unwrap_or(s.len())
 }
 
 // What stands after the byte at this place.
 pub(crate) fn after(s: &[u8], at: usize) -> &[u8]
     requires { at ≤ length s.now }
 {
-    if at < s.len() {
-        let next = at + 1;
-        return &s[next..];
-    }
-    &s[at..]
+    if at < s.len() { &s[at + 1..] } else { &s[at..] }
 }
 
 // A digit, hex or decimal; 0 for any other byte.
@@ -53,23 +35,17 @@ fn plain(b: u8, dots: bool) -> u8 {
 }
 
 // The byte spelled at this place; a percent sign with less than two bytes after it stands for itself.
-fn take(s: &[u8], at: usize, dots: bool) -> Spelled
+fn take(s: &[u8], at: usize, dots: bool) -> Taken<u8>
     requires { at < length s.now }
-    ensures { (at < result.next) × (result.next ≤ length s.now) }
+    ensures { (at < result.end) × (result.end ≤ length s.now) }
 {
     let b = s[at];
-    if b == b'%' {
-        if s.len() - at > 2 {
-            return Spelled {
-                byte: digit(s[at + 1]) * 16 + digit(s[at + 2]),
-                next: at + 3,
-            };
-        }
+    if b == b'%' && s.len() - at > 2 {
+        let value = digit(s[at + 1]) * 16 + digit(s[at + 2]);
+        return Taken { value, end: at + 3 };
     }
-    Spelled {
-        byte: plain(b, dots),
-        next: at + 1,
-    }
+    let value = plain(b, dots);
+    Taken { value, end: at + 1 }
 }
 
 // The bytes that are spelled, and how many.
@@ -77,36 +53,25 @@ pub(crate) fn decode(s: &[u8], dots: bool, out: &mut [u8]) -> usize
     ensures { IsPrefixLen result out.new }
 {
     let mut at: usize = 0;
-    let mut n: usize = 0;
-    while at < s.len() {
-        if n == out.len() {
+    for n in 0..out.len() {
+        if at >= s.len() {
             return n;
         }
         let u = take(s, at, dots);
-        out[n] = u.byte;
-        n += 1;
-        at = u.next;
+        out[n] = u.value;
+        at = u.end;
     }
-    n
-}
-
-// A byte as a number of 64 bits.
-fn wide(b: u8) -> u64
-    ensures { result ≡ b }
-{
-    b as u64
+    out.len()
 }
 
 // A decimal number; what would be too large is cut short.
 pub(crate) fn number(s: &[u8]) -> u64 {
     let mut n: u64 = 0;
-    let mut i: usize = 0;
-    while i < s.len() {
+    for b in s {
         if n > 1844674407370955160 {
             return n;
         }
-        n = n * 10 + wide(digit(s[i]));
-        i += 1;
+        n = n * 10 + u64::from(digit(*b));
     }
     n
 }
@@ -115,11 +80,7 @@ pub(crate) fn number(s: &[u8]) -> u64 {
 pub(crate) fn within(n: u64, buffer: &[u8]) -> usize
     ensures { IsPrefixLen result buffer.now }
 {
-    let size = n as usize;
-    if size < buffer.len() {
-        return size;
-    }
-    buffer.len()
+    buffer.len().min(n as usize)
 }
 
 // So many records of a tape, in bytes, or all.
@@ -128,7 +89,8 @@ pub(crate) fn filled(records: u64, tape: &[u8]) -> usize
 {
     let n = records as usize;
     if n < tape.len() / 16 {
-        return n * 16;
+        n * 16
+    } else {
+        tape.len()
     }
-    tape.len()
 }
