@@ -10,8 +10,8 @@ use lib.ListN.{length, get_or, length-append}
 use borrow.Author.Tests.{eqb-true, eqb-false}
 use Rattle.std.specs.Prelude.{Option, Some, None}
 use Rattle.once.specs.Table.{Slot, room, newest_of, Table}
-use Rattle.once.specs.Groups.{flat, base_of, State, Holds, Sane, Owns, own, AboveMark, At, Next, Newest, Stands, Earlier, Placed, Tagged}
-use Rattle.once.proofs.GroupsLaws.{slot_at, table_fits, held, Owned, owned_is}
+use Rattle.once.specs.Groups.{flat, base_of, State, Holds, Owns, own, AboveMark, At, Next, Newest, Stands, Earlier, Placed, Tagged}
+use Rattle.once.proofs.GroupsLaws.{slot_at, table_fits, Owned, owned_is}
 
 pub head_of : {x y : Slot} {a b : List Slot} → x ∷ a ≡ y ∷ b → x ≡ y
 head_of e = cc
@@ -216,9 +216,6 @@ newest_it seen tag head n m e f o {r} w = ((λ y. absurd (omega arith)), λ s h.
 
 pub newest_other : (seen : List ℕ) (tag : ℕ) → Owns seen false → Newest seen tag None
 newest_other seen tag o = ((λ y. refl), λ s h. next_none s (room seen) (tag % room seen) (length (flat s.groups)) (sym (o s h)))
-
-pub set_short : (seen : List ℕ) → 12 ≤ length seen → Sane seen → length seen < 2 ^ 32
-set_short seen l w = (held seen l w).1.table.short
 
 pub earlier_it : (seen : List ℕ) (j here : ℕ) → here ≡ 8 + 4 * (j - 1) → {r : Option ℕ} → AboveMark (get_or seen 1 0) (get_or seen (here + 2) 0) r
     → Earlier seen j r

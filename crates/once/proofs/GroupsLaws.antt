@@ -55,9 +55,6 @@ open_does seen = (
 pub no_table : (seen : List ℕ) (s : State) → length seen < 12 → Holds seen s → ⊥
 no_table seen s l h = omega (arith, long h.table)
 
-pub short_does : (f : State → State) (seen : List ℕ) → length seen < 12 → Does f seen seen
-short_does f seen l = (refl, λ s h. absurd (no_table seen s l h))
-
 pub notice_first : (seen : List ℕ) (p : ℕ) → get_or seen 4 0 ≡ 0 → Does (noticed p) seen (set seen 4 p)
 unfolding noticed
 notice_first seen p z = (
@@ -156,9 +153,6 @@ pub record Dropping (before seen : List ℕ) (to : ℕ) : Type 0 where
   pub keeps : HeaderStays before seen
   pub goes : (a k : List Slot) → length k ≡ to → Table (room before) before (a ++ k) → (b : List Slot) × Table (room seen) seen (b ++ k)
 
-pub drop_begin : (seen : List ℕ) (to : ℕ) → Dropping seen seen to
-drop_begin seen to = record { keeps = (refl, λ j p q. refl); goes = λ a k e t. (a, t) }
-
 -- what is left to drop
 pub record Left (seen : List ℕ) (to : ℕ) : Type 0 where
   pub slot : Slot
@@ -189,13 +183,6 @@ drop_on before seen after to d l p = record {
     go : (k : List Slot) → length k ≡ to → (b : List Slot) → Table (room seen) seen (b ++ k) → (b : List Slot) × Table (room after) after (b ++ k)
     go k e [] t = absurd (omega (arith, t.top))
     go k e (x ∷ b) t = (b, p.1 x (b ++ k) t)
-
-pub drop_done : (before seen : List ℕ) (to : ℕ) → Dropping before seen to → get_or seen 0 0 ≤ to → Drops before seen to
-drop_done before seen to d l = (d.keeps, λ a k e t. go k e (d.goes a k e t).0 (d.goes a k e t).1)
-  where
-    go : (k : List Slot) → length k ≡ to → (b : List Slot) → Table (room seen) seen (b ++ k) → Table (room seen) seen k
-    go k e [] t = t
-    go k e (x ∷ b) t = absurd (omega (arith, l, t.top, length-append b k))
 
 -- ---- an object closes
 

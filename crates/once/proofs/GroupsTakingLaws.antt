@@ -155,10 +155,6 @@ roomy_more seen seen1 a b n l w e p q =
 
 -- ---- a key is named
 
-pub does_sane : (f : State → State) (a b : List ℕ) → Sane a → Does f a b → Sane b
-does_sane f a b (inl l) d = inl (omega (arith, d.0))
-does_sane f a b (inr h) d = inr (f h.0, d.1 h.0 h.1)
-
 pub marked_so : (again : Bool) (p : ℕ) (a b : List ℕ) → again ≡ true → Does (noticed p) a b → Does (marked again p) a b
 unfolding marked
 marked_so again p a b e d = rw e d

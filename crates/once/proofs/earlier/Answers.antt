@@ -3,14 +3,8 @@ use native.Mathlib.Omega.{arith}
 use Rattle.once.proofs.GroupsChainLaws.{earlier_it, stands_fits}
 use Rattle.once.proofs.earlier.Goals as goal
 
-pub overflow_sub-at : goal.overflow_sub-at
-overflow_sub-at c = (stands_fits c.args.seen.now c.args.at c.requires).0
-
 pub bounds-seen-here : goal.bounds-seen-here
 bounds-seen-here c = omega (arith, c.slot-here.ensures, stands_fits c.args.seen.now c.args.at c.requires)
-
-pub above_mark-requires : goal.above_mark-requires
-above_mark-requires c = omega (arith, stands_fits c.args.seen.now c.args.at c.requires)
 
 pub returns : goal.returns
 returns c = earlier_it c.args.seen.now c.args.at c.slot-here.result c.slot-here.ensures c.above_mark.ensures

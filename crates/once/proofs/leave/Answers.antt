@@ -10,14 +10,6 @@ pub overflow_sub-to : goal.overflow_sub-to
 overflow_sub-to c = (own_fits c.args.seen.now c.requires
     c.if-not-owned.ensures).0
 
-pub offset_bounds-seen-mark : goal.offset_bounds-seen-mark
-offset_bounds-seen-mark c = omega (
-  arith,
-  c.slot-mark.ensures,
-  own_fits c.args.seen.now
-      c.requires c.if-not-owned.ensures,
-)
-
 pub bounds-seen-mark : goal.bounds-seen-mark
 bounds-seen-mark c = omega (
   arith,

@@ -1,16 +1,9 @@
 -- `newest`: by the bucket's head, where it is past the mark. Assumes nothing.
-use native.Mathlib.Omega.{arith}
-use Rattle.once.proofs.GroupsChainLaws.{newest_it, newest_other, set_short}
+use Rattle.once.proofs.GroupsChainLaws.{newest_it, newest_other}
 use Rattle.once.proofs.newest.Goals as goal
 
 pub returns-then-not-owned : goal.returns-then-not-owned
 returns-then-not-owned c = newest_other c.args.seen.now c.args.tag c.if-not-owned.ensures
-
-pub bucket-head-requires : goal.bucket-head-requires
-bucket-head-requires c = (
-  c.slots.ensures.1,
-  omega (arith, c.slots.ensures.0, set_short c.args.seen.now c.if-len-lt12.false c.requires),
-)
 
 pub returns : goal.returns
 returns c = newest_it c.args.seen.now c.args.tag c.bucket-head.result c.slots.result c.if-len-lt12.false

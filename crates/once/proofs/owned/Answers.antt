@@ -6,14 +6,6 @@ use Rattle.once.proofs.owned.Goals as goal
 pub returns-then-base-eq0 : goal.returns-then-base-eq0
 returns-then-base-eq0 c = λ s h. own_none c.args.seen.now s c.if-base-eq0.true h
 
-pub offset_bounds-seen-mark : goal.offset_bounds-seen-mark
-offset_bounds-seen-mark c = omega (
-  arith,
-  c.slot-mark.ensures,
-  base_fits c.args.seen.now c.requires.0
-      c.requires.1 c.if-base-eq0.false,
-)
-
 pub bounds-seen-mark : goal.bounds-seen-mark
 bounds-seen-mark c = omega (
   arith,

@@ -4,9 +4,6 @@ use Rattle.once.proofs.GroupsChainLaws.{place_is}
 use Rattle.once.proofs.GroupsChainLaws.{stands_fits}
 use Rattle.once.proofs.place_of.Goals as goal
 
-pub overflow_sub-at : goal.overflow_sub-at
-overflow_sub-at c = (stands_fits c.args.seen.now c.args.at c.requires).0
-
 pub bounds-seen-here : goal.bounds-seen-here
 bounds-seen-here c = omega (
   arith,

@@ -2,15 +2,8 @@
 use Rattle.once.proofs.TableLaws.{pop_does}
 use Prim.Native.Nat.{◌-◌}
 use native.Mathlib.Omega.{arith}
-use lib.ListN.{get_or, length-set}
+use lib.ListN.{get_or}
 use Rattle.once.proofs.pop.Goals as goal
-
-pub bounds-seen-0-2 : goal.bounds-seen-0-2
-bounds-seen-0-2 c = simp length-set (omega (
-  arith,
-  c.requires.1.1.size,
-  c.requires.1.1.some,
-))
 
 pub returns : goal.returns
 returns c = pop_does c.args.seen.now c.bucket-head.result c.slot-at.result

@@ -1,30 +1,13 @@
 -- `take_in`: a slot, two with a mark, or none. Assumes nothing.
-use mathlib.Core.Path.{◌∙◌}
-use Prim.Native.Nat.{◌+◌}
-use native.Mathlib.Omega.{arith}
-use lib.ListN.{get_or, length-set}
-use Rattle.once.specs.Table.{room}
-use Rattle.once.specs.Groups.{taken}
-use Rattle.once.proofs.GroupsLaws.{short_does}
-use Rattle.once.proofs.GroupsChainLaws.{set_short}
-use Rattle.once.proofs.GroupsTakingLaws.{take_stopped, take_own, take_new, full_own, full_new, roomy, roomy_more}
+use lib.ListN.{get_or}
+use Rattle.once.proofs.GroupsTakingLaws.{take_stopped, take_own, take_new, full_own, full_new, roomy_more}
 use Rattle.once.proofs.take_in.Goals as goal
-
-pub returns-then-len-lt12 : goal.returns-then-len-lt12
-returns-then-len-lt12 c = short_does (taken (room c.args.seen.now) (c.args.place, c.args.tag))
-    c.args.seen.now c.if-len-lt12.true
 
 pub returns-then-seen-ne0 : goal.returns-then-seen-ne0
 returns-then-seen-ne0 c = take_stopped c.args.seen.now (
   c.args.place,
   c.args.tag,
 ) c.if-seen-ne0.true
-
-pub push-requires : goal.push-requires
-push-requires c = roomy c.args.seen.now
-    c.slots-n.result c.if-len-lt12.false
-    c.requires
-    c.slots-n.ensures.0 c.if-top-n.true
 
 pub returns-then-top-n : goal.returns-then-top-n
 returns-then-top-n c = take_own c.args.seen.now
@@ -42,22 +25,6 @@ returns-then-owned c = full_own c.args.seen.now
     c.slots-n.ensures.0 c.if-seen-ne0.false
     c.if-owned.ensures c.if-top-n.false
 
-pub push-requires-then-top-n-2 : goal.push-requires-then-top-n-2
-push-requires-then-top-n-2 c = roomy c.args.seen.now
-    c.slots-n.result
-    c.if-len-lt12.false
-    c.requires
-    c.slots-n.ensures.0 (omega (arith, c.if-top-n-2.true))
-
-pub overflow_add-seen : goal.overflow_add-seen
-overflow_add-seen c = omega (
-  arith,
-  c.if-top-n-2.true,
-  c.slots-n.ensures.0,
-  set_short c.args.seen.now c.if-len-lt12.false
-      c.requires,
-)
-
 pub push-requires-then-top-n-2-2 : goal.push-requires-then-top-n-2-2
 push-requires-then-top-n-2-2 c = roomy_more c.args.seen.now c.push-then-top-n-2.new.seen
     (get_or c.args.seen.now 1 0) (get_or c.args.seen.now 2 0) c.slots-n.result
@@ -65,10 +32,6 @@ push-requires-then-top-n-2-2 c = roomy_more c.args.seen.now c.push-then-top-n-2.
     c.requires
     c.slots-n.ensures.0
     c.if-top-n-2.true c.push-then-top-n-2.ensures
-
-pub shape_of-seen-then-top-n-2 : goal.shape_of-seen-then-top-n-2
-shape_of-seen-then-top-n-2 c = c.push-then-top-n-2-2.ensures.0.0 ∙ length-set c.push-then-top-n-2.new.seen 1
-    (get_or c.args.seen.now 0 0 + 1) ∙ c.push-then-top-n-2.ensures.0.0
 
 pub returns-then-top-n-2 : goal.returns-then-top-n-2
 returns-then-top-n-2 c = take_new c.args.seen.now c.args.place c.args.tag
