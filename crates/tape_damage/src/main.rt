@@ -28,9 +28,13 @@ fn unnamed(bytes: &[u8]) -> bool {
     bytes.iter().all(|b| *b == 0)
 }
 
-// Whether February has 29 days in this year.
+// Whether February has 29 days in this year. The calendars of the tests have forms of their own: they are there to differ.
 fn leap(year: u64) -> bool {
-    year % 4 == 0 && (year % 100 != 0 || year % 400 == 0)
+    if year % 100 == 0 {
+        year % 400 == 0
+    } else {
+        year % 4 == 0
+    }
 }
 
 // How many days the month has in this year.
