@@ -1,7 +1,7 @@
 -- The pieces' texts by cases, as the code goes by them. Assumes nothing.
 use mathlib.Core.Path.{◌≡◌, refl, sym, ap, ◌∙◌, subst}
 use mathlib.Core.Logic.{◌⊎◌, inl, inr}
-use mathlib.Core.Bool.{Bool, false, cond}
+use mathlib.Core.Bool.{Bool, true, false, cond}
 use mathlib.Core.List.{List, [], ◌∷◌, ◌++◌, append_assoc}
 use Prim.Native.Nat.{ℕ, zero, suc, ◌+◌, ◌-◌, ◌*◌, ◌/◌, ◌%◌, ◌^◌, ◌≤◌, ◌<◌}
 use native.Mathlib.Decide.{dec_le}
@@ -15,7 +15,8 @@ use mir.Val.{SFits, of_z, to_z}
 use mir.ValLaws.{to_z-of_z}
 use Rattle.std.proofs.lemmas.Int.{ints}
 use lib.ListN.{length, get_or, take, drop, length-append}
-use borrow.Author.Tests.{lt-ltb, le-ltb, eq-eqb, ne_eqb}
+use lib.Dec.{leb}
+use borrow.Author.Tests.{leb-true, leb-false, le-ltb, eq-eqb, ne_eqb}
 use Rattle.meaning.specs.Letters.{letters, ch}
 use Rattle.meaning.specs.Limits.{second, store_limit}
 use Rattle.meaning.specs.declared.Number.{Number}
@@ -28,7 +29,7 @@ use Rattle.meaning.specs.Canonical.{finite_text, number_text, offset_text, fract
 use Rattle.meaning.proofs.Digits.{fixed_length, trimmed_less}
 use Rattle.meaning.proofs.Quotes.{escaped_plain, escaped_low, escapes_more, escapes_length, quoted_length}
 use Rattle.writer.specs.declared.Trimmed.{Trimmed}
-use Rattle.writer.specs.Between.Pieces.{FractionDigits, Lettered}
+use Rattle.writer.specs.Between.Pieces.{FractionDigits, IsPlain, Lettered}
 
 pub length_three : (a b c : List ℕ) → length (a ++ b ++ c) ≡ length a + length b + length c
 length_three a b c = simp length-append
@@ -152,18 +153,22 @@ lettered_self b (inr e) = subst (λ (x : ℕ). Lettered x (Some x)) (sym e) (sho
 
 pub unlettered : (b : ℕ) → (b ≡ ch "\"" → ⊥) → (b ≡ ch "\\" → ⊥) → (b ≡ ch "\u{8}" → ⊥) → (b ≡ ch "\u{c}" → ⊥) → (b ≡ ch "\n" → ⊥) → (b ≡ ch "\r" → ⊥)
     → (b ≡ ch "\t" → ⊥) → Lettered b None
-unlettered b h1 h2 h3 h4 h5 h6 h7 =
+unlettered b q s h1 h2 h3 h4 h5 = (q, s, escaped_low b h1 h2 h3 h4 h5)
+
+pub plain_by : (b : ℕ) → (b ≡ ch "\"" → ⊥) → (b ≡ ch "\\" → ⊥) → IsPlain b (leb (ch " ") b)
+plain_by b q s = go (leb (ch " ") b) refl
+  where
+    go : (t : Bool) → leb (ch " ") b ≡ t → IsPlain b t
+    go true e = escaped_plain b q s (leb-true (ch " ") b e)
+    go false e = λ h. absurd (omega (arith, leb-false (ch " ") b e))
+
+-- not plain, and no letter
+pub low_text : (b : ℕ) → IsPlain b false → Lettered b None → escaped b ≡ letters "\\u00" ++ hex_pair b
+low_text b p (q, s, low) =
     elim (dec_le (ch " ") b) [
-      | yes h ↦ escaped_plain b h1 h2 h ∙ simp (le-ltb b (ch " ") h)
-      | no h ↦ escaped_low b h3 h4 h5 h6 h7 (lt_of_not-le h) ∙ simp (lt-ltb b (ch " ") (lt_of_not-le h))
+      | yes h ↦ elim (p h) [ inl e ↦ absurd (q e) | inr e ↦ absurd (s e) ]
+      | no h ↦ low (lt_of_not-le h)
     ]
-
-module _ (b : ℕ) (l : Lettered b None) where
-  pub low_text : b < ch " " → escaped b ≡ letters "\\u00" ++ hex_pair b
-  low_text h = l ∙ simp (lt-ltb b (ch " ") h)
-
-  pub plain_text : ch " " ≤ b → escaped b ≡ b ∷ []
-  plain_text h = l ∙ simp (le-ltb b (ch " ") h)
 
 -- ---- strings and binary, from one byte to the next
 

@@ -52,15 +52,14 @@ module _ (s : List ℕ) where
         each = λ k f g. elim (dec_lt k b) [ yes h ↦ p.each k f h | no h ↦ q.each k (omega arith) g ];
       }
 
-  pub run_more : (from i : ℕ) → PlainRun s from i → i < length s → ch " " ≤ get_or s i 0 → (get_or s i 0 ≡ ch "\"" → ⊥) → (get_or s i 0 ≡ ch "\\" → ⊥)
-      → PlainRun s from (i + 1)
-  run_more from i p h low quote slash =
+  pub run_more : (from i : ℕ) → PlainRun s from i → i < length s → escaped (get_or s i 0) ≡ get_or s i 0 ∷ [] → PlainRun s from (i + 1)
+  run_more from i p h plain =
       run_join from i (i + 1) p (
       record {
         behind = omega arith;
         within = omega arith;
         each = λ k f g. let z : i ≡ k = omega arith in
-            subst (λ (x : ℕ). escaped (get_or s x 0) ≡ get_or s x 0 ∷ []) z (escaped_plain (get_or s i 0) quote slash low);
+            subst (λ (x : ℕ). escaped (get_or s x 0) ≡ get_or s x 0 ∷ []) z plain;
       }
       )
 

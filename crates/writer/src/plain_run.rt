@@ -1,6 +1,6 @@
 // Runs of bytes that stand for themselves in a string, which fill most strings.
 ghost use Rattle.std.specs.Prelude.{◌≡◌, ◌+◌, ◌≤◌, ◌<◌, length};
-ghost use Rattle.writer.specs.Between.Pieces.{Ease, EaseAll, PlainRun, PlainLast};
+ghost use Rattle.writer.specs.Between.Pieces.{IsPlain, Ease, EaseAll, PlainRun, PlainLast};
 
 // How far a byte is from those that are escaped. There is no jump, so that sixteen bytes are tested at once.
 fn ease(b: u8) -> u8
@@ -23,13 +23,23 @@ fn block(s: &[u8], at: usize) -> u8
     least
 }
 
+// Whether a byte stands for itself.
+pub fn is_plain(b: u8) -> bool
+    ensures { IsPlain b result }
+{
+    match b {
+        b'"' | b'\\' => false,
+        _ => b >= b' ',
+    }
+}
+
 // The place after the plain bytes from `from` on, one at a time.
 fn plain_bytes(s: &[u8], from: usize) -> usize
     requires { from ≤ length s.now }
     ensures { PlainRun s.now from result }
 {
     for i in from..s.len() {
-        if matches!(s[i], 0..=31 | b'"' | b'\\') {
+        if !is_plain(s[i]) {
             return i;
         }
     }

@@ -43,30 +43,32 @@ fn letter_of(b: u8) -> Option<u8>
     }
 }
 
-// A byte of a string: a short escape, `\u00` with a hex pair, or itself.
+// A byte of a string: itself, a short escape, or `\u00` with a hex pair. Most stand for themselves: that is asked first.
 fn escaped_at(out: &mut [u8], at: usize, b: u8) -> usize
     requires { at + length (escaped b) ≤ length out.old }
     ensures { PutAt (escaped b) at out.old out.new result }
 {
+    if plain_run::is_plain(b) {
+        return byte_or_digit::byte_at(out, at, b);
+    }
     if let Some(letter) = letter_of(b) {
         let second = byte_or_digit::byte_at(out, at, b'\\');
         return byte_or_digit::byte_at(out, second, letter);
     }
-    if b < b' ' {
-        let pair = byte_or_digit::bytes_at(out, at, b"\\u00");
-        return pair_at(out, pair, b);
-    }
-    byte_or_digit::byte_at(out, at, b)
+    let pair = byte_or_digit::bytes_at(out, at, b"\\u00");
+    pair_at(out, pair, b)
 }
 
 // The length of the same.
 fn escaped_len(b: u8) -> usize
     ensures { result ≡ length (escaped b) }
 {
+    if plain_run::is_plain(b) {
+        return 1;
+    }
     match letter_of(b) {
         Some(_) => 2,
-        None if b < b' ' => 6,
-        None => 1,
+        None => 6,
     }
 }
 

@@ -1,6 +1,6 @@
 -- What the functions below the writers of a piece (docs/FORMAT.md, 12) promise their callers. Assumes nothing.
-use Rattle.std.specs.Prelude.{◌≡◌, Bool, true, cond, List, [], ◌∷◌, ◌++◌, ℕ, suc, ◌+◌, ◌^◌, ◌≤◌, ◌<◌, ltb, ℤ}
-use Rattle.std.specs.Prelude.{pos, negsuc, length, get_or, Option, Some, None}
+use Rattle.std.specs.Prelude.{◌≡◌, Bool, true, false, List, [], ◌∷◌, ◌++◌, ℕ, suc, ◌+◌, ◌^◌, ◌≤◌, ◌<◌, ℤ}
+use Rattle.std.specs.Prelude.{pos, negsuc, length, get_or, ◌⊎◌, Option, Some, None}
 use Rattle.meaning.specs.Letters.{letters, ch}
 use Rattle.meaning.specs.Limits.{plain_digits, fraction_digits}
 use Rattle.meaning.specs.Canonical.{hex_pair, escaped, fixed, trimmed as trimmedText}
@@ -21,10 +21,16 @@ pub record PointedLength (d n r : ℕ) : Type 0 where
   pub more : n < d → r ≡ d + 1
   pub small : r ≤ plain_digits + 2
 
--- with a letter after the backslash; with none, below U+0020 by its number, else plain
+-- the byte stands for itself; else it lies below U+0020 or is a quote or a backslash
+abbrev pub IsPlain : ℕ → Bool → Type 0
+IsPlain b true = escaped b ≡ b ∷ []
+IsPlain b false = ch " " ≤ b → (b ≡ ch "\"") ⊎ (b ≡ ch "\\")
+
+-- with a letter after the backslash; with none, it is no quote and no backslash, and below U+0020 it goes by its number
 abbrev pub Lettered : ℕ → Option ℕ → Type 0
 Lettered b (Some letter) = escaped b ≡ letters "\\" ++ (letter ∷ [])
-Lettered b None = escaped b ≡ cond (ltb b (ch " ")) (letters "\\u00" ++ hex_pair b) (b ∷ [])
+Lettered b None = (b ≡ ch "\"" → ⊥) × (b ≡ ch "\\" → ⊥)
+    × (b < ch " " → escaped b ≡ letters "\\u00" ++ hex_pair b)
 
 -- where r is not 0, the byte b stands for itself
 pub record Ease (b r : ℕ) : Type 0 where
