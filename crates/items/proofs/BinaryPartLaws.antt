@@ -160,10 +160,6 @@ pub record Filling (s : List ℕ) (c : St) (p : ℕ) (state : List ℕ → ℕ �
   pub room : from + length u ≤ i
   pub within : i ≤ length s
 
-pub filling : (s : List ℕ) (state : List ℕ → ℕ → St) (place : ℕ → ℕ) (p first : ℕ) (entry : List ℕ) → p ≤ length s
-    → Filling s (state [] p) (place p) state place p first entry entry p first
-filling s state place p first entry h = record { u = []; runs = refl; filled = refl; placed = omega arith; room = omega arith; within = h }
-
 module _ {s : List ℕ} {c : St} {p : ℕ} {state : List ℕ → ℕ → St} {place : ℕ → ℕ} {from first : ℕ} {entry store : List ℕ} {i out : ℕ}
     (v : Filling s c p state place from first entry store i out) where
   -- a byte b, over the text from i to j

@@ -1,16 +1,16 @@
 -- Identifiers, letter by letter. Assumes nothing.
 use mathlib.Core.Path.{◌≡◌, refl, ◌∙◌}
-use mathlib.Core.List.{List, [], ◌∷◌, ◌++◌, append_assoc, append-nil}
+use mathlib.Core.List.{List, [], ◌∷◌, ◌++◌, append_assoc}
 use Prim.Native.Nat.{ℕ, suc, ◌+◌, ◌-◌, ◌≤◌, ◌<◌}
 use native.Mathlib.Omega.{arith}
 use lib.ListN.{length, take, drop, get_or, length-drop}
 use lib.Seq.{take-suc, get_or-drop}
 use Rattle.machine.specs.Scan.{takes, ran}
-use Rattle.machine.specs.Names.{name, scan, on_name, class_of, neither}
+use Rattle.machine.specs.Names.{name, scan, on_name, class_of}
 use Rattle.items.specs.Between.Places.{Onward}
-use Rattle.items.specs.Between.Identifier.{sort_is, NameEnds}
+use Rattle.items.specs.Between.Identifier.{sort_is}
 use Rattle.items.specs.declared.identifier.Sort.{Sort}
-use Rattle.items.proofs.PlacesLaws.{run_take, here, further}
+use Rattle.items.proofs.PlacesLaws.{run_take, further}
 
 -- one byte more of the text
 pub take_more : (text : List ℕ) (p q : ℕ) → p ≤ q → q < length text → take (q + 1 - p) (drop p text) ≡ take (q - p) (drop p text) ++ (get_or text q 0 ∷ [])
@@ -25,9 +25,6 @@ pub record Naming (text : List ℕ) (p q : ℕ) : Type 0 where
   pub goes : (a : List ℕ) → ran scan p (name a) (drop p text) ≡ ran scan q (name (a ++ take (q - p) (drop p text))) (drop q text)
   pub onward : Onward text p q
 
-pub naming : (text : List ℕ) (p : ℕ) → p ≤ length text → Naming text p p
-naming text p h = record { goes = λ a. (let z : p - p ≡ 0 = omega arith in rw (z, append-nil)); onward = here text p h }
-
 module _ {text : List ℕ} {p q : ℕ} (v : Naming text p q) where
   name_on : q < length text → ((a : List ℕ) → scan q (name a) (get_or text q 0) ≡ takes (name (a ++ (get_or text q 0 ∷ [])))) → Naming text p (q + 1)
   name_on h e = record {
@@ -41,9 +38,3 @@ module _ {text : List ℕ} {p q : ℕ} (v : Naming text p q) where
   name_more h Sort.Letter e n = name_on h (λ a. rw e)
   name_more h Sort.Figure e n = name_on h (λ a. rw e)
   name_more h Sort.Neither e n = absurd (n refl)
-
-  pub name_stops : class_of (get_or text q 0) ≡ neither → NameEnds text p q
-  name_stops e = record { goes = v.goes; onward = v.onward; stopped = λ h. e }
-
-  pub name_over : length text ≤ q → NameEnds text p q
-  name_over h = record { goes = v.goes; onward = v.onward; stopped = λ g. absurd (omega arith) }

@@ -7,7 +7,6 @@ use lib.ListN.{length, get_or, drop, drop_of_length-le}
 use lib.Seq.{drop-cons}
 use native.Mathlib.Omega.{arith}
 use native.Mathlib.Numerals.{add-one}
-use native.Mathlib.Nat.{add-zero}
 use borrow.Author.Tests.{eq-eqb, ne_eqb}
 use Rattle.meaning.specs.declared.Refusal.TheVariants.{NotGrammar}
 use Rattle.machine.specs.Scan.{over}
@@ -23,9 +22,6 @@ pub record Spelt (s : List ℕ) (p : ℕ) (word : List ℕ) (i : ℕ) : Type 0 w
   pub goes : Runs word_scan s word p (drop i word) (p + i)
   pub some : i ≤ length word
   pub within : p + i ≤ length s
-
-pub spelt_start : (s : List ℕ) (p : ℕ) (word : List ℕ) → p ≤ length s → Spelt s p word 0
-spelt_start s p word h = record { goes = rw (add-zero p); some = omega arith; within = omega arith }
 
 module _ {s : List ℕ} {p : ℕ} {word : List ℕ} {i : ℕ} (t : Spelt s p word i) where
   pub spelt_whole : length word ≤ i → WordSays s p word (Ok (p + length word))

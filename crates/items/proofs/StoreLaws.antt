@@ -50,25 +50,34 @@ copied s t from to at n l h r m =
     seg_limit s t from (from + n) to at (omega arith) (omega arith) h (λ g. omega arith) _
     (part_sets t (take (from + n - from) (drop from s)) at (at + n - at) (omega arith) (omega arith))
 
--- the bytes of a character, put one by one
+-- how many bytes a character has
+pub size1 : (c : ℕ) → c < 0x80 → length (encode c) ≡ 1
+size1 c h = rw (row_1 c (omega arith))
+
+pub size2 : (c : ℕ) → 0x80 ≤ c → c < 0x800 → length (encode c) ≡ 2
+size2 c g h = rw (row_2 c (omega arith) (omega arith))
+
+pub size3 : (c : ℕ) → 0x800 ≤ c → c < 0x10000 → length (encode c) ≡ 3
+size3 c g h = rw (row_3 c (omega arith) (omega arith))
+
+pub size4 : (c : ℕ) → 0x10000 ≤ c → length (encode c) ≡ 4
+size4 c g = rw (row_4 c (omega arith))
+
+-- its bytes, put one by one
 module _ (t : List ℕ) (at c : ℕ) where
-  pub enc1 : c < 0x80 → (length (encode c) ≡ 1) × (sets t at (encode c) ≡ set t at c)
-  enc1 h = let e = row_1 c (omega arith) in (rw e, rw e)
+  pub enc1 : c < 0x80 → sets t at (encode c) ≡ set t at c
+  enc1 h = rw (row_1 c (omega arith))
 
-  pub enc2 : 0x80 ≤ c → c < 0x800 → (length (encode c) ≡ 2) × (sets t at (encode c) ≡ set (set t at (0xC0 + c / 64)) (at + 1) (0x80 + c % 64))
-  enc2 g h = let e = row_2 c (omega arith) (omega arith) in (rw e, rw (e, add-one))
+  pub enc2 : 0x80 ≤ c → c < 0x800 → sets t at (encode c) ≡ set (set t at (0xC0 + c / 64)) (at + 1) (0x80 + c % 64)
+  enc2 g h = rw (row_2 c (omega arith) (omega arith), add-one)
 
-  pub enc3 : 0x800 ≤ c → c < 0x10000 → (length (encode c) ≡ 3) × (sets t at (encode c)
-      ≡ set (set (set t at (0xE0 + c / 4096)) (at + 1) (0x80 + c / 64 % 64)) (at + 2) (0x80 + c % 64))
-  enc3 g h =
-      let e = row_3 c (omega arith) (omega arith) in
-      let two : at + 2 ≡ suc (suc at) = omega arith in
-      (rw e, rw (e, add-one, two))
+  pub enc3 : 0x800 ≤ c → c < 0x10000
+      → sets t at (encode c) ≡ set (set (set t at (0xE0 + c / 4096)) (at + 1) (0x80 + c / 64 % 64)) (at + 2) (0x80 + c % 64)
+  enc3 g h = let two : at + 2 ≡ suc (suc at) = omega arith in rw (row_3 c (omega arith) (omega arith), add-one, two)
 
-  pub enc4 : 0x10000 ≤ c → (length (encode c) ≡ 4) × (sets t at (encode c) ≡ set
-      (set (set (set t at (0xF0 + c / 262144)) (at + 1) (0x80 + c / 4096 % 64)) (at + 2) (0x80 + c / 64 % 64)) (at + 3) (0x80 + c % 64))
+  pub enc4 : 0x10000 ≤ c → sets t at (encode c)
+      ≡ set (set (set (set t at (0xF0 + c / 262144)) (at + 1) (0x80 + c / 4096 % 64)) (at + 2) (0x80 + c / 64 % 64)) (at + 3) (0x80 + c % 64)
   enc4 g =
-      let e = row_4 c (omega arith) in
       let two : at + 2 ≡ suc (suc at) = omega arith in
       let three : at + 3 ≡ suc (suc (suc at)) = omega arith in
-      (rw e, rw (e, add-one, two, three))
+      rw (row_4 c (omega arith), add-one, two, three)

@@ -2,14 +2,13 @@
 use mathlib.Core.Path.{◌≡◌, sym, ap, ◌∙◌}
 use mathlib.Core.List.{List, ◌++◌, append_assoc}
 use Prim.Native.Nat.{ℕ, zero, suc, ◌+◌, ◌-◌, ◌≤◌, ◌<◌}
-use native.Mathlib.Decide.{ℕ_discrete}
 use native.Mathlib.Omega.{arith}
 use lib.ListN.{length, get_or, take, drop}
 use lib.Seq.{take-add, drop-drop}
 use Rattle.meaning.specs.Letters.{ch}
 use Rattle.machine.specs.Scan.{over}
 use Rattle.machine.specs.Strings.{mk, whole, body, scan}
-use Rattle.items.specs.Between.StringPart.{gap, Plain, Plains, Passed}
+use Rattle.items.specs.Between.StringPart.{gap, Plains, Passed}
 use Rattle.items.specs.Between.Places.{ran_from}
 use Rattle.items.proofs.StringPartQuotedLaws.{Passing, pass_more}
 
@@ -22,30 +21,6 @@ pub record Bound (q b least slash quote : ℕ) : Type 0 where
 
 pub record Least (s : List ℕ) (q at n least slash quote : ℕ) : Type 0 where
   pub each : (k : ℕ) → k < n → Bound q (get_or s (at + k) 0) least slash quote
-
-pub least_none : (s : List ℕ) (q at least slash quote : ℕ) → Least s q at 0 least slash quote
-least_none s q at least slash quote = record { each = λ k h. absurd (omega arith) }
-
--- one byte more, under bounds that are no greater
-pub least_more : {s : List ℕ} {q at n l m p l' m' p' : ℕ} → Least s q at n l m p → l' ≤ l → m' ≤ m → p' ≤ p → Bound q (get_or s (at + n) 0) l' m' p'
-    → Least s q at (n + 1) l' m' p'
-least_more {s} {q} {at} {n} {l} {m} {p} {l'} {m'} {p'} t x y z b = record { each = λ k h. go k h (ℕ_discrete k n) }
-  where
-    go : (k : ℕ) → k < n + 1 → Dec (k ≡ n) → Bound q (get_or s (at + k) 0) l' m' p'
-    go k h (yes e) = rw e b
-    go k h (no e) = let u = t.each k (omega arith) in record {
-      byte = u.byte;
-      low = omega (arith, u.low);
-      far = omega (arith, u.far);
-      other = omega (arith, u.other);
-    }
-
--- all of a block
-pub least_plain : {s : List ℕ} {q at n l m p : ℕ} → Least s q at n l m p → 16 ≤ n → 0x20 ≤ l → (m ≡ 0 → ⊥) → (p ≡ 0 → ⊥) → Plains s q at 16
-least_plain {s} {q} {at} {n} {l} {m} {p} t e x y z = record { each = λ k h. go (get_or s (at + k) 0) (t.each k (omega arith)) }
-  where
-    go : (b : ℕ) → Bound q b l m p → Plain q b
-    go b u = record { byte = u.byte; low = omega (arith, u.low); slash = λ f. y (omega (arith, u.far, f)); quote = λ f. z (omega (arith, u.other, f)) }
 
 -- plain bytes, and n more
 pub pass_plains : (s : List ℕ) (q from at n : ℕ) → Passing s q from at → Plains s q at n → at + n ≤ length s → Passing s q from (at + n)

@@ -15,7 +15,7 @@ use Rattle.machine.specs.Scan.{over}
 use Rattle.machine.specs.Strings as S
 use Rattle.machine.specs.Strings.{Ctx, mk, first, whole, half, body, done, alone, unit, on_body, plain_byte, scan}
 use Rattle.items.specs.Between.Places.{Goes}
-use Rattle.items.specs.Between.StringPart.{Halved, Coded, Spoilt, Broken, EscapeIs, Read, Blamed, Stopped}
+use Rattle.items.specs.Between.StringPart.{Halved, EscapeIs, Read, Blamed, Stopped}
 use Rattle.items.specs.declared.string_part.Escape.{Escape}
 use Rattle.items.specs.declared.string_part.Escape.TheVariants.{Half, Code, Bad}
 use Rattle.items.proofs.PlacesLaws.{go, moves, alike, like, end}
@@ -35,21 +35,6 @@ unpaired base s i l ne q bad a w acc = by (eqb (get_or s i 0) q) refl
     by false e = like scan base s (body (mk q bad (half a w) acc)) (body (mk q (first bad a) whole acc)) i l (simp (ne_eqb _ _ ne, e))
 
 module _ (s : List ℕ) (at : ℕ) where
-  pub char_code : (next c : ℕ) → Coded s at next c → Read s at next c
-  char_code next c t = record {
-    goes = λ base q bad acc. t.goes base (mk q bad whole acc);
-    room = t.room;
-    past = t.past;
-    within = t.within;
-    small = t.small;
-  }
-
-  pub char_odd : (next : ℕ) → Spoilt s at next → Blamed s at next
-  char_odd next t = record { goes = λ base q bad acc. t.goes base (mk q bad whole acc); past = t.past; within = t.within }
-
-  pub char_break : (p : ℕ) → Broken s at p → Stopped s at p
-  char_break p t = record { ends = λ base q small bad acc. t.ends base (mk q bad whole acc); within = t.within }
-
   module _ (next w : ℕ) (t : Halved s at next w) where
     alone_goes : (base q : ℕ) (bad : S.Bad) (acc : List ℕ) (d : Ctx) → alone (mk q bad whole acc) (base + at) w ≡ d
         → Goes scan base s (body (mk q bad whole acc)) at (body d) next
@@ -95,9 +80,6 @@ module _ (s : List ℕ) (at : ℕ) where
             (let n : over ≡ q → ⊥ = λ e. omega arith in simp (ne_eqb over q n));
         within = t.within;
       }
-
-      pub wait_break : (p : ℕ) → Broken s next p → Stopped s at p
-      wait_break p u = record { ends = λ base q small bad acc. waits base q bad acc ∙ u.ends base (mk q bad (half (base + at) w) acc); within = u.within }
 
       blamed : ((base q : ℕ) (bad : S.Bad) (acc : List ℕ) → Goes scan base s (body (mk q bad (half (base + at) w) acc)) next
           (body (mk q (first bad (base + at)) whole acc)) next) → Blamed s at next

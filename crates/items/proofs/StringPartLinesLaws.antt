@@ -6,11 +6,10 @@ use mathlib.Core.Bool.{true, false}
 use Rattle.std.specs.Prelude.{Ok, Err}
 use lib.ListN.{length, drop, take, get_or, replicate, length-append, length-take, length-drop, length-replicate}
 use lib.Seq.{sets, take-suc, get_or-drop, take_at, take-take}
-use lib.Dec.{eqb}
 use native.Mathlib.Omega.{arith}
 use native.Mathlib.Decide.{dec_lt, ℕ_discrete}
 use native.Mathlib.Numerals.{add-one}
-use borrow.Author.Tests.{lt-ltb, eq-eqb, ne_eqb}
+use borrow.Author.Tests.{eq-eqb, ne_eqb}
 use Rattle.meaning.specs.declared.Refusal.TheVariants.{NotGrammar}
 use Rattle.meaning.specs.Letters.{ch, letters}
 use Rattle.machine.specs.Scan.{over}
@@ -84,10 +83,6 @@ module _ (s : List ℕ) (l : 2 < length s) where
 
 -- ---- the next three quotes
 
-pub line_last : (b : ℕ) → b < 0x20 → (b ≡ ch "\t" → ⊥) → (b ≡ ch "\n" → ⊥) → eqb b (ch "\r") ≡ line_byte b
-unfolding line_byte
-line_last b h n m = simp (lt-ltb _ _ h, ne_eqb _ _ n, ne_eqb _ _ m)
-
 one_more : (n q : ℕ) → replicate (suc n) q ≡ replicate n q ++ (q ∷ [])
 one_more zero q = refl
 one_more (suc n) q = ap (λ (a : List ℕ). q ∷ a) (one_more n q)
@@ -102,16 +97,6 @@ pub record Lining (s : List ℕ) (q i j n : ℕ) : Type 0 where
   pub within : j ≤ length s
 
 module _ (s : List ℕ) (q from : ℕ) where
-  pub lining_start : from ≤ length s → Lining s q from from 0
-  lining_start h = let z : from - from ≡ 0 = omega arith in record {
-    acc = [];
-    goes = λ base. refl;
-    all = rw z;
-    few = omega arith;
-    behind = omega arith;
-    within = h;
-  }
-
   module _ (i n : ℕ) (t : Lining s q from i n) where
     pub lining_end : q < over → length s ≤ i → Breaks s q from (length s)
     unfolding scan on_lines line_byte
@@ -125,9 +110,6 @@ module _ (s : List ℕ) (q from : ℕ) where
     counted =
         let l : length (take (i - from) (drop from s)) ≡ i - from = simp (length-take, length-drop) (omega (arith, t.behind, t.within)) in
         omega (arith, l, simp (length-append, length-replicate) at (ap length t.all))
-
-    pub lining_far : from + n ≤ i
-    lining_far = omega (arith, counted, t.behind)
 
     module _ (h : i < length s) where
       further : take (i + 1 - from) (drop from s) ≡ take (i - from) (drop from s) ++ (get_or s i 0 ∷ [])

@@ -22,7 +22,7 @@ use Rattle.items.specs.declared.Taken.{Taken}
 use Rattle.items.specs.declared.string_part.Broken as part
 use Rattle.items.specs.declared.string_part.Broken.TheVariants as Why
 use Rattle.items.specs.Between.Places.{byte_at, ran_from, Goes}
-use Rattle.items.specs.Between.StringPart.{plain, Passed, Read, Blamed, Stopped, marked, Says, InnerSays, OneSays, ThreeSays, PartSays}
+use Rattle.items.specs.Between.StringPart.{plain, Passed, Read, Blamed, marked, Says, InnerSays, OneSays, ThreeSays, PartSays}
 use Rattle.items.proofs.PlacesLaws.{byte_in, byte_out, go, halt, like, end, breaks_by, stops_by}
 use Rattle.items.proofs.StoreLaws.{sets_app}
 
@@ -117,18 +117,6 @@ pub record Round (s : List ℕ) (q at : ℕ) (entry store : List ℕ) (i out : �
   pub within : i ≤ length s
   pub low : UpTo i bad
 
-pub round_start : (s : List ℕ) (q at : ℕ) (entry : List ℕ) → 0 < length s → Round s q at entry entry 1 at None
-round_start s q at entry h = record {
-  acc = [];
-  goes = λ base. refl;
-  stored = refl;
-  counted = omega arith;
-  room = omega arith;
-  past = omega arith;
-  within = omega arith;
-  low = tt;
-}
-
 module _ {s : List ℕ} {q at : ℕ} {entry store : List ℕ} {i out : ℕ} {bad : Option ℕ} (t : Round s q at entry store i out bad) where
   pub round_plain : {e : ℕ} → Passed s q i e → {new : List ℕ} → new ≡ sets store out (take (e - i) (drop i s)) → Round s q at entry new e (out + (e - i)) bad
   round_plain {e} p w =
@@ -143,9 +131,6 @@ module _ {s : List ℕ} {q at : ℕ} {entry store : List ℕ} {i out : ℕ} {bad
         within = p.within;
         low = up_to_more i e bad p.behind t.low;
       }
-
-  pub round_stop : q < over → {p : ℕ} → Stopped s i p → InnerSays s q at entry store (Err (Why.NotGrammar p))
-  round_stop small f = (λ base. t.goes base ∙ f.ends base q small (marked base bad) t.acc, f.within)
 
   pub round_end : q < over → length s ≤ i → InnerSays s q at entry store (Err (Why.NotGrammar i))
   unfolding scan on_body plain_byte

@@ -24,28 +24,33 @@ pub fn copy(s: &[u8], from: usize, to: usize, store: &mut [u8], at: usize)
 }
 
 // The UTF-8 form of c, put at `at`; the place after it.
+#[tactic(auto, using(crate::proofs::StoreLaws::size1, crate::proofs::StoreLaws::size2, crate::proofs::StoreLaws::size3, crate::proofs::StoreLaws::size4))]
 pub fn encode(c: u32, store: &mut [u8], at: usize) -> usize
     requires { (c ≤ 0x10FFFF) × (at + length (encode c) < 2 ^ 64) }
     ensures { (result ≡ at + length (encode c)) × (store.new ≡ sets store.old at (encode c)) }
 {
-    if c < 0x80 {
-        put_byte(store, at, c as u8);
-        return at + 1;
+    match c {
+        0..=0x7F => {
+            put_byte(store, at, c as u8);
+            at + 1
+        }
+        0x80..=0x7FF => {
+            put_byte(store, at, (0xC0 + c / 64) as u8);
+            put_byte(store, at + 1, (0x80 + c % 64) as u8);
+            at + 2
+        }
+        0x800..=0xFFFF => {
+            put_byte(store, at, (0xE0 + c / 4096) as u8);
+            put_byte(store, at + 1, (0x80 + c / 64 % 64) as u8);
+            put_byte(store, at + 2, (0x80 + c % 64) as u8);
+            at + 3
+        }
+        _ => {
+            put_byte(store, at, (0xF0 + c / 262144) as u8);
+            put_byte(store, at + 1, (0x80 + c / 4096 % 64) as u8);
+            put_byte(store, at + 2, (0x80 + c / 64 % 64) as u8);
+            put_byte(store, at + 3, (0x80 + c % 64) as u8);
+            at + 4
+        }
     }
-    if c < 0x800 {
-        put_byte(store, at, (0xC0 + c / 64) as u8);
-        put_byte(store, at + 1, (0x80 + c % 64) as u8);
-        return at + 2;
-    }
-    if c < 0x10000 {
-        put_byte(store, at, (0xE0 + c / 4096) as u8);
-        put_byte(store, at + 1, (0x80 + c / 64 % 64) as u8);
-        put_byte(store, at + 2, (0x80 + c % 64) as u8);
-        return at + 3;
-    }
-    put_byte(store, at, (0xF0 + c / 262144) as u8);
-    put_byte(store, at + 1, (0x80 + c / 4096 % 64) as u8);
-    put_byte(store, at + 2, (0x80 + c / 64 % 64) as u8);
-    put_byte(store, at + 3, (0x80 + c % 64) as u8);
-    at + 4
 }

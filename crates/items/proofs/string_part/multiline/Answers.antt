@@ -1,18 +1,8 @@
 -- Assumes nothing.
-use native.Mathlib.Omega.{arith}
 use Rattle.items.specs.Between.StringPart.{ThreeSays}
 use Rattle.items.proofs.PlacesLaws.{passed_on}
 use Rattle.items.proofs.StringPartLinesLaws.{three_cut, three_last}
 use Rattle.items.proofs.string_part.multiline.Goals as goal
-
-pub copy-requires : goal.copy-requires
-copy-requires c = let t = c.in_ok-end.ensures in (t.behind, omega (arith, t.within))
-
-pub overflow_add-result : goal.overflow_add-result
-overflow_add-result c = omega (arith, c.in_ok-end.ensures.within)
-
-pub overflow_sub-result : goal.overflow_sub-result
-overflow_sub-result c = omega (arith, c.in_ok-end.ensures.behind)
 
 pub returns-in_err-end : goal.returns-in_err-end
 returns-in_err-end c = passed_on (ThreeSays c.args.s.now c.args.q c.args.at c.args.store.now c.args.store.now) _ c.from_residual.ensures.1

@@ -3,23 +3,7 @@ use mathlib.Core.Bool.{Bool}
 use native.Mathlib.Omega.{arith}
 use Rattle.items.specs.Between.StringPart.{BlockSays}
 use Rattle.items.proofs.StringPartBlockLaws.{pass_plains, pass_then}
-use Rattle.items.proofs.StringPartQuotedLaws.{pass_none}
 use Rattle.items.proofs.string_part.plain_end.Goals as goal
-
-pub loop-at-init : goal.loop-at-init
-loop-at-init c = pass_none c.args.s.now c.args.q c.args.from (omega arith)
-
-pub overflow_sub-s : goal.overflow_sub-s
-overflow_sub-s c = omega arith
-
-pub plain_block-requires : goal.plain_block-requires
-plain_block-requires c = omega arith
-
-pub overflow_add-at : goal.overflow_add-at
-overflow_add-at c = omega arith
-
-pub loop-at-smaller : goal.loop-at-smaller
-loop-at-smaller c = omega arith
 
 pub loop-at-preserved : goal.loop-at-preserved
 loop-at-preserved c = pass_plains c.args.s.now c.args.q
@@ -27,16 +11,10 @@ loop-at-preserved c = pass_plains c.args.s.now c.args.q
     (subst (λ (r : Bool). BlockSays c.args.s.now c.args.q
     c.loop-at.at r) c.if-plain_block.true c.plain_block.ensures) (omega arith)
 
-pub plain_bytes-requires : goal.plain_bytes-requires
-plain_bytes-requires c = omega arith
-
 pub returns-else-plain_block : goal.returns-else-plain_block
 returns-else-plain_block c = pass_then c.args.s.now c.args.q
     c.args.from c.loop-at.at c.plain_bytes.result
     c.loop-at.invariant c.plain_bytes.ensures
-
-pub plain_bytes-requires-2 : goal.plain_bytes-requires-2
-plain_bytes-requires-2 c = omega arith
 
 pub returns : goal.returns
 returns c = pass_then c.args.s.now c.args.q
