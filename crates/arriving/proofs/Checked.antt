@@ -8,19 +8,18 @@ use native.Mathlib.Omega.{arith}
 use lib.Dec.{eqb, leb}
 use lib.ListN.{length, length-append, length-replicate, replicate}
 use borrow.Author.Tests.{le-leb, lt-leb, leb-true, leb-false}
-use Rattle.rules.specs.declared.Utf8Answer.{Utf8Answer}
-use Rattle.rules.specs.declared.Utf8Answer.TheVariants.{Done, IllFormed}
+use Rattle.std.specs.Prelude.{Result, Ok, Err}
+use Rattle.rules.specs.declared.IllFormed.{IllFormed}
 use Rattle.rules.specs.Between.Decided.{judged}
 use Rattle.rules.proofs.Characters.{Each}
 use Rattle.meaning.specs.Limits.{text_limit, depth_limit}
 use Rattle.meaning.specs.declared.Refusal.TheVariants.{TextTooLong, NotUtf8}
-use Rattle.machine.specs.Machine.{want, base, at, reading, Verdict, Ok, No}
+use Rattle.machine.specs.Machine.{want, base, at, reading, Verdict}
+use Rattle.machine.specs.Machine as Machine
 use Rattle.machine.specs.Verdict.{decoded, verdict}
 use Rattle.machine.proofs.Whole.{sound}
 use Rattle.machine.proofs.Refusals.Whole.{loose_refusals}
-use Rattle.reader.specs.declared.Answer.{Answer}
-use Rattle.reader.specs.declared.Answer.TheVariants.{Refused}
-use Rattle.reader.specs.Answers.{Loosely, answer_said}
+use Rattle.reader.specs.Answers.{Answer, Loosely, answer_said}
 use Rattle.arriving.specs.declared.Check.{Check}
 use Rattle.arriving.specs.declared.octets.Utf.{Utf}
 use Rattle.arriving.specs.declared.states.Due.TheVariants as Due
@@ -29,7 +28,7 @@ use Rattle.arriving.specs.Between.Octets.{between, fed_utf}
 use Rattle.arriving.specs.Between.Steps.{Stand, here_of, next, walked}
 use Rattle.arriving.specs.Between.Arriving.{core_of, check_of, started, spent, sane_mode, sane_here, sane, grown, fed, feds, end_mode, ended_core}
 use Rattle.arriving.specs.Between.Arriving.{ended, joined}
-use Rattle.arriving.proofs.OctetsLaws.{said, octets_judged, fed_join}
+use Rattle.arriving.proofs.OctetsLaws.{ill_at, said, octets_judged, fed_join}
 use Rattle.arriving.proofs.StepsLaws.{next_sane, walked_join}
 use Rattle.arriving.proofs.PushdownFrames.{held_none}
 use Rattle.arriving.proofs.PushdownStands.{Stands, at_base_lem}
@@ -132,24 +131,24 @@ any_cut ps qs e = feds_joined ps ∙ ap came e ∙ sym (feds_joined qs)
 -- ---- the end
 
 -- 2 in front of what the grammar comes to
-abbrev judged_to : Utf8Answer → Answer → Answer
-judged_to Done a = a
-judged_to (IllFormed k) a = Refused (NotUtf8 k)
+abbrev judged_to : Result (Unit {0}) IllFormed → Answer → Answer
+judged_to (Ok v) a = a
+judged_to (Err e) a = Err (NotUtf8 e.place)
 
 octets_first : (u : Utf) (a : Answer)
-    → cond u.broken (Refused (NotUtf8 u.first)) (cond (eqb u.left 0) a (Refused (NotUtf8 u.first))) ≡ judged_to (said u) a
+    → cond u.broken (Err (NotUtf8 u.first)) (cond (eqb u.left 0) a (Err (NotUtf8 u.first))) ≡ judged_to (said u) a
 octets_first u a = go u.broken (eqb u.left 0)
   where
-    go : (x y : Bool) → cond x (Refused (NotUtf8 u.first)) (cond y a (Refused (NotUtf8 u.first)))
-        ≡ judged_to (cond x (IllFormed u.first) (cond y Done (IllFormed u.first))) a
+    go : (x y : Bool) → cond x (Err (NotUtf8 u.first)) (cond y a (Err (NotUtf8 u.first)))
+        ≡ judged_to (cond x (ill_at u.first) (cond y (Ok tt) (ill_at u.first))) a
     go true y = refl
     go false true = refl
     go false false = refl
 
-judged_answer : (t : List ℕ) (x : Utf8Answer) → judged_to x (answer_of (reading t)) ≡ answer_of (decoded x t)
+judged_answer : (t : List ℕ) (x : Result (Unit {0}) IllFormed) → judged_to x (answer_of (reading t)) ≡ answer_of (decoded x t)
 unfolding decoded
-judged_answer t Done = refl
-judged_answer t (IllFormed k) = refl
+judged_answer t (Ok v) = refl
+judged_answer t (Err e) = refl
 
 module _ (s : List ℕ) (small : Each (λ (b : ℕ). b < 256) s) (l : length s ≤ text_limit) where
   grammar_ends : end_mode (stood s).0 (length s) (stood s).0.mode ≡ answer_of (reading s)
@@ -161,10 +160,10 @@ module _ (s : List ℕ) (small : Each (λ (b : ℕ). b < 256) s) (l : length s �
   after_ends =
       rw (after_sane s l)
       (octets_first (fed_utf between 0 s) (end_mode (stood s).0 (length s) (stood s).0.mode) ∙
-      ap (λ (a : Utf8Answer). judged_to a (end_mode (stood s).0 (length s) (stood s).0.mode)) (octets_judged s) ∙
+      ap (λ (a : Result (Unit {0}) IllFormed). judged_to a (end_mode (stood s).0 (length s) (stood s).0.mode)) (octets_judged s) ∙
       ap (judged_to (judged s)) grammar_ends ∙ judged_answer s (judged s))
 
-spent_ends : ended spent ≡ Refused TextTooLong
+spent_ends : ended spent ≡ Err TextTooLong
 unfolding ended_core sane
 spent_ends = refl
 
@@ -172,7 +171,7 @@ came_ends : (t : List ℕ) → Each (λ (b : ℕ). b < 256) t → ended (came t)
 unfolding verdict
 came_ends t small = go (leb (length t) text_limit) refl
   where
-    go : (x : Bool) → leb (length t) text_limit ≡ x → ended (cond x (after t) spent) ≡ answer_of (cond x (decoded (judged t) t) (No TextTooLong))
+    go : (x : Bool) → leb (length t) text_limit ≡ x → ended (cond x (after t) spent) ≡ answer_of (cond x (decoded (judged t) t) (Machine.No TextTooLong))
     go true e = after_ends t small (leb-true _ _ e)
     go false e = spent_ends
 
@@ -187,5 +186,5 @@ pub checked_loosely : (ps : List (List ℕ)) → Each (λ (b : ℕ). b < 256) (j
 checked_loosely ps small = go (verdict (joined ps)) refl
   where
     go : (v : Verdict) → verdict (joined ps) ≡ v → Loosely (joined ps) (ended (feds started ps))
-    go (Ok m) e = Loosely.sizes (sound (joined ps) m e) (ap answer_said (checked ps small ∙ ap answer_of e))
-    go (No r) e = Loosely.no_text ((loose_refusals (joined ps) r).0 e) (ap answer_said (checked ps small ∙ ap answer_of e))
+    go (Machine.Ok m) e = Loosely.sizes (sound (joined ps) m e) (ap answer_said (checked ps small ∙ ap answer_of e))
+    go (Machine.No r) e = Loosely.no_text ((loose_refusals (joined ps) r).0 e) (ap answer_said (checked ps small ∙ ap answer_of e))

@@ -161,12 +161,6 @@ skim_placed part x y ks ls s h l =
 
 -- ---- a state between items
 
-pub stands_at : (part : List ℕ) (at : ℕ) (h : Here) (n : ℕ) → h.mode ≡ Mode.At → n ≡ due_number h.due → Stands part at h
-    → Stands part at (here_of Mode.At (due_of n) h.depth h.records h.stored)
-stands_at part at h n m e s =
-    subst (λ (u : DueOf.Due). Stands part at (here_of Mode.At u h.depth h.records h.stored)) (sym (due_told h.due n e))
-    (subst (λ (m' : ModeOf.Mode). Stands part at (here_of m' h.due h.depth h.records h.stored)) m s)
-
 pub leaps_at : (part : List ℕ) (h : Here) (ks : List ℕ) (at n : ℕ) (x : Spot) (u : DueOf.Due) (ls : List ℕ) → h.mode ≡ Mode.At → n ≡ due_number h.due
     → u ≡ due_of x.due → Leaps part (here_of Mode.At (due_of n) h.depth h.records h.stored, ks) at (stand_of x ls) x.at
     → Leaps part (h, ks) at (here_of Mode.At u x.depth x.records x.stored, ls) x.at

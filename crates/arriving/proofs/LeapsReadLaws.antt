@@ -27,7 +27,8 @@ use Rattle.machine.specs.Machine.{letter_f, letter_c, other_c, open_c, close_c}
 use Rattle.machine.proofs.Classes.{ClassIs, class_is_lem}
 use Rattle.items.specs.Between.PlacedPart.{Ended}
 use Rattle.items.specs.Between.StringPart.{PartSays}
-use Rattle.items.specs.declared.string_part.Part.{Part}
+use Rattle.std.specs.Prelude.{Ok}
+use Rattle.items.specs.declared.Taken.{Taken}
 use Rattle.reader.proofs.JoinedLaws.{part_closed}
 use Rattle.items.specs.Between.NumberOrTime.{Took, Means, null, bool, number, time}
 use Rattle.items.specs.Between.Identifier.{NameEnds}
@@ -247,21 +248,21 @@ quote_begins x ks p b _ _ _ Quotes.part u e = rw (u, quote_class b e, add-zero x
 quote_begins x ks p b _ _ _ Quotes.key_part u e = rw (u, quote_class b e, add-zero x.records, add-zero x.stored)
 
 module _ (part : List ℕ) (x : Spot) (ks : List ℕ) (y : Spot) where
-  pub string_skips : (u v : DueOf.Due) (n bytes taken start : ℕ) (entry exit : List ℕ) → Quotes u v n → due_at x ≡ u → Placed part x → Bytes part
+  pub string_skips : (u v : DueOf.Due) (n start : ℕ) (read : Taken ℕ) (entry exit : List ℕ) → Quotes u v n → due_at x ≡ u → Placed part x → Bytes part
       → (get_or part x.at 0 ≡ ch "\"") ⊎ (get_or part x.at 0 ≡ ch "'")
-      → PartSays (take (length part - x.at) (drop x.at part)) start entry exit (Part.Closed bytes taken)
-      → x.at + taken < length part → y ≡ spot_of (x.at + taken) v x.depth (x.records + n) (x.stored + bytes) → Skips part x ks y ks
+      → PartSays (take (length part - x.at) (drop x.at part)) start entry exit (Ok read)
+      → x.at + read.end < length part → y ≡ spot_of (x.at + read.end) v x.depth (x.records + n) (x.stored + read.value) → Skips part x ks y ks
   unfolding sane_mode
-  string_skips u v n bytes taken start entry exit c d r bs e h l g =
+  string_skips u v n start read entry exit c d r bs e h l g =
       let w = r.within in
-      let k = part_closed part x.at start entry (omega arith) exit taken bytes h in
+      let k = part_closed part x.at start entry (omega arith) exit read.end read.value h in
       let a = k.meant.past in
       rw g (record {
         behind = omega arith;
         within = omega arith;
         from = λ base s. item_leapt Strings.scan (StringIs base) (λ (w : List ℕ) (m : ℕ). length w ≡ m) base step_of (string_likes base) (string_bounds base)
             (string_steps base)
-            part x ks (spot_of (x.at + taken) v x.depth (x.records + n) (x.stored + bytes)) (Takes (open_quote (get_or part x.at 0)) 0) k.u
+            part x ks (spot_of (x.at + read.end) v x.depth (x.records + n) (x.stored + read.value)) (Takes (open_quote (get_or part x.at 0)) 0) k.u
             Strings.begin (strings_begin base x.at (get_or part x.at 0) e)
             (λ m j o. rw (due_back v) (begins_so _ m (open_quote (get_or part x.at 0)) 0 j v x.depth (x.records + n) x.stored ks o
             (quote_begins x ks (base + x.at) (get_or part x.at 0) u v n c d e)))

@@ -5,12 +5,10 @@ use mathlib.Core.Bool.{Bool, true, false, cond}
 use mathlib.Core.List.{List}
 use mathlib.Core.Logic.{◌⊎◌, inl, inr}
 use native.Mathlib.Omega.{arith}
-use native.Mathlib.Decide.{dec_lt}
-use lib.Dec.{eqb, leb, ltb}
+use lib.Dec.{eqb, leb}
 use lib.ListN.{length, get_or}
-use borrow.Author.Tests.{leb-true, le-leb, lt-leb, eqb-true, eqb-false, eq-eqb, ne_eqb, lt-ltb, le-ltb}
+use borrow.Author.Tests.{leb-true, eqb-true, eqb-false, eq-eqb, ne_eqb, lt-ltb}
 use Rattle.meaning.specs.Letters.{ch}
-use Rattle.machine.specs.Scan.{over}
 use Rattle.machine.specs.Strings.{line_byte, plain_byte}
 use Rattle.machine.specs.Machine.{class_of, blank_c, Note, note_of, line_end, star_n, slash_n, plain_n, control_n}
 use Rattle.machine.proofs.Layouts.{NoteIs, note_is_lem}
@@ -35,69 +33,6 @@ use Rattle.meaning.specs.declared.Refusal.TheVariants.{NotGrammar}
 use Rattle.arriving.specs.Between.Strings.{quoted, next_quoted, on_body, on_lines, bad_now}
 use Rattle.arriving.specs.Between.Leaps.{Leaps, Skips, due_at, stand_of, spot_at, stays_in, RanTo}
 use Rattle.arriving.proofs.LeapsLaws.{within_more, leaps_then, leaps_step, run_leaps, stay_on}
-
--- ---- what the code answers
-
-module _ (run : RunOf.Run) (q b : ℕ) where
-  pub blank_is : run ≡ Run.Blank → (r : Bool) → ((k : ℕ) → r ≡ stays_in Run.Blank k b) → r ≡ stays_in run q b
-  blank_is e r h = rw e (h q)
-
-  pub line_high : run ≡ Run.Line → 0x20 ≤ b → true ≡ stays_in run q b
-  unfolding stays_in
-  line_high e h = rw (e, le-leb _ _ h)
-
-  pub line_low : run ≡ Run.Line → b < 0x20 → eqb b (ch "\t") ≡ stays_in run q b
-  unfolding stays_in
-  line_low e h = rw (e, lt-leb _ _ h)
-
-  pub block_star : run ≡ Run.Block → b ≡ ch "*" → false ≡ stays_in run q b
-  unfolding stays_in
-  block_star e h = rw (e, eq-eqb _ _ h)
-
-  pub block_other : run ≡ Run.Block → (b ≡ ch "*" → ⊥) → (r : Bool) → r ≡ line_byte b → r ≡ stays_in run q b
-  unfolding stays_in
-  block_other e h r k = rw (e, ne_eqb _ _ h) k
-
-  pub plain_slash : run ≡ Run.Plain → b ≡ ch "\\" → false ≡ stays_in run q b
-  unfolding stays_in
-  plain_slash e h = rw (e, eq-eqb _ _ h)
-
-  pub plain_quote : run ≡ Run.Plain → (b ≡ ch "\\" → ⊥) → b ≡ q → false ≡ stays_in run q b
-  unfolding stays_in
-  plain_quote e f h = rw (e, ne_eqb _ _ f, eq-eqb _ _ h)
-
-  pub plain_other : run ≡ Run.Plain → (b ≡ ch "\\" → ⊥) → (b ≡ q → ⊥) → b < 256 → leb 0x20 b ≡ stays_in run q b
-  unfolding stays_in plain_byte
-  plain_other e f h l = rw (e, ne_eqb _ _ f, ne_eqb _ _ h) (by (dec_lt b 0x20))
-    where
-      by : Dec (b < 0x20) → leb 0x20 b ≡ cond (ltb b 0x20) false (ltb b over)
-      by (Dec.yes g) = rw (lt-ltb b 0x20 g, lt-leb 0x20 b g)
-      by (Dec.no g) = rw (le-ltb b 0x20 (omega arith), le-leb 0x20 b (omega arith), lt-ltb b over l)
-
-  pub lines_quote : run ≡ Run.Lines → b ≡ q → false ≡ stays_in run q b
-  unfolding stays_in
-  lines_quote e h = rw (e, eq-eqb _ _ h)
-
-  pub lines_other : run ≡ Run.Lines → (b ≡ q → ⊥) → (r : Bool) → r ≡ line_byte b → r ≡ stays_in run q b
-  unfolding stays_in
-  lines_other e h r k = rw (e, ne_eqb _ _ h) k
-
-module _ (b q : ℕ) where
-  pub blank_space : b ≡ ch " " → true ≡ stays_in Run.Blank q b
-  unfolding stays_in
-  blank_space e = rw e
-
-  pub blank_feed : b ≡ ch "\n" → true ≡ stays_in Run.Blank q b
-  unfolding stays_in
-  blank_feed e = rw e
-
-  pub blank_return : b ≡ ch "\r" → true ≡ stays_in Run.Blank q b
-  unfolding stays_in
-  blank_return e = rw e
-
-  pub blank_tab : (b ≡ ch " " → ⊥) → (b ≡ ch "\n" → ⊥) → (b ≡ ch "\r" → ⊥) → eqb b (ch "\t") ≡ stays_in Run.Blank q b
-  unfolding stays_in
-  blank_tab e f g = rw (ne_eqb b (ch " ") e, ne_eqb b (ch "\n") f, ne_eqb b (ch "\r") g)
 
 -- ---- the loop
 

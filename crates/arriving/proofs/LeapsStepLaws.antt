@@ -2,6 +2,7 @@
 use Prim.Native.Nat.{ℕ, zero, suc, ◌+◌, ◌-◌, ◌≤◌, ◌<◌}
 use mathlib.Core.Path.{◌≡◌, refl, ◌∙◌}
 use mathlib.Core.Bool.{true}
+use mathlib.Core.Logic.{◌⊎◌, inl, inr}
 use mathlib.Core.List.{List, [], ◌∷◌}
 use native.Mathlib.Omega.{arith}
 use native.Mathlib.Nat.{add-zero}
@@ -69,18 +70,11 @@ module _ (x : Spot) (ks : List ℕ) (y : Spot) where
 
   -- a byte after a value
   module _ (b : ℕ) (a : after_value (due_at x) ≡ true) where
-    pub after_comma : b ≡ ch "," → Stepped Steps.comma x ks y ks → Stepped (λ s p. on_after s p (class_of b)) x ks y ks
-    after_comma e (stays f g) = stays f g
-    after_comma e (steps f g h i j) = steps f g h i (λ p. rw (e, a) (j p))
 
     pub after_close : (c : Bracket) → b ≡ closing c → Stepped (λ s p. Steps.closed s p c) x ks y ks
         → Stepped (λ s p. on_after s p (class_of b)) x ks y ks
     after_close c e (stays f g) = stays f g
     after_close c e (steps f g h i j) = steps f g h i (λ p. rw (close_class b c e, a) (j p))
-
-  pub after_colon : (b : ℕ) → after_key (due_at x) ≡ true → x.depth ≤ depth_limit → b ≡ ch ":"
-      → y ≡ spot_of (x.at + 1) Due.Value x.depth (x.records + 0) (x.stored + 0) → Stepped (λ s p. on_after s p (class_of b)) x ks y ks
-  after_colon b a d e g = rw g (steps refl (omega arith) (omega arith) (omega arith) (λ p. rw (e, a, add-zero, add-zero)))
 
   -- a byte at its place
   pub stepped_skips : (part : List ℕ) (f : Stand → ℕ → Stand) (ls : List ℕ) → x.at < length part
@@ -92,14 +86,6 @@ module _ (x : Spot) (ks : List ℕ) (y : Spot) where
       (λ k i. within_more k _ _ i d r (omega arith) refl)
 
 -- ---- by what is due
-
--- where a value or a key has come
-pub data Afters : DueOf.Due → Type 0 where
-  value : Afters Due.AfterValue
-  key : Afters Due.AfterKey
-  string : Afters Due.AfterString
-  key_string : Afters Due.AfterKeyString
-  binary : Afters Due.AfterBinary
 
 module _ (part : List ℕ) (x : Spot) (ks : List ℕ) (y : Spot) (ls : List ℕ) (within : x.at < length part) where
   pub value_opens : (c : Bracket) → due_at x ≡ Due.Value → get_or part x.at 0 ≡ opening c → Stepped (λ s p. Steps.opened s p c) x ks y ls
@@ -116,18 +102,26 @@ module _ (part : List ℕ) (x : Spot) (ks : List ℕ) (y : Spot) (ls : List ℕ)
   unfolding on_mode between
   key_closes u e h = stepped_skips x ks y part (λ s p. Steps.closed s p curly) ls within (λ p. simp (u, e)) h
 
-  pub after_skips : (u : DueOf.Due) → Afters u → due_at x ≡ u → (b : ℕ) → b ≡ get_or part x.at 0
-      → Stepped (λ s p. on_after s p (class_of b)) x ks y ls → Skips part x ks y ls
-  unfolding on_mode between
-  after_skips u a e b f h = stepped_skips x ks y part (λ s p. on_after s p (class_of b)) ls within (λ p. by u a e p) h
-    where
-      by : (u : DueOf.Due) → Afters u → due_at x ≡ u → (p : ℕ)
-          → on_due (stand_of x ks) p (get_or part x.at 0) (due_at x) ≡ on_after (stand_of x ks) p (class_of b)
-      by _ Afters.value e' p = rw (f, e')
-      by _ Afters.key e' p = rw (f, e')
-      by _ Afters.string e' p = rw (f, e')
-      by _ Afters.key_string e' p = rw (f, e')
-      by _ Afters.binary e' p = rw (f, e')
+  -- where a value or a key has come
+  module _ (u : DueOf.Due) (e : due_at x ≡ u) (b : ℕ) (f : b ≡ get_or part x.at 0) (h : Stepped (λ s p. on_after s p (class_of b)) x ks y ls) where
+    pub value_skips : (u ≡ Due.AfterValue) ⊎ ((u ≡ Due.AfterString) ⊎ (u ≡ Due.AfterBinary)) → Skips part x ks y ls
+    unfolding on_mode between
+    value_skips c = stepped_skips x ks y part (λ s p. on_after s p (class_of b)) ls within (λ p. by p c) h
+      where
+        by : (p : ℕ) → (u ≡ Due.AfterValue) ⊎ ((u ≡ Due.AfterString) ⊎ (u ≡ Due.AfterBinary))
+            → on_due (stand_of x ks) p (get_or part x.at 0) (due_at x) ≡ on_after (stand_of x ks) p (class_of b)
+        by p (inl c) = rw (f, e ∙ c)
+        by p (inr (inl c)) = rw (f, e ∙ c)
+        by p (inr (inr c)) = rw (f, e ∙ c)
+
+    pub key_skips : (u ≡ Due.AfterKey) ⊎ (u ≡ Due.AfterKeyString) → Skips part x ks y ls
+    unfolding on_mode between
+    key_skips c = stepped_skips x ks y part (λ s p. on_after s p (class_of b)) ls within (λ p. by p c) h
+      where
+        by : (p : ℕ) → (u ≡ Due.AfterKey) ⊎ (u ≡ Due.AfterKeyString)
+            → on_due (stand_of x ks) p (get_or part x.at 0) (due_at x) ≡ on_after (stand_of x ks) p (class_of b)
+        by p (inl c) = rw (f, e ∙ c)
+        by p (inr c) = rw (f, e ∙ c)
 
 -- ---- words
 

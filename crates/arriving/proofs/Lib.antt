@@ -6,8 +6,7 @@ pub mod Bounds
 pub mod OctetsLaws
 -- SmallLaws: words, identifiers, binary parts
 pub mod SmallLaws
--- TimesStepLaws, TimesLaws: time values
-pub mod TimesStepLaws
+-- TimesLaws: time values
 pub mod TimesLaws
 -- StringsBoundsLaws, StringsLaws: string parts
 pub mod StringsBoundsLaws
@@ -18,8 +17,6 @@ pub mod FiguresBounds
 -- NumericsValueLaws, NumericsLaws: numbers and time values beside the machine's
 pub mod NumericsValueLaws
 pub mod NumericsLaws
--- ClassesLaws: the class of a byte from the tests that the code makes
-pub mod ClassesLaws
 -- StepsLaws: any byte, and bytes one after the other
 pub mod StepsLaws
 -- ArrivingLaws: a part, the bounds, the end

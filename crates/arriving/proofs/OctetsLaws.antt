@@ -8,17 +8,18 @@ use native.Mathlib.Omega.{arith}
 use native.Mathlib.Decide.{dec_lt, ℕ_discrete}
 use native.Mathlib.Numerals.{add-one}
 use lib.Dec.{eqb}
-use lib.ListN.{length, get_or, take, drop, length-append, length-drop, drop_of_length-le, take-append-drop}
-use lib.Seq.{drop-cons, drop-drop, drop_at, length-take-le, take_all}
+use lib.ListN.{length, get_or, take, drop, length-drop, drop_of_length-le, take-append-drop}
+use lib.Seq.{drop-cons, drop_at, length-take-le, take_all}
+use Rattle.std.proofs.lemmas.List.{nil_from_length}
 use borrow.Author.Tests.{lt-ltb, le-ltb, le-leb, lt-leb, eq-eqb, ne_eqb}
 use Rattle.rules.specs.Rfc3629.{In, Tail, Char, utf8_1, utf8_2, utf8_3a, utf8_3b, utf8_3c, utf8_3d, utf8_4a, utf8_4b, utf8_4c}
 use Rattle.rules.specs.Rfc3629.{Octets, none, more, NoChar, Fault, Judged, done, ill}
 use Rattle.rules.specs.Paper.{utf8_said}
 use Rattle.rules.specs.Between.Decided.{judged}
-use Rattle.rules.specs.declared.Utf8Answer.{Utf8Answer}
-use Rattle.rules.specs.declared.Utf8Answer.TheVariants.{Done, IllFormed}
+use Rattle.std.specs.Prelude.{Result, Ok, Err}
+use Rattle.rules.specs.declared.IllFormed.{IllFormed}
 use Rattle.rules.proofs.Decided.{judged_is}
-use Rattle.rules.proofs.Outcomes.{same_utf8_answer, utf8_done, utf8_fault}
+use Rattle.rules.proofs.Outcomes.{same_utf8_answer}
 use Rattle.arriving.specs.declared.octets.Utf.{Utf}
 use Rattle.arriving.specs.Between.Octets.{between, fault_at, opens, lead_of_three, lead_of_four, leads, follow, next_utf, fed_utf, Rests}
 
@@ -229,11 +230,11 @@ fed_good (more {c = c} {t = t} x r) p =
 -- ---- a part in two: what an open character lacks, and the rest
 
 -- after n bytes of s
-pub cut : (u v : Utf) (p n : ℕ) (s : List ℕ) → n ≤ length s → v ≡ fed_utf u (p + 0) (drop 0 (take n s)) → fed_utf u p s ≡ fed_utf v (p + n) (drop n s)
+pub cut : (u v : Utf) (p n : ℕ) (s : List ℕ) → n ≤ length s → v ≡ fed_utf u p (take n s) → fed_utf u p s ≡ fed_utf v (p + n) (drop n s)
 cut u v p n s h e =
     ap (fed_utf u p) (sym (take-append-drop n s)) ∙ fed_join u p (take n s) (drop n s)
     ∙ ap (λ (k : ℕ). fed_utf (fed_utf u p (take n s)) (p + k) (drop n s)) (length-take-le n s h)
-    ∙ ap (λ (w : Utf). fed_utf w (p + n) (drop n s)) (ap (λ (k : ℕ). fed_utf u k (take n s)) (omega arith) ∙ sym e)
+    ∙ ap (λ (w : Utf). fed_utf w (p + n) (drop n s)) (sym e)
 
 -- a byte breaks an open character, or it lacks one less
 filling : (u : Utf) (p b n : ℕ) → u.left ≡ suc n → ((next_utf u p b).broken ≡ true) ⊎ ((next_utf u p b).left ≡ n)
@@ -269,61 +270,57 @@ unfolding fed_utf
 fresh u p [] f z h = absurd (omega arith)
 fresh u p (b ∷ t) f z h = ap (λ (w : Utf). fed_utf w (suc p) t) (next_lead u p b f z ∙ sym (next_lead between p b refl refl))
 
--- a part of which n bytes belong to the open character, and what these come to
-module _ (u v : Utf) (p n : ℕ) (s : List ℕ) (r : Rests u (length s) n) (e : v ≡ fed_utf u (p + 0) (drop 0 (take n s))) where
-  -- there are no more
-  pub feed_short : n ≡ length s → v ≡ fed_utf u p s
-  feed_short h = sym (cut u v p n s r.within e ∙ fed_end v (p + n) s n (omega arith))
+-- a part whose first n bytes, t, belong to the open character, what these come to, and the rest of the part
+module _ (u v : Utf) (p n : ℕ) (s t rest : List ℕ) (r : Rests u (length s) n) (front : t ≡ take n s) (back : rest ≡ drop n s) (e : v ≡ fed_utf u p t) where
+  first_is : length t ≡ n
+  first_is = ap length front ∙ length-take-le n s r.within
+
+  goes_on : fed_utf u p s ≡ fed_utf v (p + n) rest
+  goes_on = cut u v p n s r.within (e ∙ ap (fed_utf u p) front) ∙ ap (fed_utf v (p + n)) (sym back)
+
+  pub feed_short : length rest ≡ 0 → v ≡ fed_utf u p s
+  unfolding fed_utf
+  feed_short h = sym (goes_on ∙ ap (fed_utf v (p + n)) (nil_from_length rest h))
 
   pub feed_broken : v.broken ≡ true → v ≡ fed_utf u p s
-  feed_broken h = sym (cut u v p n s r.within e ∙ fed_broken v (p + n) (drop n s) h)
+  feed_broken h = sym (goes_on ∙ fed_broken v (p + n) rest h)
 
   -- there are more, and the character has ended
-  module _ (more : (n ≡ length s) → ⊥) (whole : v.broken ≡ false) where
-    rest_some : 0 < length (drop n s)
-    rest_some = simp length-drop (omega (arith, r.within))
-
+  module _ (more : (length rest ≡ 0) → ⊥) (whole : v.broken ≡ false) where
     ended : v.left ≡ 0
     ended =
-        let t = take n s in
-        let q : length t ≡ u.left = length-take-le n s r.within ∙ r.lacks (omega (arith, r.within)) in
-        ap (λ (w : Utf). w.left) e ∙ filled u (p + 0) t q (ap (λ (w : Utf). w.broken) (sym e) ∙ whole)
+        let l : length rest ≡ length s - n = ap length back ∙ length-drop n s in
+        let q : length t ≡ u.left = first_is ∙ r.lacks (omega arith) in
+        ap (λ (w : Utf). w.left) e ∙ filled u p t q (ap (λ (w : Utf). w.broken) (sym e) ∙ whole)
 
-    from_start : fed_utf u p s ≡ fed_utf between (p + n) (drop n s)
-    from_start = cut u v p n s r.within e ∙ fresh v (p + n) (drop n s) whole ended rest_some
+    from_start : fed_utf u p s ≡ fed_utf between (p + n) rest
+    from_start = goes_on ∙ fresh v (p + n) rest whole ended (omega arith)
 
-    -- the rest as a slice has it
-    rest_is : take (length s - n) (drop n s) ≡ drop n s
-    rest_is = take_all (length s - n) (drop n s) (simp length-drop (omega arith))
+    pub feed_done : Octets rest → between ≡ fed_utf u p s
+    feed_done o = sym (from_start ∙ fed_good o (p + n))
 
-    pub feed_done : Judged (take (length s - n) (drop n s)) Done → between ≡ fed_utf u p s
-    feed_done j = sym (from_start ∙ fed_good (subst Octets rest_is (utf8_done j)) (p + n))
-
-    fault_rest : (k : ℕ) → Fault (drop n s) k → fed_utf between (p + (n + k)) (drop (n + k) s) ≡ fed_utf u p s
-    fault_rest k f =
+    -- k good bytes of the rest, and those from there on, as a slice has them
+    pub feed_fault : (w : Utf) (k q : ℕ) → Fault rest k → w ≡ between → q ≡ p + length t + k
+        → fed_utf w q (take (length rest - k) (drop k rest)) ≡ fed_utf u p s
+    feed_fault w k q f i h =
         let a = f.before in
-        let d : drop (n + k) s ≡ f.rest =
-        sym (drop-drop k n s) ∙ ap (drop k) f.split ∙ drop_at a f.rest k (sym f.place) in
-        let g : fed_utf between (p + n) (drop n s) ≡ fed_utf between (p + n + length a) f.rest =
+        let d : drop k rest ≡ f.rest = ap (drop k) f.split ∙ drop_at a f.rest k (sym f.place) in
+        let g : fed_utf between (p + n) rest ≡ fed_utf between (p + n + length a) f.rest =
         ap (fed_utf between (p + n)) f.split ∙ fed_join between (p + n) a f.rest
         ∙ ap (λ (w : Utf). fed_utf w (p + n + length a) f.rest) (fed_good f.good (p + n)) in
-        ap (fed_utf between (p + (n + k))) d ∙ ap (λ (q : ℕ). fed_utf between q f.rest) (omega (arith, f.place)) ∙ sym (from_start ∙ g)
-
-    pub fault_room : (k : ℕ) → Judged (take (length s - n) (drop n s)) (IllFormed k) → n + k ≤ length s
-    fault_room k j =
-        let f = subst (λ (t : List ℕ). Fault t k) rest_is (utf8_fault j) in
-        omega (arith, f.place, r.within, simp (length-append, length-drop) at (ap length f.split))
-
-    pub feed_fault : (w : Utf) (k : ℕ) → w ≡ between → Judged (take (length s - n) (drop n s)) (IllFormed k)
-        → fed_utf w (p + (n + k)) (drop (n + k) s) ≡ fed_utf u p s
-    feed_fault w k i j =
-        ap (λ (z : Utf). fed_utf z (p + (n + k)) (drop (n + k) s)) i ∙ fault_rest k (subst (λ (t : List ℕ). Fault t k) rest_is (utf8_fault j))
+        ap (λ (z : Utf). fed_utf z q (take (length rest - k) (drop k rest))) i
+        ∙ ap (fed_utf between q) (take_all (length rest - k) (drop k rest) (simp length-drop (omega arith)) ∙ d)
+        ∙ ap (λ (j : ℕ). fed_utf between j f.rest) (omega (arith, f.place, first_is)) ∙ sym (from_start ∙ g)
 
 -- ---- the first fault is the one that `judged` has
 
+-- the first fault is at this place
+abbrev pub ill_at : ℕ → Result (Unit {0}) IllFormed
+ill_at q = Err (record { place = q })
+
 -- what the bytes come to, where no more follow
-abbrev pub said : Utf → Utf8Answer
-said u = cond u.broken (IllFormed u.first) (cond (eqb u.left 0) Done (IllFormed u.first))
+abbrev pub said : Utf → Result (Unit {0}) IllFormed
+said u = cond u.broken (ill_at u.first) (cond (eqb u.left 0) (Ok tt) (ill_at u.first))
 
 -- the bytes f are one character with n more after them, the next from l to h
 abbrev Owed : ℕ → ℕ → ℕ → List ℕ → Type 0
@@ -331,7 +328,7 @@ Owed zero l h f = Char f
 Owed (suc n) l h f = (b : ℕ) → In l h b → Owed n 0x80 0xBF (f ++ (b ∷ []))
 
 -- a fault is met
-met : (u : Utf) (p q b : ℕ) (t : List ℕ) → next_utf u p b ≡ fault_at q → said (fed_utf u p (b ∷ t)) ≡ IllFormed q
+met : (u : Utf) (p q b : ℕ) (t : List ℕ) → next_utf u p b ≡ fault_at q → said (fed_utf u p (b ∷ t)) ≡ ill_at q
 met u p q b t e = ap said (fed_one u (fault_at q) p b t e ∙ fed_broken (fault_at q) (suc p) t refl)
 
 -- a byte is out of its bounds, or within
@@ -344,7 +341,7 @@ bounded n l h q p b = go (dec_lt b l) (dec_lt h b)
     go (no x) (no y) = inr (record { low = omega arith; high = omega arith })
 
 -- no character stands at the place q, though one is open there: it breaks, or is cut off by the end
-owed : (n l h q p : ℕ) (f t : List ℕ) → Owed (suc n) l h f → NoChar (f ++ t) → said (fed_utf (opens (suc n) l h q) p t) ≡ IllFormed q
+owed : (n l h q p : ℕ) (f t : List ℕ) → Owed (suc n) l h f → NoChar (f ++ t) → said (fed_utf (opens (suc n) l h q) p t) ≡ ill_at q
 owed n l h q p f [] o c = ap said (fed_nil (opens (suc n) l h q) p) ∙ simp (ne_eqb (suc n) 0 (λ z. omega arith))
 owed zero l h q p f (b ∷ t) o c =
     ⊎_elim (met (opens 1 l h q) p q b t) (λ x. absurd (c (f ++ (b ∷ [])) t (o b x) (sym (append_assoc f (b ∷ []) t)))) (bounded 0 l h q p b)
@@ -355,29 +352,29 @@ owed (suc n) l h q p f (b ∷ t) o c =
 
 -- no character stands at the place p
 module _ (p b : ℕ) (t : List ℕ) (c : NoChar (b ∷ t)) where
-  opened : (n l h : ℕ) → next_utf between p b ≡ opens (suc n) l h p → Owed (suc n) l h (b ∷ []) → said (fed_utf between p (b ∷ t)) ≡ IllFormed p
+  opened : (n l h : ℕ) → next_utf between p b ≡ opens (suc n) l h p → Owed (suc n) l h (b ∷ []) → said (fed_utf between p (b ∷ t)) ≡ ill_at p
   opened n l h e o = ap said (fed_one between (opens (suc n) l h p) p b t e) ∙ owed n l h p (suc p) (b ∷ []) t o c
 
-  at_four : 0xF0 ≤ b → Dec (b ≡ 0xF0) → Dec (b ≡ 0xF4) → Dec (0xF4 < b) → said (fed_utf between p (b ∷ t)) ≡ IllFormed p
+  at_four : 0xF0 ≤ b → Dec (b ≡ 0xF0) → Dec (b ≡ 0xF4) → Dec (0xF4 < b) → said (fed_utf between p (b ∷ t)) ≡ ill_at p
   at_four h (yes e) x y = opened 2 _ _ (first_f0 p b e) (λ i u j v k w. rw e (utf8_4a u v w))
   at_four h (no f) (yes e) y = opened 2 _ _ (first_f4 p b e) (λ i u j v k w. rw e (utf8_4c u v w))
   at_four h (no f) (no g) (yes y) = met between p p b t (first_over p b y)
   at_four h (no f) (no g) (no y) = opened 2 _ _ (first_4 p b (omega arith) (omega arith)) (λ i u j v k w. utf8_4b (omega arith) u v w)
 
-  at_three : 0xE0 ≤ b → b < 0xF0 → Dec (b ≡ 0xE0) → Dec (b ≡ 0xED) → Dec (b < 0xED) → said (fed_utf between p (b ∷ t)) ≡ IllFormed p
+  at_three : 0xE0 ≤ b → b < 0xF0 → Dec (b ≡ 0xE0) → Dec (b ≡ 0xED) → Dec (b < 0xED) → said (fed_utf between p (b ∷ t)) ≡ ill_at p
   at_three l h (yes e) x y = opened 1 _ _ (first_e0 p b e) (λ i u j v. rw e (utf8_3a u v))
   at_three l h (no f) (yes e) y = opened 1 _ _ (first_ed p b e) (λ i u j v. rw e (utf8_3c u v))
   at_three l h (no f) (no g) (yes y) = opened 1 _ _ (first_3 p b (omega arith) h g) (λ i u j v. utf8_3b (omega arith) u v)
   at_three l h (no f) (no g) (no y) = opened 1 _ _ (first_3 p b (omega arith) h g) (λ i u j v. utf8_3d (omega arith) u v)
 
-  at_first_lem : Dec (b < 0x80) → Dec (b < 0xC2) → Dec (b < 0xE0) → Dec (b < 0xF0) → said (fed_utf between p (b ∷ t)) ≡ IllFormed p
+  at_first_lem : Dec (b < 0x80) → Dec (b < 0xC2) → Dec (b < 0xE0) → Dec (b < 0xF0) → said (fed_utf between p (b ∷ t)) ≡ ill_at p
   at_first_lem (yes h) x y z = absurd (c (b ∷ []) t (utf8_1 (omega arith)) refl)
   at_first_lem (no f) (yes h) y z = met between p p b t (first_none p b (omega arith) h)
   at_first_lem (no f) (no g) (yes h) z = opened 0 _ _ (first_2 p b (omega arith) h) (λ i u. utf8_2 (omega arith) u)
   at_first_lem (no f) (no g) (no k) (yes h) = at_three (omega arith) h (ℕ_discrete b 0xE0) (ℕ_discrete b 0xED) (dec_lt b 0xED)
   at_first_lem (no f) (no g) (no k) (no h) = at_four (omega arith) (ℕ_discrete b 0xF0) (ℕ_discrete b 0xF4) (dec_lt 0xF4 b)
 
-pub fault_said : (p : ℕ) (t : List ℕ) → 0 < length t → NoChar t → said (fed_utf between p t) ≡ IllFormed p
+pub fault_said : (p : ℕ) (t : List ℕ) → 0 < length t → NoChar t → said (fed_utf between p t) ≡ ill_at p
 fault_said p [] h c = absurd (omega arith)
 fault_said p (b ∷ t) h c = at_first_lem p b t c (dec_lt b 0x80) (dec_lt b 0xC2) (dec_lt b 0xE0) (dec_lt b 0xF0)
 
@@ -392,6 +389,6 @@ octets_judged t = go (judged_is t)
         let g : fed_utf between 0 t ≡ fed_utf between (0 + n) f.rest =
         ap (fed_utf between 0) f.split ∙ fed_join between 0 f.before f.rest
         ∙ ap (λ (u : Utf). fed_utf u (0 + n) f.rest) (fed_good f.good 0) in
-        let h : said (fed_utf between 0 t) ≡ IllFormed k =
-        ap said g ∙ fault_said (0 + n) f.rest f.left f.bad ∙ ap IllFormed (omega (arith, f.place)) in
+        let h : said (fed_utf between 0 t) ≡ ill_at k =
+        ap said g ∙ fault_said (0 + n) f.rest f.left f.bad ∙ ap ill_at (omega (arith, f.place)) in
         same_utf8_answer (said (fed_utf between 0 t)) (judged t) (ap utf8_said h ∙ sym e)

@@ -1,12 +1,12 @@
 -- Numbers put one after the other, and all of a check's bytes. Assumes nothing.
 use mathlib.Core.Path.{◌≡◌, refl, sym, ap, ◌∙◌, subst}
 use mathlib.Core.List.{List, [], ◌∷◌, ◌++◌, append_assoc, append-nil}
-use Prim.Native.Nat.{ℕ, ◌+◌, ◌*◌, ◌-◌, ◌≤◌, ◌<◌}
+use Prim.Native.Nat.{ℕ, ◌+◌, ◌*◌, ◌-◌, ◌<◌}
 use native.Mathlib.Numerals.{add-one}
 use native.Mathlib.Omega.{arith}
 use lib.ListN.{length, take, drop, get_or, replicate, length-take, length-drop, length-append, length-replicate, drop_of_length-le}
-use lib.Seq.{sets, sets-eq, length-sets, take-suc, take_all, take-length}
-use Rattle.meaning.specs.Bytes.{le, flag}
+use lib.Seq.{sets, sets-eq, take-suc, take-length}
+use Rattle.meaning.specs.Bytes.{le}
 use Rattle.meaning.proofs.Bytes.{le_length}
 use Rattle.tape.proofs.PuttingLaws.{sets_append}
 use Rattle.meaning.specs.Between.Words.{get}
@@ -20,7 +20,7 @@ use Rattle.arriving.specs.declared.states.Mode.{Mode}
 use Rattle.arriving.specs.declared.states.Here.{Here}
 use Rattle.arriving.specs.Between.Arriving.{core_of, check_of}
 use Rattle.arriving.specs.Between.Steps.{here_of}
-use Rattle.arriving.specs.Between.Packing.{due_number, due_of, flat_mode, mode_of, FitMode, spread, Narrow, smalls, larges, numbered, Kept, packed, flat_at}
+use Rattle.arriving.specs.Between.Packing.{due_of, flat_mode, mode_of, FitMode, spread, Narrow, smalls, larges, numbered, Kept, packed, flat_at}
 use Rattle.arriving.specs.Between.Packing.{utf_at, here_at, unpacked}
 
 -- ---- numbers of eight bytes
@@ -35,17 +35,15 @@ unfolding spread
 spread_length [] = refl
 spread_length (x ∷ a) = length-append (le 8 x) (spread a) ∙ omega (arith, le_length 8 x, spread_length a)
 
-pub word_more : (w s u : List ℕ) (at i o : ℕ) → i < length w → o ≡ at + 8 * i → u ≡ sets s at (spread (take i w))
-    → sets u o (le 8 (get_or w i 0)) ≡ sets s at (spread (take (i + 1) w))
-word_more w s u at i o h e q =
+pub word_more : (w s u : List ℕ) (at i : ℕ) → i < length w → u ≡ sets s at (spread (take i w))
+    → sets u (at + 8 * i) (le 8 (get_or w i 0)) ≡ sets s at (spread (take (i + 1) w))
+word_more w s u at i h q =
     let v = get_or w i 0 in
+    let o = at + 8 * i in
     let n : at + length (spread (take i w)) ≡ o = omega (arith, spread_length (take i w), length-take i w) in
     ap (λ (x : List ℕ). sets x o (le 8 v)) q
     ∙ sets_append s at o (spread (take i w)) (le 8 v) n
     ∙ ap (sets s at) (sym (ap (λ (k : ℕ). spread (take k w)) (add-one i) ∙ ap spread (take-suc w i 0 h) ∙ spread_snoc (take i w) v))
-
-pub word_all : (w s u : List ℕ) (at i : ℕ) → length w ≤ i → u ≡ sets s at (spread (take i w)) → u ≡ sets s at (spread w)
-word_all w s u at i h q = q ∙ ap (λ (l : List ℕ). sets s at (spread l)) (take_all i w h)
 
 -- ---- the check of any bytes
 
@@ -72,13 +70,6 @@ here_is s m f u d r t a b c g h i = λ j. here_of ((a ∙ ap mode_of b) j) (c j)
 
 -- ---- a check's bytes
 
--- the numbers of one byte, two of which are known by what they are the numbers of
-pub small_is : (s : List ℕ) (u : Utf) (d : Due) (f : Flat) (b n : ℕ) → b ≡ flag u.broken → n ≡ due_number d
-    → sets s 0 (u.left ∷ u.low ∷ u.high ∷ b ∷ n ∷ f.kind ∷ f.sort ∷ f.x ∷ f.y ∷ 0 ∷ 0 ∷ 0 ∷ 0 ∷ 0 ∷ 0 ∷ 0 ∷ []) ≡ sets s 0 (smalls u d f)
-unfolding smalls
-small_is s u d f b n p q =
-    λ i. sets s 0 (u.left ∷ u.low ∷ u.high ∷ p i ∷ q i ∷ f.kind ∷ f.sort ∷ f.x ∷ f.y ∷ 0 ∷ 0 ∷ 0 ∷ 0 ∷ 0 ∷ 0 ∷ 0 ∷ [])
-
 pub core_kept : (c : Core) (s t u : List ℕ) (f : Flat) → f ≡ flat_mode c.here.mode → FitMode c.here.mode
     → t ≡ sets s 0 (smalls c.utf c.here.due f) → u ≡ sets t 16 (spread (larges c.length c.utf c.here f))
     → Narrow (larges c.length c.utf c.here f) → Kept c s u
@@ -102,9 +93,6 @@ numbered_length c f =
     let u = c.utf in
     let l = larges c.length u c.here f in
     length-append (smalls u c.here.due f) (spread l) ∙ ap (λ (n : ℕ). 16 + n) (spread_length l)
-
-pub kept_length : (c : Core) (s t : List ℕ) → Kept c s t → length t ≡ length s
-kept_length c s t k = ap length k.put ∙ length-sets s 0 (numbered c (flat_mode c.here.mode))
 
 -- all of a list of this length, as code copies it
 pub whole_of : (n : ℕ) (s : List ℕ) → length s ≡ n → take (n - 0) (drop 0 s) ≡ s

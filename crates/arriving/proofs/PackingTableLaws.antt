@@ -1,18 +1,9 @@
 -- A mode by its numbers, each way: by its case, and by a row of a table. Assumes nothing.
-use mathlib.Core.Path.{◌≡◌, sym, ap, subst, ◌∙◌}
+use mathlib.Core.Path.{◌≡◌, sym, ◌∙◌}
 use mathlib.Core.List.{List, ◌++◌}
 use Prim.Native.Nat.{ℕ, zero, suc, ◌≤◌, ◌<◌}
 use native.Mathlib.Omega.{arith}
 use lib.ListN.{length, get_or, replicate, length-replicate, get_or-replicate, get_or-append, get_or-eq_default}
-
--- ---- by its case
-
-pub as_is : {A B : Type 0} (f : A → B) {a b : A} {r : B} → a ≡ b → r ≡ f b → r ≡ f a
-as_is f e p = p ∙ sym (ap f e)
-
--- and what holds of the case
-pub as_fit : {A B : Type 0} (f : A → B) (P : A → Type 0) {a b : A} {r : B} → a ≡ b → r ≡ f b → P b → (r ≡ f a) × P a
-as_fit f P e p q = (as_is f e p, subst P (sym e) q)
 
 -- ---- by a row of a table
 
@@ -27,9 +18,6 @@ none_below (suc k) n h = let l = none_below k n h.0 in let x = h.1 in omega arit
 
 pub past : {A : Type 0} (l : List A) (d : A) (n : ℕ) → NoneOf (length l) n → d ≡ get_or l n d
 past l d n h = sym (get_or-eq_default l d (none_below (length l) n h))
-
-pub past_at : {A : Type 0} (l : List A) (d : A) (n : ℕ) → length l ≤ n → d ≡ get_or l n d
-past_at l d n h = sym (get_or-eq_default l d h)
 
 -- one of k rows that are all the same
 pub among : {A : Type 0} (k : ℕ) (x : A) (l : List A) (d : A) (n : ℕ) → n < k → x ≡ get_or (replicate k x ++ l) n d

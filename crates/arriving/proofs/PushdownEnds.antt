@@ -3,6 +3,7 @@ use Prim.Native.Nat.{ℕ, suc, ◌+◌, ◌≤◌, ◌<◌}
 use mathlib.Core.Path.{◌≡◌, refl, sym, ap, ◌∙◌}
 use mathlib.Core.Bool.{true, cond}
 use mathlib.Core.Option.{Option}
+use Rattle.std.specs.Prelude.{Err}
 use mathlib.Core.List.{List, [], ◌∷◌}
 use native.Mathlib.Omega.{arith}
 use lib.Dec.{eqb}
@@ -16,9 +17,8 @@ use Rattle.meaning.specs.declared.Refusal.TheVariants.{NotGrammar}
 use Rattle.machine.specs.Scan as Scan
 use Rattle.machine.specs.Machine as Machine
 use Rattle.machine.specs.Machine.{as_value, as_key, Item, Got, value, key, string, binary, Base, want, want_key, want_string, want_binary, got}
-use Rattle.machine.specs.Machine.{Frame, Conf, finish, read, Verdict, Ok, No}
-use Rattle.reader.specs.declared.Answer.{Answer}
-use Rattle.reader.specs.declared.Answer.TheVariants.{Counts, Refused}
+use Rattle.machine.specs.Machine.{Frame, Conf, finish, read, Verdict}
+use Rattle.reader.specs.Answers.{Answer, counts}
 use Rattle.arriving.specs.declared.states.Due.{Due}
 use Rattle.arriving.specs.declared.states.Mode.{Mode}
 use Rattle.arriving.specs.declared.states.Here.{Here}
@@ -37,13 +37,13 @@ use Rattle.arriving.proofs.PushdownStands.{moved_none, sane_mode_lem, item_here,
 
 -- what a verdict is as an answer
 abbrev pub answer_of : Verdict → Answer
-answer_of (Ok m) = Counts (records m) (bytes m)
-answer_of (No r) = Refused r
+answer_of (Machine.Ok m) = counts (records m) (bytes m)
+answer_of (Machine.No r) = Err r
 
 module _ (p : ℕ) {n r t : ℕ} {ks : List ℕ} {d : ℕ} where
   -- after a value
   value_ends : (k : List Frame) (m : Meaning) → Held n r t ks d k (records m) (bytes m)
-      → cond (eqb n 0) (Counts r t) (Refused (NotGrammar p)) ≡ answer_of (Machine.complete p k (Option.some m))
+      → cond (eqb n 0) (counts r t) (Err (NotGrammar p)) ≡ answer_of (Machine.complete p k (Option.some m))
   value_ends [] m h =
       let e : r ≡ records m = omega (arith, h.count) in
       let f : t ≡ bytes m = omega (arith, h.stored) in
@@ -75,7 +75,7 @@ module _ (p : ℕ) {n r t : ℕ} {ks : List ℕ} {d : ℕ} where
   out_ends m k (Alike.takes i) h = refl
   out_ends m k (Alike.stops {v = g} w) h =
       ap (λ (q : Due). complete (here_of m q n r t) p) w.due ∙ got_ends m k g (held_as w.one w.size h)
-  out_ends m k (Alike.breaks {r = why} e) h = ap Refused (e ∙ moved_none why)
+  out_ends m k (Alike.breaks {r = why} e) h = ap Err (e ∙ moved_none why)
 
 -- the mode is an item's
 mode_ended : {base : ℕ} {u : Due} {m : Mode} {i : Item} {e : ℕ} (h : Here) (p : ℕ) → ItemIs base u m i e → end_mode h p m ≡ end_out h p (item_next m p 0)

@@ -18,10 +18,9 @@ use Rattle.machine.specs.Strings.{hex_of, no_digit, short_of, no_short}
 use Rattle.machine.specs.Names as Names
 use Rattle.machine.specs.Binaries as Binaries
 use Rattle.machine.specs.Numeric as Numeric
-use Rattle.machine.specs.Machine as Machine
 use Rattle.machine.specs.Machine.{Class, blank_c, hash_c, slash_c, comma_c, colon_c, plus_c, quote_c, dollar_c, letter_n, letter_t}
 use Rattle.machine.specs.Machine.{letter_f, letter_c, other_c, open_c, close_c}
-use Rattle.machine.proofs.Classes.{ClassIs, class_is_lem}
+use Rattle.machine.proofs.Classes.{ClassIs}
 use Rattle.reader.proofs.KeyLaws.{SortIs, sort_is_lem}
 use Rattle.arriving.specs.declared.states.Octets as OctetsOf
 use Rattle.arriving.specs.declared.states.Octets.TheVariants as Octets
@@ -226,9 +225,6 @@ same_sort b Names.neither x y = absurd (by (dec_lt b (ch "A")) (dec_lt b (ch "a"
 -- what the machine's class of a byte says of its sort
 pub class_letter : (b : ℕ) (c : Class) → ClassIs b c → Begins c → Names.class_of b ≡ Names.letter
 class_letter b c x y = same_sort b (Names.class_of b) (class_sort b c x y) (sort_is_lem b)
-
-pub letter_class : (b : ℕ) (c : Class) → Machine.class_of b ≡ c → Begins c → Names.class_of b ≡ Names.letter
-letter_class b c e y = class_letter b c (rw e at (class_is_lem b)) y
 
 -- ---- binary parts
 

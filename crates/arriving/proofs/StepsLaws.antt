@@ -1,13 +1,13 @@
 -- A byte of the grammar: brackets and commas by the code's tests, and what a byte keeps. Assumes nothing.
-use Prim.Native.Nat.{ℕ, zero, suc, ◌+◌, ◌*◌, ◌-◌, ◌≤◌, ◌<◌}
+use Prim.Native.Nat.{ℕ, zero, suc, ◌+◌, ◌*◌, ◌-◌, ◌≤◌}
 use mathlib.Core.Path.{◌≡◌, refl, sym, ap, ◌∙◌, subst}
 use mathlib.Core.Bool.{Bool, true, false, cond, ◌&&◌}
 use mathlib.Core.List.{List, [], ◌∷◌, ◌++◌}
 use native.Mathlib.Omega.{arith}
 use native.Mathlib.Nat.{add-zero}
-use borrow.Author.Tests.{lt-ltb, le-ltb, eq-eqb, ne_eqb, le-leb, leb-true, ltb-true}
+use borrow.Author.Tests.{le-leb, leb-true, ltb-true}
 use lib.Dec.{leb, ltb, eqb}
-use lib.ListN.{length, get_or, set, length-set}
+use lib.ListN.{length, set, length-set}
 use Rattle.meaning.specs.Limits.{text_limit, depth_limit}
 use Rattle.meaning.specs.declared.Refusal.TheVariants.{TooDeep, NotGrammar}
 use Rattle.machine.specs.Machine.{Bracket, square, curly, Class, class_of, Note, note_of}
@@ -43,53 +43,11 @@ by f e h = h ∙ ap f (sym e)
 
 -- ---- brackets
 
-pub top_none : (ks : List ℕ) (d : ℕ) → d ≡ 0 → 0 ≡ top_of ks d
-unfolding top_of
-top_none ks zero e = refl
-top_none ks (suc d) e = absurd (omega arith)
-
-pub top_at : (ks : List ℕ) (d : ℕ) → (d ≡ 0 → ⊥) → get_or ks (d - 1) 0 ≡ top_of ks d
-unfolding top_of
-top_at ks zero h = absurd (h refl)
-top_at ks (suc d) h = let z : suc d - 1 ≡ d = omega arith in rw z
-
 -- a bracket is open where a kind is found
 pub top_deep : (ks : List ℕ) (d k : ℕ) → k ≡ top_of ks d → 1 ≤ k → 1 ≤ d
 unfolding top_of
 top_deep ks zero k e h = absurd (omega arith)
 top_deep ks (suc d) k e h = omega arith
-
-module _ (x : Stand) (p : ℕ) (c : Bracket) where
-  pub opened_deep : depth_limit ≤ x.0.depth → refused x (TooDeep p) ≡ opened x p c
-  unfolding opened
-  opened_deep h = rw (le-ltb x.0.depth depth_limit h)
-
-  pub opened_more : (k : ℕ) (u : DueOf.Due) → x.0.depth < depth_limit → k ≡ kind_of c → u ≡ due_in c
-      → ◌≡◌ {A = Stand} (here_of Mode.At u (x.0.depth + 1) (x.0.records + 1) x.0.stored, set x.1 x.0.depth k) (opened x p c)
-  unfolding opened
-  opened_more k u h e f = rw (lt-ltb x.0.depth depth_limit h, ← e, ← f)
-
-  pub closed_not : (t k : ℕ) → t ≡ top_of x.1 x.0.depth → (t ≡ k → ⊥) → k ≡ kind_of c → odd x p ≡ closed x p c
-  unfolding closed
-  closed_not t k e h f = rw (← f, ← e, ne_eqb t k h)
-
-  pub closed_is : (t k : ℕ) → t ≡ top_of x.1 x.0.depth → t ≡ k → k ≡ kind_of c
-      → ◌≡◌ {A = Stand} (here_of Mode.At Due.AfterValue (x.0.depth - 1) x.0.records x.0.stored, x.1) (closed x p c)
-  unfolding closed
-  closed_is t k e h f = rw (← f, ← e, eq-eqb t k h)
-
-module _ (x : Stand) (p : ℕ) (t : ℕ) (e : t ≡ top_of x.1 x.0.depth) where
-  pub comma_array : t ≡ 1 → due_now x Due.Value ≡ comma x p
-  unfolding comma
-  comma_array h = rw (← e, eq-eqb t 1 h)
-
-  pub comma_object : t ≡ 2 → due_now x Due.Key ≡ comma x p
-  unfolding comma
-  comma_object h = rw (← e, h)
-
-  pub comma_odd : (t ≡ 1 → ⊥) → (t ≡ 2 → ⊥) → odd x p ≡ comma x p
-  unfolding comma
-  comma_odd h g = rw (← e, ne_eqb t 1 h, ne_eqb t 2 g)
 
 -- ---- what sums and indexes need
 
@@ -392,9 +350,6 @@ module _ (x : Stand) (p b : ℕ) (h : sane_here p x.0 ≡ true) where
   pub next_sane : sane_here (suc p) (next x p b).0 ≡ true
   next_sane = next_kept.0
 
-  pub next_length : length (next x p b).1 ≡ length x.1
-  next_length = next_kept.1
-
 -- bytes after bytes
 pub walked_join : (x : Stand) (p : ℕ) (s t : List ℕ) → walked x p (s ++ t) ≡ walked (walked x p s) (p + length s) t
 unfolding walked
@@ -408,20 +363,7 @@ walked_sane x p (b ∷ t) h =
     subst (λ (n : ℕ). sane_here n (walked (next x p b) (suc p) t).0 ≡ true) (omega arith)
     (walked_sane (next x p b) (suc p) t (next_sane x p b h))
 
-pub walked_length : (x : Stand) (p : ℕ) (t : List ℕ) → sane_here p x.0 ≡ true → length (walked x p t).1 ≡ length x.1
-unfolding walked
-walked_length x p [] h = refl
-walked_length x p (b ∷ t) h = walked_length (next x p b) (suc p) t (next_sane x p b h) ∙ next_length x p b h
-
 -- ---- answers out of answers
-
-pub part_by : (x : Stand) (p : ℕ) {k l : Class} {a y z y' z' : Stand} → k ≡ l → a ≡ on_part x p y z l → y ≡ y' → z ≡ z' → a ≡ on_part x p y' z' k
-part_by x p {k} {l} {a} {y} {z} {y'} {z'} e h f g =
-    h ∙ ap (λ (v : Stand). on_part x p v z l) f ∙ ap (λ (v : Stand). on_part x p y' v l) g ∙ ap (on_part x p y' z') (sym e)
-
-pub roomy_moded : (h : Here) (m : ModeOf.Mode) (r : Here) → ((ks : List ℕ) → ◌≡◌ {A = Stand} (r, ks) (moded (h, ks) m)) → Roomy h → Roomy r
-roomy_moded h m r e w =
-    subst Roomy (sym (ap (λ (y : Stand). y.0) (e []))) (record { shallow = w.shallow; counted = w.counted; bounded = w.bounded })
 
 pub figure_of_lem : (p : ℕ) (h : Here) (f : Figure) → sane_here p h ≡ true → h.mode ≡ Mode.Counting f → sane_figure p f ≡ true
 unfolding sane_mode

@@ -31,17 +31,6 @@ use Rattle.arriving.specs.Between.Strings as C
 use Rattle.arriving.specs.Between.Strings.{quoted, open_quote, next_quoted}
 use Rattle.arriving.proofs.Alike.{Alike, takes, stops, breaks}
 
--- ---- how many digits are left
-
-pub hexed_last : (k : Quoted) (at n w : ℕ) → n ≡ 0 → C.unit k at w ≡ C.hexed k at n w
-unfolding C.hexed
-hexed_last k at n w e = rw e
-
-pub hexed_more : (k : Quoted) (at n w : ℕ) → (n ≡ 0 → ⊥) → C.quotes k (Inner.Hex w (n - 1) at) 0 ≡ C.hexed k at n w
-unfolding C.hexed
-hexed_more k at zero w h = absurd (h refl)
-hexed_more k at (suc n) w h = let e : suc n - 1 ≡ n = omega arith in rw e
-
 -- ---- one state stands for the other
 
 -- a byte that may be a quote

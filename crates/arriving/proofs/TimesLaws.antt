@@ -1,10 +1,16 @@
 -- A time value, a byte at a time: what a byte may bring, and that the check and the machine do the same. Assumes nothing.
 use Prim.Native.Nat.{ℕ, zero, suc, ◌+◌, ◌*◌, ◌%◌, ◌^◌, ◌<◌}
-use mathlib.Core.Path.{◌≡◌, refl}
+use mathlib.Core.Path.{◌≡◌, refl, sym}
 use mathlib.Core.Bool.{Bool, true, false, cond, ◌&&◌}
 use native.Mathlib.Omega.{arith}
 use native.Mathlib.Nat.{zero-add}
 use lib.Dec.{eqb, leb}
+use Rattle.std.specs.Prelude.{Result, Ok, Err, is_ok}
+use Rattle.rules.specs.Rfc3339.{Dated}
+use Rattle.rules.specs.declared.NoDate.{NoDate}
+use Rattle.rules.specs.Between.Decided.{is_date}
+use Rattle.rules.proofs.Outcomes.{date_done_lem, date_none}
+use Rattle.rules.proofs.Months.{date_is, is_date_lem}
 use Rattle.meaning.specs.Limits.{fraction_digits}
 use Rattle.meaning.specs.Meaning.{Meaning}
 use Rattle.meaning.specs.declared.Date.{Date}
@@ -29,6 +35,17 @@ use Rattle.arriving.specs.Between.Times.{stamp, within, goes_on, field_due, test
 use Rattle.arriving.specs.Between.Times.{next_fraction, only_then, next_full, next_field, next_spaced, next_point, next_moment}
 use Rattle.arriving.proofs.Alike.{Alike}
 use Rattle.arriving.proofs.Bounds.{Bounded}
+
+-- ---- a date
+
+-- what `date` answers is what the test computes
+pub date_told : {y m d : ℕ} (r : Result (Unit {0}) NoDate) → Dated y m d r → is_ok r ≡ is_date y m d
+date_told (Ok u) x = sym (date_is (date_done_lem x))
+date_told {y} {m} {d} (Err e) x = go (is_date y m d) refl
+  where
+    go : (b : Bool) → is_date y m d ≡ b → false ≡ is_date y m d
+    go true f = absurd (date_none x (is_date_lem f))
+    go false f = sym f
 
 -- ---- what a byte may bring
 

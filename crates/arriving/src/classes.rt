@@ -40,28 +40,22 @@ pub fn class_of(b: u8) -> Class
     ensures { class_of b ≡ class_is result }
 {
     match b {
-        b' ' => Class::Blank,
-        b'\n' => Class::Blank,
-        b'\r' => Class::Blank,
-        b'\t' => Class::Blank,
+        b' ' | b'\n' | b'\r' | b'\t' => Class::Blank,
         b'#' => Class::Hash,
         b'/' => Class::Slash,
         b',' => Class::Comma,
         b':' => Class::Colon,
         b'+' => Class::Plus,
-        b'"' => Class::Quote,
-        b'\'' => Class::Quote,
+        b'"' | b'\'' => Class::Quote,
         b'$' => Class::Dollar,
         b'n' => Class::LetterN,
         b't' => Class::LetterT,
         b'f' => Class::LetterF,
-        b'_' => Class::Letter,
         b'[' => Class::OpenArray,
         b']' => Class::CloseArray,
         b'{' => Class::OpenObject,
         b'}' => Class::CloseObject,
-        b'A'..=b'Z' => Class::Letter,
-        b'a'..=b'z' => Class::Letter,
+        b'A'..=b'Z' | b'a'..=b'z' | b'_' => Class::Letter,
         _ => Class::Other,
     }
 }
@@ -71,8 +65,7 @@ pub fn note_of(b: u8) -> Note
     ensures { note_of b ≡ note_is result }
 {
     match b {
-        b'\n' => Note::LineEnd,
-        b'\r' => Note::LineEnd,
+        b'\n' | b'\r' => Note::LineEnd,
         b'\t' => Note::Plain,
         b'*' => Note::Star,
         b'/' => Note::Slash,

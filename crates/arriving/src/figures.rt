@@ -1,6 +1,5 @@
 // Numbers, a byte at a time. The text's end does to a number what a zero byte does.
 ghost use Rattle.std.specs.Prelude.{◌≡◌, true, false, ◌^◌, ◌≤◌, ◌<◌};
-ghost use Rattle.rules.specs.Between.Tests.{Decides};
 ghost use Rattle.meaning.specs.Letters.{ch};
 ghost use Rattle.meaning.specs.Limits.{text_limit};
 ghost use Rattle.machine.specs.Numeric.{fst_of, num_of, exp_of, dg_of, hex_of};
@@ -20,16 +19,6 @@ const SIXTEENTH: u64 = COEFFICIENT_MOST / 16;
 const NOT_A_NUMBER: usize = 17;
 
 const INFINITY: usize = 21;
-
-// Whether a byte is a decimal digit.
-fn is_digit(b: u8) -> bool
-    ensures { Decides (IsDigit b) result }
-{
-    if b < b'0' {
-        return false;
-    }
-    b <= b'9'
-}
 
 // The byte is taken, and the number goes on.
 fn goes(f: Figure) -> Out
@@ -60,24 +49,16 @@ fn digited(d: Decimal, b: u8, more: usize) -> Decimal
 }
 
 // Whether digits times 10 ^ up / 10 ^ down are a number within the limits.
+#[tactic(auto, unfolding(crate::specs::Between::Figures::fits))]
 fn fits(a: Acc, up: usize, down: usize) -> bool
     requires { (a.z ≤ text_limit) × (up < 2 ^ 40) }
     ensures { result ≡ Spec.fits a up down }
 {
-    if a.over {
-        return false;
-    }
-    if a.c == 0 {
-        return true;
-    }
-    let u = a.z + up;
-    if down <= u {
-        return u - down <= POWER_LIMIT;
-    }
-    down - u <= POWER_LIMIT
+    !a.over && (a.c == 0 || (a.z + up).abs_diff(down) <= POWER_LIMIT)
 }
 
 // The number has ended: its digits times 10 ^ up / 10 ^ down.
+#[tactic(auto, unfolding(crate::specs::Between::Figures::settled))]
 fn settled(d: Decimal, up: usize, down: usize) -> Out
     requires { Sound d × (up < 2 ^ 40) }
     ensures { result ≡ Spec.settled d up down }
@@ -94,75 +75,53 @@ fn undigited(first: usize, p: usize, b: u8) -> Out
     requires { IsDigit b → ⊥ }
     ensures { result ≡ Spec.on_sign p first b (fst_of b) }
 {
-    if b == b'.' {
-        return goes(Figure::Point(first));
+    match b {
+        b'.' => goes(Figure::Point(first)),
+        b'N' => Out::Takes(Mode::Spelling(NOT_A_NUMBER), 0),
+        b'I' => Out::Takes(Mode::Spelling(INFINITY), 0),
+        _ => Out::Breaks(Refusal::NotGrammar(p)),
     }
-    if b == b'N' {
-        return Out::Takes(Mode::Spelling(NOT_A_NUMBER), 0);
-    }
-    if b == b'I' {
-        return Out::Takes(Mode::Spelling(INFINITY), 0);
-    }
-    Out::Breaks(Refusal::NotGrammar(p))
 }
 
 // The first byte of a number or a time value.
+#[tactic(auto, unfolding(crate::specs::Between::Figures::begin_figure))]
 pub fn begin(p: usize, b: u8) -> Out
     ensures { result ≡ begin_figure p b }
 {
-    if b == b'+' {
-        return goes(Figure::Sign(p));
-    }
-    if b == b'-' {
-        return goes(Figure::Sign(p));
-    }
-    if is_digit(b) {
-        let acc = number::push(NONE, b);
-        return goes(Figure::Open {
+    match b {
+        b'+' | b'-' => goes(Figure::Sign(p)),
+        b'0'..=b'9' => goes(Figure::Open {
             first: p,
             count: 1,
             nought: b == b'0',
             value: (b - b'0') as u16,
-            acc,
-        });
+            acc: number::push(NONE, b),
+        }),
+        _ => undigited(p, p, b),
     }
-    undigited(p, p, b)
 }
 
 // After a sign.
 fn signed(first: usize, p: usize, b: u8) -> Out
     ensures { result ≡ Spec.on_sign p first b (fst_of b) }
 {
-    if b == b'0' {
-        return goes(Figure::Nought(first));
+    match b {
+        b'0' => goes(Figure::Nought(first)),
+        b'1'..=b'9' => goes(Figure::Whole(digited(decimal(first, NONE, 0), b, 0))),
+        _ => undigited(first, p, b),
     }
-    if is_digit(b) {
-        let d = decimal(first, NONE, 0);
-        return goes(Figure::Whole(digited(d, b, 0)));
-    }
-    undigited(first, p, b)
 }
 
 // After a first 0.
 fn nought(first: usize, b: u8) -> Out
     ensures { result ≡ Spec.on_nought first (num_of b) }
 {
-    if b == b'.' {
-        return goes(Figure::Fraction(decimal(first, NONE, 0)));
+    match b {
+        b'.' => goes(Figure::Fraction(decimal(first, NONE, 0))),
+        b'e' | b'E' => goes(Figure::Exponent(decimal(first, NONE, 0))),
+        b'x' | b'X' => goes(Figure::HexMark(first)),
+        _ => Out::Stops,
     }
-    if b == b'e' {
-        return goes(Figure::Exponent(decimal(first, NONE, 0)));
-    }
-    if b == b'E' {
-        return goes(Figure::Exponent(decimal(first, NONE, 0)));
-    }
-    if b == b'x' {
-        return goes(Figure::HexMark(first));
-    }
-    if b == b'X' {
-        return goes(Figure::HexMark(first));
-    }
-    Out::Stops
 }
 
 // After digits of the whole part.
@@ -170,30 +129,22 @@ fn whole(d: Decimal, b: u8) -> Out
     requires { Sound d }
     ensures { result ≡ Spec.on_whole d b (num_of b) }
 {
-    if is_digit(b) {
-        return goes(Figure::Whole(digited(d, b, 0)));
+    match b {
+        b'0'..=b'9' => goes(Figure::Whole(digited(d, b, 0))),
+        b'.' => goes(Figure::Fraction(d)),
+        b'e' | b'E' => goes(Figure::Exponent(d)),
+        _ => settled(d, 0, 0),
     }
-    if b == b'.' {
-        return goes(Figure::Fraction(d));
-    }
-    if b == b'e' {
-        return goes(Figure::Exponent(d));
-    }
-    if b == b'E' {
-        return goes(Figure::Exponent(d));
-    }
-    settled(d, 0, 0)
 }
 
 // After a point with no digit before it.
 fn point(first: usize, p: usize, b: u8) -> Out
     ensures { result ≡ Spec.on_point p first b (dg_of b) }
 {
-    if is_digit(b) {
-        let d = decimal(first, NONE, 0);
-        return goes(Figure::Fraction(digited(d, b, 1)));
+    match b {
+        b'0'..=b'9' => goes(Figure::Fraction(digited(decimal(first, NONE, 0), b, 1))),
+        _ => Out::Breaks(Refusal::NotGrammar(p)),
     }
-    Out::Breaks(Refusal::NotGrammar(p))
 }
 
 // After digits of a fraction, or after a point that follows others.
@@ -201,46 +152,40 @@ fn fraction(d: Decimal, b: u8) -> Out
     requires { Sound d }
     ensures { result ≡ Spec.on_fraction d b (num_of b) }
 {
-    if is_digit(b) {
-        return goes(Figure::Fraction(digited(d, b, 1)));
+    match b {
+        b'0'..=b'9' => goes(Figure::Fraction(digited(d, b, 1))),
+        b'e' | b'E' => goes(Figure::Exponent(d)),
+        _ => settled(d, 0, d.fraction),
     }
-    if b == b'e' {
-        return goes(Figure::Exponent(d));
-    }
-    if b == b'E' {
-        return goes(Figure::Exponent(d));
-    }
-    settled(d, 0, d.fraction)
 }
 
 // After an exponent's sign.
 fn exponent_sign(d: Decimal, down: bool, p: usize, b: u8) -> Out
     ensures { result ≡ Spec.on_exponent_sign p d down b (dg_of b) }
 {
-    if is_digit(b) {
-        return goes(Figure::ExponentDigits {
+    match b {
+        b'0'..=b'9' => goes(Figure::ExponentDigits {
             decimal: d,
             down,
             power: (b - b'0') as usize,
-        });
+        }),
+        _ => Out::Breaks(Refusal::NotGrammar(p)),
     }
-    Out::Breaks(Refusal::NotGrammar(p))
 }
 
 // After the letter of an exponent.
 fn exponent(d: Decimal, p: usize, b: u8) -> Out
     ensures { result ≡ Spec.on_exponent p d b (exp_of b) }
 {
-    if b == b'+' {
-        return goes(Figure::ExponentSign(d, false));
+    match b {
+        b'+' => goes(Figure::ExponentSign(d, false)),
+        b'-' => goes(Figure::ExponentSign(d, true)),
+        _ => exponent_sign(d, false, p, b),
     }
-    if b == b'-' {
-        return goes(Figure::ExponentSign(d, true));
-    }
-    exponent_sign(d, false, p, b)
 }
 
 // The number has ended with this exponent.
+#[tactic(auto, unfolding(crate::specs::Between::Figures::scaled))]
 fn scaled(d: Decimal, down: bool, power: usize) -> Out
     requires { Sound d × (power < 10000000000) }
     ensures { result ≡ Spec.scaled d down power }
@@ -256,55 +201,48 @@ fn exponent_digits(d: Decimal, down: bool, power: usize, b: u8) -> Out
     requires { Sound d × (power < 10000000000) }
     ensures { result ≡ Spec.on_exponent_digits d down power b (dg_of b) }
 {
-    if is_digit(b) {
-        return goes(Figure::ExponentDigits {
+    match b {
+        b'0'..=b'9' => goes(Figure::ExponentDigits {
             decimal: d,
             down,
             power: number::raise(power, b),
-        });
+        }),
+        _ => scaled(d, down, power),
     }
-    scaled(d, down, power)
 }
 
 // After the mark of a hexadecimal number.
 fn hex_mark(first: usize, p: usize, b: u8) -> Out
     ensures { result ≡ Spec.on_hex_mark p first (hex_of b) }
 {
-    let x = hex_digit::hex(b);
-    if x < 16 {
-        return goes(Figure::Hex {
+    match hex_digit::hex(b) {
+        Some(x) => goes(Figure::Hex {
             first,
-            value: x as u64,
+            value: u64::from(x),
             over: false,
-        });
+        }),
+        None => Out::Breaks(Refusal::NotGrammar(p)),
     }
-    Out::Breaks(Refusal::NotGrammar(p))
 }
 
 // After hexadecimal digits. Such a number must itself be below 2^64.
 fn hex(first: usize, value: u64, over: bool, b: u8) -> Out
     ensures { result ≡ Spec.on_hex first value over (hex_of b) }
 {
-    let x = hex_digit::hex(b);
-    if x < 16 {
-        if value <= SIXTEENTH {
-            let more = 16 * value + x as u64;
-            return goes(Figure::Hex {
-                first,
-                value: more,
-                over,
-            });
-        }
-        return goes(Figure::Hex {
+    match hex_digit::hex(b) {
+        Some(x) if value <= SIXTEENTH => goes(Figure::Hex {
+            first,
+            value: 16 * value + u64::from(x),
+            over,
+        }),
+        Some(_) => goes(Figure::Hex {
             first,
             value,
             over: true,
-        });
+        }),
+        None if over => Out::Breaks(Refusal::BadNumber(first)),
+        None => Out::Stops,
     }
-    if over {
-        return Out::Breaks(Refusal::BadNumber(first));
-    }
-    Out::Stops
 }
 
 // Digits with no sign that are no time; more digits after a first 0 are no number.
@@ -386,19 +324,16 @@ fn open_digits(first: usize, count: u8, zero: bool, value: u16, acc: Acc, p: usi
     requires { acc.z ≤ text_limit }
     ensures { result ≡ Spec.on_open p first count zero value acc b (num_of b) }
 {
-    if is_digit(b) {
-        return open_digit(first, count, zero, value, acc, p, b);
+    match b {
+        b'0'..=b'9' => open_digit(first, count, zero, value, acc, p, b),
+        b':' => open_colon(first, count, zero, value, acc, p),
+        b'-' => open_minus(first, count, zero, value, acc, p),
+        _ => as_number(first, count, zero, acc, p, b),
     }
-    if b == b':' {
-        return open_colon(first, count, zero, value, acc, p);
-    }
-    if b == b'-' {
-        return open_minus(first, count, zero, value, acc, p);
-    }
-    as_number(first, count, zero, acc, p, b)
 }
 
 // What the byte b does at the place p to a number.
+#[tactic(auto, unfolding(crate::specs::Between::Figures::next_figure, crate::specs::Between::Figures::sane_figure))]
 pub fn figure_next(f: Figure, p: usize, b: u8) -> Out
     requires { (sane_figure p f ≡ true) × (p ≤ text_limit) }
     ensures { result ≡ next_figure f p b }
@@ -432,47 +367,24 @@ pub fn figure_next(f: Figure, p: usize, b: u8) -> Out
 fn sane_decimal(d: Decimal, n: usize) -> bool
     ensures { result ≡ sane_decimal n d }
 {
-    let a = d.acc;
-    if a.z > n {
-        return false;
-    }
-    d.fraction <= n
+    d.acc.z <= n && d.fraction <= n
 }
 
 // The same of any number.
+#[tactic(auto, unfolding(crate::specs::Between::Figures::sane_figure))]
 pub fn sane_figure(f: Figure, n: usize) -> bool
     ensures { result ≡ sane_figure n f }
 {
     match f {
-        Figure::Sign(_) => true,
-        Figure::Nought(_) => true,
-        Figure::Point(_) => true,
-        Figure::HexMark(_) => true,
-        Figure::Hex {
-            first: _,
-            value: _,
-            over: _,
-        } => true,
-        Figure::Open {
-            first: _,
-            count: _,
-            nought: _,
-            value: _,
-            acc,
-        } => acc.z <= n,
-        Figure::Whole(d) => sane_decimal(d, n),
-        Figure::Fraction(d) => sane_decimal(d, n),
-        Figure::Exponent(d) => sane_decimal(d, n),
-        Figure::ExponentSign(d, _) => sane_decimal(d, n),
-        Figure::ExponentDigits {
-            decimal,
-            down: _,
-            power,
-        } => {
-            if sane_decimal(decimal, n) {
-                return power < 10000000000;
-            }
-            false
-        }
+        Figure::Sign(_)
+        | Figure::Nought(_)
+        | Figure::Point(_)
+        | Figure::HexMark(_)
+        | Figure::Hex { .. } => true,
+        Figure::Open { acc, .. } => acc.z <= n,
+        Figure::Whole(d) | Figure::Fraction(d) | Figure::Exponent(d) | Figure::ExponentSign(d, _) =>
+            sane_decimal(d, n),
+        Figure::ExponentDigits { decimal, power, .. } => sane_decimal(decimal, n)
+            && power < 10000000000,
     }
 }

@@ -14,11 +14,8 @@ ghost use Rattle.arriving.specs.Between.Leaps.{spot_of, spot_at, due_number, due
 
 use crate::states::{Due, Here, Inner, Mode, Quoted};
 use crate::steps;
-use items::binary_part::Piece;
 use items::identifier::Sort;
-use items::string_part::Part;
-use items::word::Word;
-use items::{Scanned, binary_part, identifier, number_or_time, string_part, word};
+use items::{binary_part, identifier, number_or_time, string_part, word};
 use meaning::DEPTH_LIMIT;
 
 // Bytes that leave the check where it stands: between items, in a line comment, in a block comment, between the quotes of a part
@@ -49,55 +46,17 @@ pub struct Reached {
     pub at: usize,
 }
 
-// Whether a byte is a blank.
-fn is_blank(b: u8) -> bool
-    ensures { (q : ℕ) → result ≡ stays_in RunIs.Blank q b }
-{
-    if b == b' ' {
-        return true;
-    }
-    if b == b'\n' {
-        return true;
-    }
-    if b == b'\r' {
-        return true;
-    }
-    b == b'\t'
-}
-
 // Whether a byte leaves the check where it stands.
+#[tactic(auto, unfolding(crate::specs::Between::Leaps::stays_in, machine::specs::Strings::plain_byte))]
 fn stays(run: Run, quote: u8, b: u8) -> bool
     ensures { result ≡ stays_in run quote b }
 {
     match run {
-        Run::Blank => is_blank(b),
-        Run::Line => {
-            if b >= b' ' {
-                return true;
-            }
-            b == b'\t'
-        }
-        Run::Block => {
-            if b == b'*' {
-                return false;
-            }
-            string_part::line_byte(b)
-        }
-        Run::Plain => {
-            if b == b'\\' {
-                return false;
-            }
-            if b == quote {
-                return false;
-            }
-            b >= b' '
-        }
-        Run::Lines => {
-            if b == quote {
-                return false;
-            }
-            string_part::line_byte(b)
-        }
+        Run::Blank => matches!(b, b' ' | b'\n' | b'\r' | b'\t'),
+        Run::Line => b >= b' ' || b == b'\t',
+        Run::Block => b != b'*' && string_part::line_byte(b),
+        Run::Plain => b != b'\\' && b != quote && b >= b' ',
+        Run::Lines => b != quote && string_part::line_byte(b),
     }
 }
 
@@ -106,63 +65,26 @@ fn run_end(part: &[u8], from: usize, run: Run, quote: u8) -> usize
     requires { from ≤ length part.now }
     ensures { RanTo part.now from run quote result }
 {
-    let mut i = from;
-    while i < part.len() {
+    for i in from..part.len() {
         if !stays(run, quote, part[i]) {
             return i;
         }
-        i += 1;
     }
-    i
+    part.len()
 }
 
 // The number of what is due.
 fn due_number(d: Due) -> usize
     ensures { result ≡ due_number d }
 {
-    match d {
-        Due::Value => 0,
-        Due::Key => 1,
-        Due::StringPart => 2,
-        Due::KeyPart => 3,
-        Due::BinaryPart => 4,
-        Due::AfterValue => 5,
-        Due::AfterKey => 6,
-        Due::AfterString => 7,
-        Due::AfterKeyString => 8,
-        Due::AfterBinary => 9,
-    }
-}
-
-// What is due by this number.
-fn due_of(n: usize) -> Due
-    ensures { result ≡ due_of n }
-{
-    match n {
-        0 => Due::Value,
-        1 => Due::Key,
-        2 => Due::StringPart,
-        3 => Due::KeyPart,
-        4 => Due::BinaryPart,
-        5 => Due::AfterValue,
-        6 => Due::AfterKey,
-        7 => Due::AfterString,
-        8 => Due::AfterKeyString,
-        _ => Due::AfterBinary,
-    }
+    usize::from(u8::from(d))
 }
 
 // At another place, with all else as it was.
 fn passed(x: Spot, at: usize) -> Spot
     ensures { result ≡ spot_at x at }
 {
-    Spot {
-        at,
-        due: x.due,
-        depth: x.depth,
-        records: x.records,
-        stored: x.stored,
-    }
+    Spot { at, ..x }
 }
 
 // At another place, with so many records and store bytes more.
@@ -173,9 +95,9 @@ fn moved(x: Spot, at: usize, due: Due, records: usize, stored: usize) -> Spot
     Spot {
         at,
         due: due_number(due),
-        depth: x.depth,
         records: x.records + records,
         stored: x.stored + stored,
+        ..x
     }
 }
 
@@ -195,7 +117,7 @@ fn opened(x: Spot, kind: u8, due: Due, kinds: &mut [u8; DEPTH_LIMIT]) -> Spot
         due: due_number(due),
         depth: depth + 1,
         records: x.records + 1,
-        stored: x.stored,
+        ..x
     }
 }
 
@@ -205,16 +127,14 @@ fn closed(x: Spot, kind: u8, kinds: &[u8; DEPTH_LIMIT]) -> Spot
     ensures { (c : Bracket) → kind ≡ kind_of c
         → Stepped (λ s p. Steps.closed s p c) x kinds.now result kinds.now }
 {
-    let depth = x.depth;
-    if steps::top(kinds, depth) != kind {
+    if steps::top(kinds, x.depth) != kind {
         return x;
     }
     Spot {
         at: x.at + 1,
         due: due_number(Due::AfterValue),
-        depth: depth - 1,
-        records: x.records,
-        stored: x.stored,
+        depth: x.depth - 1,
+        ..x
     }
 }
 
@@ -223,14 +143,11 @@ fn comma(x: Spot, kinds: &[u8; DEPTH_LIMIT]) -> Spot
     requires { Room x }
     ensures { Stepped Steps.comma x kinds.now result kinds.now }
 {
-    let kind = steps::top(kinds, x.depth);
-    if kind == 1 {
-        return moved(x, x.at + 1, Due::Value, 0, 0);
+    match steps::top(kinds, x.depth) {
+        steps::ARRAY => moved(x, x.at + 1, Due::Value, 0, 0),
+        steps::OBJECT => moved(x, x.at + 1, Due::Key, 0, 0),
+        _ => x,
     }
-    if kind == 2 {
-        return moved(x, x.at + 1, Due::Key, 0, 0);
-    }
-    x
 }
 
 // Past what may follow a value.
@@ -240,8 +157,8 @@ fn after_value(x: Spot, b: u8, kinds: &[u8; DEPTH_LIMIT]) -> Spot
 {
     match b {
         b',' => comma(x, kinds),
-        b']' => closed(x, 1, kinds),
-        b'}' => closed(x, 2, kinds),
+        b']' => closed(x, steps::ARRAY, kinds),
+        b'}' => closed(x, steps::OBJECT, kinds),
         _ => x,
     }
 }
@@ -265,23 +182,19 @@ fn quoted(part: &[u8], x: Spot) -> Spot
 {
     let from = x.at;
     let mut store: [u8; 0] = [0; 0];
-    match string_part::read_part(&part[from..], &mut store, 0) {
-        Part::BadEscape(_) => x,
-        Part::NotGrammar(_) => x,
-        Part::Closed { bytes, taken } => {
-            let end = from + taken;
-            if end >= part.len() {
-                return x;
-            }
-            let due = due_of(x.due);
-            match due {
-                Due::Value => moved(x, end, Due::AfterString, 1, bytes),
-                Due::Key => moved(x, end, Due::AfterKeyString, 1, bytes),
-                Due::StringPart => moved(x, end, Due::AfterString, 0, bytes),
-                Due::KeyPart => moved(x, end, Due::AfterKeyString, 0, bytes),
-                _ => x,
-            }
-        }
+    let Ok(read) = string_part::read_part(&part[from..], &mut store, 0) else {
+        return x;
+    };
+    let end = from + read.end;
+    if end >= part.len() {
+        return x;
+    }
+    match Due::from(x.due) {
+        Due::Value => moved(x, end, Due::AfterString, 1, read.value),
+        Due::Key => moved(x, end, Due::AfterKeyString, 1, read.value),
+        Due::StringPart => moved(x, end, Due::AfterString, 0, read.value),
+        Due::KeyPart => moved(x, end, Due::AfterKeyString, 0, read.value),
+        _ => x,
     }
 }
 
@@ -292,13 +205,8 @@ fn binary(part: &[u8], x: Spot) -> Spot
 {
     let mut store: [u8; 0] = [0; 0];
     match binary_part::read_part(part, x.at, &mut store, 0) {
-        Piece::NotGrammar(_) => x,
-        Piece::Closed { bytes, end } => {
-            if end >= part.len() {
-                return x;
-            }
-            moved(x, end, Due::AfterBinary, 1, bytes)
-        }
+        Ok(read) if read.end < part.len() => moved(x, read.end, Due::AfterBinary, 1, read.value),
+        _ => x,
     }
 }
 
@@ -308,13 +216,8 @@ fn spelt(part: &[u8], x: Spot, letters: &[u8]) -> Spot
     ensures { WordPassed part.now x letters.now result }
 {
     match word::spell(part, x.at, letters) {
-        Word::NotGrammar(_) => x,
-        Word::Whole(end) => {
-            if end >= part.len() {
-                return x;
-            }
-            moved(x, end, Due::AfterValue, 1, 0)
-        }
+        Ok(end) if end < part.len() => moved(x, end, Due::AfterValue, 1, 0),
+        _ => x,
     }
 }
 
@@ -324,13 +227,8 @@ fn numeric(part: &[u8], x: Spot) -> Spot
     ensures { (ks : List ℕ) → Skips part.now x ks result ks }
 {
     match number_or_time::numeric(part, x.at) {
-        Scanned::Refused(_) => x,
-        Scanned::Item(_, end) => {
-            if end >= part.len() {
-                return x;
-            }
-            moved(x, end, Due::AfterValue, 1, 0)
-        }
+        Ok(read) if read.end < part.len() => moved(x, read.end, Due::AfterValue, 1, 0),
+        _ => x,
     }
 }
 
@@ -352,9 +250,9 @@ fn value(part: &[u8], x: Spot, b: u8, kinds: &mut [u8; DEPTH_LIMIT]) -> Spot
     ensures { Skips part.now x kinds.old result kinds.new }
 {
     match b {
-        b'[' => opened(x, 1, Due::Value, kinds),
-        b'{' => opened(x, 2, Due::Key, kinds),
-        b']' => closed(x, 1, kinds),
+        b'[' => opened(x, steps::ARRAY, Due::Value, kinds),
+        b'{' => opened(x, steps::OBJECT, Due::Key, kinds),
+        b']' => closed(x, steps::ARRAY, kinds),
         b'n' => spelt(part, x, b"null"),
         b't' => spelt(part, x, b"true"),
         b'f' => spelt(part, x, b"false"),
@@ -369,12 +267,11 @@ fn key(part: &[u8], x: Spot, b: u8, kinds: &[u8; DEPTH_LIMIT]) -> Spot
     ensures { Skips part.now x kinds.now result kinds.now }
 {
     if b == b'}' {
-        return closed(x, 2, kinds);
+        return closed(x, steps::OBJECT, kinds);
     }
     match identifier::sort_of(b) {
         Sort::Letter => named(part, x),
-        Sort::Figure => x,
-        Sort::Neither => x,
+        Sort::Figure | Sort::Neither => x,
     }
 }
 
@@ -383,15 +280,11 @@ fn on_due(part: &[u8], x: Spot, b: u8, kinds: &mut [u8; DEPTH_LIMIT]) -> Spot
     requires { Placed part.now x × Bytes part.now × (b ≡ get_or part.now x.at 0) × Plainly b }
     ensures { Skips part.now x kinds.old result kinds.new }
 {
-    let due = due_of(x.due);
-    match due {
+    match Due::from(x.due) {
         Due::Value => value(part, x, b, kinds),
         Due::Key => key(part, x, b, kinds),
-        Due::AfterValue => after_value(x, b, kinds),
-        Due::AfterString => after_value(x, b, kinds),
-        Due::AfterBinary => after_value(x, b, kinds),
-        Due::AfterKey => after_key(x, b),
-        Due::AfterKeyString => after_key(x, b),
+        Due::AfterValue | Due::AfterString | Due::AfterBinary => after_value(x, b, kinds),
+        Due::AfterKey | Due::AfterKeyString => after_key(x, b),
         _ => x,
     }
 }
@@ -405,14 +298,10 @@ fn line_comment(part: &[u8], x: Spot) -> Spot
     if end >= part.len() {
         return x;
     }
-    let b = part[end];
-    if b == b'\n' {
-        return passed(x, end + 1);
+    match part[end] {
+        b'\n' | b'\r' => passed(x, end + 1),
+        _ => x,
     }
-    if b == b'\r' {
-        return passed(x, end + 1);
-    }
-    x
 }
 
 // From a spot in the part to the next: past blanks, a line comment, a sign of punctuation or a whole item. The same spot where the
@@ -427,8 +316,7 @@ fn turn(part: &[u8], x: Spot, kinds: &mut [u8; DEPTH_LIMIT]) -> Spot
         return passed(x, run_end(part, j, Run::Blank, 0));
     }
     match b {
-        b'"' => quoted(part, x),
-        b'\'' => quoted(part, x),
+        b'"' | b'\'' => quoted(part, x),
         b'#' => line_comment(part, x),
         _ => on_due(part, x, b, kinds),
     }
@@ -455,19 +343,15 @@ fn skimmed(here: Here, part: &[u8], at: usize, kinds: &mut [u8; DEPTH_LIMIT]) ->
     requires { Stands part.now at here × (here.mode ≡ Modes.At) }
     ensures { Leaps part.now (here, kinds.old) at (result.here, kinds.new) result.at }
 {
-    let due = here.due;
-    let x = skim(
-        part,
-        Spot {
-            at,
-            due: due_number(due),
-            depth: here.depth,
-            records: here.records,
-            stored: here.stored,
-        },
-        kinds,
-    );
-    let last = due_of(x.due);
+    let from = Spot {
+        at,
+        due: due_number(here.due),
+        depth: here.depth,
+        records: here.records,
+        stored: here.stored,
+    };
+    let x = skim(part, from, kinds);
+    let last = Due::from(x.due);
     Reached {
         here: Here {
             mode: Mode::At,
@@ -498,15 +382,10 @@ fn stored(here: Here, part: &[u8], at: usize, run: Run, quote: u8) -> Reached
         × RanTo part.now at run quote result.at }
 {
     let end = run_end(part, at, run, quote);
-    let mode = here.mode;
-    let due = here.due;
     Reached {
         here: Here {
-            mode,
-            due,
-            depth: here.depth,
-            records: here.records,
             stored: here.stored + (end - at),
+            ..here
         },
         at: end,
     }
@@ -518,18 +397,8 @@ fn quoting(here: Here, k: Quoted, s: Inner, part: &[u8], at: usize) -> Reached
     ensures { (ks : List ℕ) → Leaps part.now (here, ks) at (result.here, ks) result.at }
 {
     match s {
-        Inner::Body => {
-            if k.half != 0 {
-                return Reached { here, at };
-            }
-            stored(here, part, at, Run::Plain, k.quote)
-        }
-        Inner::Lines(n) => {
-            if n != 0 {
-                return Reached { here, at };
-            }
-            stored(here, part, at, Run::Lines, k.quote)
-        }
+        Inner::Body if k.half == 0 => stored(here, part, at, Run::Plain, k.quote),
+        Inner::Lines(0) => stored(here, part, at, Run::Lines, k.quote),
         _ => Reached { here, at },
     }
 }
@@ -539,8 +408,7 @@ pub fn leap(here: Here, part: &[u8], at: usize, kinds: &mut [u8; DEPTH_LIMIT]) -
     requires { Stands part.now at here }
     ensures { Leaps part.now (here, kinds.old) at (result.here, kinds.new) result.at }
 {
-    let mode = here.mode;
-    match mode {
+    match here.mode {
         Mode::At => skimmed(here, part, at, kinds),
         Mode::Line => ran(here, part, at, Run::Line),
         Mode::Block => ran(here, part, at, Run::Block),

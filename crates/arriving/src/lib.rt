@@ -21,7 +21,7 @@ ghost use Rattle.arriving.specs.Between.Arriving.{started_core, spent_core, star
 
 use meaning::{DEPTH_LIMIT, Refusal, TEXT_LIMIT};
 use octets::Utf;
-use reader::Answer;
+use reader::Counts;
 use states::{Due, Here, Mode};
 
 // All but the kinds of the open brackets: how many bytes have come, one more than the longest text where they are too many.
@@ -78,53 +78,34 @@ fn spent_core() -> Core
 }
 
 // Whether the numbers of an item lie where sums need them, after n bytes.
+#[tactic(auto, unfolding(crate::specs::Between::Arriving::sane_mode))]
 fn sane_mode(mode: Mode, n: usize) -> bool
     ensures { result ≡ sane_mode n mode }
 {
     match mode {
-        Mode::At => true,
-        Mode::Slash => true,
-        Mode::Line => true,
-        Mode::Block => true,
-        Mode::Star => true,
-        Mode::Spelling(_) => true,
         Mode::Counting(f) => figures::sane_figure(f, n),
-        Mode::Timing(_, _) => true,
-        Mode::Quoting(_, _) => true,
-        Mode::Packing(_) => true,
-        Mode::Naming => true,
-        Mode::Failed(_) => true,
+        _ => true,
     }
 }
 
 // The same where the check stands.
+#[tactic(auto, unfolding(crate::specs::Between::Arriving::sane_here, meaning::specs::Limits::depth_limit))]
 fn sane_here(here: Here, n: usize) -> bool
     requires { n ≤ text_limit }
     ensures { result ≡ sane_here n here }
 {
-    if here.depth > DEPTH_LIMIT {
-        return false;
-    }
-    if here.records > n {
-        return false;
-    }
-    if here.stored > 300 * n {
-        return false;
-    }
-    let mode = here.mode;
-    sane_mode(mode, n)
+    here.depth <= DEPTH_LIMIT
+        && here.records <= n
+        && here.stored <= 300 * n
+        && sane_mode(here.mode, n)
 }
 
 // Whether the numbers lie where those of a state that came from a start lie, as far as sums and indexes need it.
+#[tactic(auto, unfolding(crate::specs::Between::Arriving::sane))]
 fn sane(c: Core) -> bool
     ensures { result ≡ Arriving.sane c }
 {
-    let n = c.length;
-    if n > TEXT_LIMIT {
-        return false;
-    }
-    let here = c.here;
-    sane_here(here, n)
+    c.length <= TEXT_LIMIT && sane_here(c.here, c.length)
 }
 
 // The bytes of a part, the first at the place `base`: whole items and runs at once, and a byte at a time between them.
@@ -148,6 +129,7 @@ fn walked(had: Here, part: &[u8], base: usize, kinds: &mut [u8; DEPTH_LIMIT]) ->
 }
 
 // The state where nothing has come.
+#[tactic(auto, unfolding(meaning::specs::Limits::depth_limit))]
 pub fn check_start() -> Check
     ensures { result ≡ started }
 {
@@ -157,6 +139,7 @@ pub fn check_start() -> Check
 }
 
 // The state where too many bytes have come, or where it never came from a start.
+#[tactic(auto, unfolding(meaning::specs::Limits::depth_limit))]
 fn spent() -> Check
     ensures { result ≡ Arriving.spent }
 {
@@ -178,10 +161,8 @@ pub fn check_feed(c: Check, part: &[u8]) -> Check
         return spent();
     }
     let mut kinds = c.kinds;
-    let had_here = had.here;
-    let here = walked(had_here, part, base, &mut kinds);
-    let had_utf = had.utf;
-    let utf = octets::utf_feed(had_utf, part, base);
+    let here = walked(had.here, part, base, &mut kinds);
+    let utf = octets::utf_feed(had.utf, part, base);
     let core = Core {
         length: base + part.len(),
         utf,
@@ -191,27 +172,22 @@ pub fn check_feed(c: Check, part: &[u8]) -> Check
 }
 
 // The answer where all but the kinds is this.
-fn ended(c: Core) -> Answer
+#[tactic(auto, unfolding(crate::specs::Between::Arriving::ended_core, crate::specs::Between::Arriving::sane, crate::specs::Between::Arriving::sane_here))]
+fn ended(c: Core) -> Result<Counts, Refusal>
     ensures { result ≡ ended_core c }
 {
-    if sane(c) {
-        let utf = c.utf;
-        if utf.broken {
-            return Answer::Refused(Refusal::NotUtf8(utf.first));
-        }
-        if utf.left == 0 {
-            let here = c.here;
-            return ends::finished(here, c.length);
-        }
-        return Answer::Refused(Refusal::NotUtf8(utf.first));
+    if !sane(c) {
+        return Err(Refusal::TextTooLong);
     }
-    Answer::Refused(Refusal::TextTooLong)
+    if c.utf.broken || c.utf.left != 0 {
+        return Err(Refusal::NotUtf8(c.utf.first));
+    }
+    ends::finished(c.here, c.length)
 }
 
 // The answer where the text ends: what `measure` answers for all that has come, with 15 left out.
-pub fn check_finish(c: Check) -> Answer
+pub fn check_finish(c: Check) -> Result<Counts, Refusal>
     ensures { result ≡ Arriving.ended c }
 {
-    let core = c.core;
-    ended(core)
+    ended(c.core)
 }

@@ -3,8 +3,6 @@ ghost use Rattle.std.specs.Prelude.{◌≡◌, ◌+◌, ◌≤◌, ◌<◌, leng
 ghost use Rattle.meaning.specs.Limits.{text_limit};
 ghost use Rattle.arriving.specs.Between.Octets.{between, fault_at, opens, lead_of_three, lead_of_four, leads, follow, Rests, next_utf, fed_utf};
 
-use rules::Utf8Answer;
-
 // How many bytes of a character are still to come, between which bounds the next one lies, and the character's first place; the place
 // of the first fault, where there is one.
 #[derive(Clone, Copy)]
@@ -56,61 +54,50 @@ fn awaits(left: u8, low: u8, high: u8, first: usize) -> Utf
 }
 
 // The first byte of three: no overlong form, and no surrogate.
+#[tactic(auto, unfolding(crate::specs::Between::Octets::lead_of_three))]
 fn lead_of_three(p: usize, b: u8) -> Utf
     ensures { result ≡ lead_of_three p b }
 {
-    if b == 0xE0 {
-        return awaits(2, 0xA0, 0xBF, p);
+    match b {
+        0xE0 => awaits(2, 0xA0, 0xBF, p),
+        0xED => awaits(2, 0x80, 0x9F, p),
+        _ => awaits(2, 0x80, 0xBF, p),
     }
-    if b == 0xED {
-        return awaits(2, 0x80, 0x9F, p);
-    }
-    awaits(2, 0x80, 0xBF, p)
 }
 
 // The first byte of four: no overlong form, and nothing above 10FFFF.
+#[tactic(auto, unfolding(crate::specs::Between::Octets::lead_of_four))]
 fn lead_of_four(p: usize, b: u8) -> Utf
     ensures { result ≡ lead_of_four p b }
 {
-    if b == 0xF0 {
-        return awaits(3, 0x90, 0xBF, p);
+    match b {
+        0xF0 => awaits(3, 0x90, 0xBF, p),
+        0..=0xF3 => awaits(3, 0x80, 0xBF, p),
+        0xF4 => awaits(3, 0x80, 0x8F, p),
+        _ => fault(p),
     }
-    if b <= 0xF3 {
-        return awaits(3, 0x80, 0xBF, p);
-    }
-    if b == 0xF4 {
-        return awaits(3, 0x80, 0x8F, p);
-    }
-    fault(p)
 }
 
 // The first byte of a character.
+#[tactic(auto, unfolding(crate::specs::Between::Octets::leads))]
 fn lead(p: usize, b: u8) -> Utf
     ensures { result ≡ leads p b }
 {
-    if b < 0x80 {
-        return whole();
+    match b {
+        0..=0x7F => whole(),
+        0x80..=0xC1 => fault(p),
+        0xC2..=0xDF => awaits(1, 0x80, 0xBF, p),
+        0xE0..=0xEF => lead_of_three(p, b),
+        _ => lead_of_four(p, b),
     }
-    if b < 0xC2 {
-        return fault(p);
-    }
-    if b < 0xE0 {
-        return awaits(1, 0x80, 0xBF, p);
-    }
-    if b < 0xF0 {
-        return lead_of_three(p, b);
-    }
-    lead_of_four(p, b)
 }
 
 // A byte after the first.
+#[tactic(auto, unfolding(crate::specs::Between::Octets::follow))]
 fn tail(u: Utf, b: u8) -> Utf
     ensures { result ≡ follow u b }
 {
-    if b < u.low {
-        return fault(u.first);
-    }
-    if u.high < b {
+    if b < u.low || u.high < b {
         return fault(u.first);
     }
     if u.left <= 1 {
@@ -120,6 +107,7 @@ fn tail(u: Utf, b: u8) -> Utf
 }
 
 // What a byte does; `p` is its place.
+#[tactic(auto, unfolding(crate::specs::Between::Octets::next_utf))]
 pub fn utf_next(u: Utf, p: usize, b: u8) -> Utf
     ensures { result ≡ next_utf u p b }
 {
@@ -132,19 +120,17 @@ pub fn utf_next(u: Utf, p: usize, b: u8) -> Utf
     tail(u, b)
 }
 
-// The bytes of a part from `from` on, one at a time, up to a fault; `base` is the part's place.
-fn bytes(had: Utf, part: &[u8], from: usize, base: usize) -> Utf
+// The bytes of a part, one at a time, up to a fault; `base` is the part's place.
+fn bytes(had: Utf, part: &[u8], base: usize) -> Utf
     requires { base + length part.now ≤ text_limit }
-    ensures { result ≡ fed_utf had (base + from) (drop from part.now) }
+    ensures { result ≡ fed_utf had base part.now }
 {
     let mut u = had;
-    let mut i = from;
-    while i < part.len() {
+    for (i, b) in part.iter().enumerate() {
         if u.broken {
             return u;
         }
-        u = utf_next(u, base + i, part[i]);
-        i += 1;
+        u = utf_next(u, base + i, *b);
     }
     u
 }
@@ -153,11 +139,7 @@ fn bytes(had: Utf, part: &[u8], from: usize, base: usize) -> Utf
 fn rest_of(u: Utf, part: &[u8]) -> usize
     ensures { Rests u (length part.now) result }
 {
-    let n = u.left as usize;
-    if n <= part.len() {
-        return n;
-    }
-    part.len()
+    part.len().min(u.left as usize)
 }
 
 // The bytes of a part: the rest of an open character, whole characters, and the beginning of one; `base` is the part's place.
@@ -165,16 +147,14 @@ pub fn utf_feed(had: Utf, part: &[u8], base: usize) -> Utf
     requires { base + length part.now ≤ text_limit }
     ensures { result ≡ fed_utf had base part.now }
 {
-    let from = rest_of(had, part);
-    let u = bytes(had, &part[..from], 0, base);
-    if from == part.len() {
+    let (first, rest) = part.split_at(rest_of(had, part));
+    let u = bytes(had, first, base);
+    if u.broken || rest.is_empty() {
         return u;
     }
-    if u.broken {
-        return u;
-    }
-    match rules::utf8(&part[from..]) {
-        Utf8Answer::Done => return whole(),
-        Utf8Answer::IllFormed(k) => return bytes(whole(), part, from + k, base),
+    let from = base + first.len();
+    match rules::utf8(rest) {
+        Ok(()) => whole(),
+        Err(fault) => bytes(whole(), &rest[fault.place..], from + fault.place),
     }
 }

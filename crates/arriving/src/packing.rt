@@ -30,49 +30,56 @@ pub struct Flat {
     pub e: u64,
 }
 
-// 1 if set.
-fn bit(b: bool) -> u8
-    ensures { result ≡ flag b }
-{
-    if b {
-        return 1;
-    }
-    0
-}
+// A mode whose numbers are all 0.
+const ZERO: Flat = Flat {
+    kind: 0,
+    sort: 0,
+    x: 0,
+    y: 0,
+    a: 0,
+    b: 0,
+    c: 0,
+    d: 0,
+    e: 0,
+};
 
 // What is due, as a number.
-fn due_number(due: Due) -> u8
-    ensures { result ≡ due_number due }
-{
-    match due {
-        Due::Value => 0,
-        Due::Key => 1,
-        Due::StringPart => 2,
-        Due::KeyPart => 3,
-        Due::BinaryPart => 4,
-        Due::AfterValue => 5,
-        Due::AfterKey => 6,
-        Due::AfterString => 7,
-        Due::AfterKeyString => 8,
-        Due::AfterBinary => 9,
+impl From<Due> for u8 {
+    ghost from_gives = { λ due n. n ≡ due_number due };
+
+    fn from(due: Due) -> u8 {
+        match due {
+            Due::Value => 0,
+            Due::Key => 1,
+            Due::StringPart => 2,
+            Due::KeyPart => 3,
+            Due::BinaryPart => 4,
+            Due::AfterValue => 5,
+            Due::AfterKey => 6,
+            Due::AfterString => 7,
+            Due::AfterKeyString => 8,
+            Due::AfterBinary => 9,
+        }
     }
 }
 
 // What the number says is due.
-fn due_of(n: u8) -> Due
-    ensures { result ≡ due_of n }
-{
-    match n {
-        0 => Due::Value,
-        1 => Due::Key,
-        2 => Due::StringPart,
-        3 => Due::KeyPart,
-        4 => Due::BinaryPart,
-        5 => Due::AfterValue,
-        6 => Due::AfterKey,
-        7 => Due::AfterString,
-        8 => Due::AfterKeyString,
-        _ => Due::AfterBinary,
+impl From<usize> for Due {
+    ghost from_gives = { λ n due. due ≡ due_of n };
+
+    fn from(n: usize) -> Due {
+        match n {
+            0 => Due::Value,
+            1 => Due::Key,
+            2 => Due::StringPart,
+            3 => Due::KeyPart,
+            4 => Due::BinaryPart,
+            5 => Due::AfterValue,
+            6 => Due::AfterKey,
+            7 => Due::AfterString,
+            8 => Due::AfterKeyString,
+            _ => Due::AfterBinary,
+        }
     }
 }
 
@@ -83,8 +90,8 @@ fn flat_decimal(sort: u8, decimal: Decimal, down: bool, power: usize) -> Flat
     Flat {
         kind: 6,
         sort,
-        x: bit(decimal.acc.over),
-        y: bit(down),
+        x: u8::from(decimal.acc.over),
+        y: u8::from(down),
         a: decimal.first as u64,
         b: decimal.acc.c,
         c: decimal.acc.z as u64,
@@ -94,17 +101,19 @@ fn flat_decimal(sort: u8, decimal: Decimal, down: bool, power: usize) -> Flat
 }
 
 // The decimal number that these numbers are.
-fn decimal_of(f: Flat) -> Decimal
-    ensures { result ≡ decimal_of f }
-{
-    Decimal {
-        first: f.a as usize,
-        acc: Acc {
-            c: f.b,
-            over: f.x == 1,
-            z: f.c as usize,
-        },
-        fraction: f.d as usize,
+impl From<Flat> for Decimal {
+    ghost from_gives = { λ f decimal. decimal ≡ decimal_of f };
+
+    fn from(f: Flat) -> Decimal {
+        Decimal {
+            first: f.a as usize,
+            acc: Acc {
+                c: f.b,
+                over: f.x == 1,
+                z: f.c as usize,
+            },
+            fraction: f.d as usize,
+        }
     }
 }
 
@@ -115,13 +124,10 @@ fn flat_begun(sort: u8, over: bool, first: usize, value: u64) -> Flat
     Flat {
         kind: 6,
         sort,
-        x: bit(over),
-        y: 0,
+        x: u8::from(over),
         a: first as u64,
         b: value,
-        c: 0,
-        d: 0,
-        e: 0,
+        ..ZERO
     }
 }
 
@@ -133,41 +139,43 @@ fn flat_open(first: usize, count: u8, nought: bool, value: u16, acc: Acc) -> Fla
         kind: 6,
         sort: 5,
         x: count,
-        y: bit(nought),
+        y: u8::from(nought),
         a: first as u64,
         b: acc.c,
         c: acc.z as u64,
-        d: value as u64,
-        e: bit(acc.over) as u64,
+        d: u64::from(value),
+        e: u64::from(acc.over),
     }
 }
 
 // A number.
-fn flat_figure(figure: Figure) -> Flat
-    ensures { (result ≡ flat_figure figure) × FitFigure figure }
-{
-    match figure {
-        Figure::Sign(first) => flat_begun(0, false, first, 0),
-        Figure::Nought(first) => flat_begun(1, false, first, 0),
-        Figure::Point(first) => flat_begun(2, false, first, 0),
-        Figure::HexMark(first) => flat_begun(3, false, first, 0),
-        Figure::Hex { first, value, over } => flat_begun(4, over, first, value),
-        Figure::Open {
-            first,
-            count,
-            nought,
-            value,
-            acc,
-        } => flat_open(first, count, nought, value, acc),
-        Figure::Whole(decimal) => flat_decimal(6, decimal, false, 0),
-        Figure::Fraction(decimal) => flat_decimal(7, decimal, false, 0),
-        Figure::Exponent(decimal) => flat_decimal(8, decimal, false, 0),
-        Figure::ExponentSign(decimal, down) => flat_decimal(9, decimal, down, 0),
-        Figure::ExponentDigits {
-            decimal,
-            down,
-            power,
-        } => flat_decimal(10, decimal, down, power),
+impl From<Figure> for Flat {
+    ghost from_gives = { λ figure f. (f ≡ flat_figure figure) × FitFigure figure };
+
+    fn from(figure: Figure) -> Flat {
+        match figure {
+            Figure::Sign(first) => flat_begun(0, false, first, 0),
+            Figure::Nought(first) => flat_begun(1, false, first, 0),
+            Figure::Point(first) => flat_begun(2, false, first, 0),
+            Figure::HexMark(first) => flat_begun(3, false, first, 0),
+            Figure::Hex { first, value, over } => flat_begun(4, over, first, value),
+            Figure::Open {
+                first,
+                count,
+                nought,
+                value,
+                acc,
+            } => flat_open(first, count, nought, value, acc),
+            Figure::Whole(decimal) => flat_decimal(6, decimal, false, 0),
+            Figure::Fraction(decimal) => flat_decimal(7, decimal, false, 0),
+            Figure::Exponent(decimal) => flat_decimal(8, decimal, false, 0),
+            Figure::ExponentSign(decimal, down) => flat_decimal(9, decimal, down, 0),
+            Figure::ExponentDigits {
+                decimal,
+                down,
+                power,
+            } => flat_decimal(10, decimal, down, power),
+        }
     }
 }
 
@@ -189,32 +197,33 @@ fn open_of(f: Flat) -> Figure
 }
 
 // Any number, alike.
-fn figure_of(f: Flat) -> Figure
-    ensures { result ≡ figure_of f }
-{
-    let first = f.a as usize;
-    let decimal = decimal_of(f);
-    let sort = f.sort;
-    match sort {
-        0 => Figure::Sign(first),
-        1 => Figure::Nought(first),
-        2 => Figure::Point(first),
-        3 => Figure::HexMark(first),
-        4 => Figure::Hex {
-            first,
-            value: f.b,
-            over: f.x == 1,
-        },
-        5 => open_of(f),
-        6 => Figure::Whole(decimal),
-        7 => Figure::Fraction(decimal),
-        8 => Figure::Exponent(decimal),
-        9 => Figure::ExponentSign(decimal, f.y == 1),
-        _ => Figure::ExponentDigits {
-            decimal,
-            down: f.y == 1,
-            power: f.e as usize,
-        },
+impl From<Flat> for Figure {
+    ghost from_gives = { λ f figure. figure ≡ figure_of f };
+
+    fn from(f: Flat) -> Figure {
+        let first = f.a as usize;
+        let decimal = Decimal::from(f);
+        match f.sort {
+            0 => Figure::Sign(first),
+            1 => Figure::Nought(first),
+            2 => Figure::Point(first),
+            3 => Figure::HexMark(first),
+            4 => Figure::Hex {
+                first,
+                value: f.b,
+                over: f.x == 1,
+            },
+            5 => open_of(f),
+            6 => Figure::Whole(decimal),
+            7 => Figure::Fraction(decimal),
+            8 => Figure::Exponent(decimal),
+            9 => Figure::ExponentSign(decimal, f.y == 1),
+            _ => Figure::ExponentDigits {
+                decimal,
+                down: f.y == 1,
+                power: f.e as usize,
+            },
+        }
     }
 }
 
@@ -228,10 +237,10 @@ fn flat_time(sort: u8, stamp: Stamp, left: u8, value: u8, year: u16, month: u8) 
         x: left,
         y: value,
         a: stamp.first as u64,
-        b: year as u64,
-        c: month as u64,
-        d: bit(stamp.dated) as u64,
-        e: bit(stamp.good) as u64,
+        b: u64::from(year),
+        c: u64::from(month),
+        d: u64::from(stamp.dated),
+        e: u64::from(stamp.good),
     }
 }
 
@@ -264,51 +273,53 @@ fn flat_moment(stamp: Stamp, moment: Moment) -> Flat
 }
 
 // The time value that these numbers are: its first place and what holds of it.
-fn stamp_of(f: Flat) -> Stamp
-    ensures { result ≡ stamp_of f }
-{
-    Stamp {
-        first: f.a as usize,
-        dated: f.d == 1,
-        good: f.e == 1,
+impl From<Flat> for Stamp {
+    ghost from_gives = { λ f stamp. stamp ≡ stamp_of f };
+
+    fn from(f: Flat) -> Stamp {
+        Stamp {
+            first: f.a as usize,
+            dated: f.d == 1,
+            good: f.e == 1,
+        }
     }
 }
 
 // Its field, alike.
-fn slot_of(f: Flat) -> Slot
-    ensures { result ≡ slot_of f }
-{
-    let year = (f.b % 65536) as u16;
-    let month = (f.c % 256) as u8;
-    let sort = f.sort;
-    match sort {
-        0 => Slot::Month(year),
-        1 => Slot::Day { year, month },
-        2 => Slot::Hour,
-        3 => Slot::Minute,
-        4 => Slot::Second,
-        5 => Slot::OffsetHour,
-        _ => Slot::OffsetMinute,
+impl From<Flat> for Slot {
+    ghost from_gives = { λ f slot. slot ≡ slot_of f };
+
+    fn from(f: Flat) -> Slot {
+        let year = (f.b % 65536) as u16;
+        let month = (f.c % 256) as u8;
+        match f.sort {
+            0 => Slot::Month(year),
+            1 => Slot::Day { year, month },
+            2 => Slot::Hour,
+            3 => Slot::Minute,
+            4 => Slot::Second,
+            5 => Slot::OffsetHour,
+            _ => Slot::OffsetMinute,
+        }
     }
 }
 
 // Where in it, alike.
-fn moment_of(f: Flat) -> Moment
-    ensures { result ≡ moment_of f }
-{
-    let sort = f.sort;
-    if sort < 7 {
-        return Moment::Field {
-            slot: slot_of(f),
-            left: f.x,
-            value: f.y,
-        };
-    }
-    match sort {
-        7 => Moment::Spaced,
-        8 => Moment::Point,
-        9 => Moment::Fraction,
-        _ => Moment::Zulu,
+impl From<Flat> for Moment {
+    ghost from_gives = { λ f moment. moment ≡ moment_of f };
+
+    fn from(f: Flat) -> Moment {
+        match f.sort {
+            0..=6 => Moment::Field {
+                slot: Slot::from(f),
+                left: f.x,
+                value: f.y,
+            },
+            7 => Moment::Spaced,
+            8 => Moment::Point,
+            9 => Moment::Fraction,
+            _ => Moment::Zulu,
+        }
     }
 }
 
@@ -324,8 +335,8 @@ fn flat_quoted(sort: u8, quoted: Quoted, left: u8, at: usize, value: u32) -> Fla
         a: quoted.bad as u64,
         b: quoted.half as u64,
         c: at as u64,
-        d: value as u64,
-        e: 0,
+        d: u64::from(value),
+        ..ZERO
     }
 }
 
@@ -350,37 +361,40 @@ fn flat_inner(quoted: Quoted, inner: Inner) -> Flat
 }
 
 // The string part that these numbers are.
-fn quoted_of(f: Flat) -> Quoted
-    ensures { result ≡ quoted_of f }
-{
-    Quoted {
-        quote: f.x,
-        bad: f.a as usize,
-        half: f.b as usize,
+impl From<Flat> for Quoted {
+    ghost from_gives = { λ f quoted. quoted ≡ quoted_of f };
+
+    fn from(f: Flat) -> Quoted {
+        Quoted {
+            quote: f.x,
+            bad: f.a as usize,
+            half: f.b as usize,
+        }
     }
 }
 
 // Where in it, alike.
-fn inner_of(f: Flat) -> Inner
-    ensures { result ≡ inner_of f }
-{
-    let at = f.c as usize;
-    let left = f.y;
-    let value = (f.d % 4294967296) as u32;
-    let sort = f.sort;
-    match sort {
-        0 => Inner::One,
-        1 => Inner::Two,
-        2 => Inner::Opened,
-        3 => Inner::OpenedCr,
-        4 => Inner::Lines(left),
-        5 => Inner::Body,
-        6 => Inner::Escape(at),
-        7 => Inner::Unicode(at),
-        8 => Inner::Hex { value, left, at },
-        9 => Inner::BraceOpen(at),
-        10 => Inner::Brace { value, at },
-        _ => Inner::Done,
+impl From<Flat> for Inner {
+    ghost from_gives = { λ f inner. inner ≡ inner_of f };
+
+    fn from(f: Flat) -> Inner {
+        let at = f.c as usize;
+        let left = f.y;
+        let value = (f.d % 4294967296) as u32;
+        match f.sort {
+            0 => Inner::One,
+            1 => Inner::Two,
+            2 => Inner::Opened,
+            3 => Inner::OpenedCr,
+            4 => Inner::Lines(left),
+            5 => Inner::Body,
+            6 => Inner::Escape(at),
+            7 => Inner::Unicode(at),
+            8 => Inner::Hex { value, left, at },
+            9 => Inner::BraceOpen(at),
+            10 => Inner::Brace { value, at },
+            _ => Inner::Done,
+        }
     }
 }
 
@@ -392,137 +406,142 @@ fn flat_plain(kind: u8, sort: u8, quote: u8, at: usize) -> Flat
         kind,
         sort,
         x: quote,
-        y: 0,
         a: at as u64,
-        b: 0,
-        c: 0,
-        d: 0,
-        e: 0,
+        ..ZERO
     }
 }
 
 // A binary part.
-fn flat_octets(octets: Octets) -> Flat
-    ensures { result ≡ flat_octets octets }
-{
-    match octets {
-        Octets::Dollar => flat_plain(9, 0, 0, 0),
-        Octets::Text(quote) => flat_plain(9, 1, quote, 0),
-        Octets::Escape(quote) => flat_plain(9, 2, quote, 0),
-        Octets::Hex(quote) => flat_plain(9, 3, quote, 0),
-        Octets::HexLow(quote) => flat_plain(9, 4, quote, 0),
-        Octets::Low => flat_plain(9, 5, 0, 0),
-        Octets::Pair => flat_plain(9, 6, 0, 0),
-        Octets::Dot => flat_plain(9, 7, 0, 0),
-        Octets::Done => flat_plain(9, 8, 0, 0),
+impl From<Octets> for Flat {
+    ghost from_gives = { λ octets f. f ≡ flat_octets octets };
+
+    fn from(octets: Octets) -> Flat {
+        match octets {
+            Octets::Dollar => flat_plain(9, 0, 0, 0),
+            Octets::Text(quote) => flat_plain(9, 1, quote, 0),
+            Octets::Escape(quote) => flat_plain(9, 2, quote, 0),
+            Octets::Hex(quote) => flat_plain(9, 3, quote, 0),
+            Octets::HexLow(quote) => flat_plain(9, 4, quote, 0),
+            Octets::Low => flat_plain(9, 5, 0, 0),
+            Octets::Pair => flat_plain(9, 6, 0, 0),
+            Octets::Dot => flat_plain(9, 7, 0, 0),
+            Octets::Done => flat_plain(9, 8, 0, 0),
+        }
     }
 }
 
 // The binary part that these numbers are.
-fn octets_of(f: Flat) -> Octets
-    ensures { result ≡ octets_of f }
-{
-    let quote = f.x;
-    let sort = f.sort;
-    match sort {
-        0 => Octets::Dollar,
-        1 => Octets::Text(quote),
-        2 => Octets::Escape(quote),
-        3 => Octets::Hex(quote),
-        4 => Octets::HexLow(quote),
-        5 => Octets::Low,
-        6 => Octets::Pair,
-        7 => Octets::Dot,
-        _ => Octets::Done,
+impl From<Flat> for Octets {
+    ghost from_gives = { λ f octets. octets ≡ octets_of f };
+
+    fn from(f: Flat) -> Octets {
+        let quote = f.x;
+        match f.sort {
+            0 => Octets::Dollar,
+            1 => Octets::Text(quote),
+            2 => Octets::Escape(quote),
+            3 => Octets::Hex(quote),
+            4 => Octets::HexLow(quote),
+            5 => Octets::Low,
+            6 => Octets::Pair,
+            7 => Octets::Dot,
+            _ => Octets::Done,
+        }
     }
 }
 
 // A refusal.
-fn flat_refusal(why: Refusal) -> Flat
-    ensures { result ≡ flat_refusal why }
-{
-    match why {
-        Refusal::TextTooLong => flat_plain(11, 0, 0, 0),
-        Refusal::NotUtf8(at) => flat_plain(11, 1, 0, at),
-        Refusal::NotGrammar(at) => flat_plain(11, 2, 0, at),
-        Refusal::BadEscape(at) => flat_plain(11, 3, 0, at),
-        Refusal::BadTime(at) => flat_plain(11, 4, 0, at),
-        Refusal::BadNumber(at) => flat_plain(11, 5, 0, at),
-        Refusal::TooDeep(at) => flat_plain(11, 6, 0, at),
-        Refusal::TapeTooShort(at) => flat_plain(11, 7, 0, at),
-        Refusal::StoreTooShort(at) => flat_plain(11, 8, 0, at),
-        Refusal::NotWellFormed(at) => flat_plain(11, 9, 0, at),
-        Refusal::NoJsonForm(at) => flat_plain(11, 10, 0, at),
-        Refusal::OutputTooShort(at) => flat_plain(11, 11, 0, at),
-        Refusal::WrittenTooLong(at) => flat_plain(11, 12, 0, at),
-        Refusal::NoSuchRecord(at) => flat_plain(11, 13, 0, at),
-        Refusal::RepeatedKey(at) => flat_plain(11, 14, 0, at),
+impl From<Refusal> for Flat {
+    ghost from_gives = { λ why f. f ≡ flat_refusal why };
+
+    fn from(why: Refusal) -> Flat {
+        match why {
+            Refusal::TextTooLong => flat_plain(11, 0, 0, 0),
+            Refusal::NotUtf8(at) => flat_plain(11, 1, 0, at),
+            Refusal::NotGrammar(at) => flat_plain(11, 2, 0, at),
+            Refusal::BadEscape(at) => flat_plain(11, 3, 0, at),
+            Refusal::BadTime(at) => flat_plain(11, 4, 0, at),
+            Refusal::BadNumber(at) => flat_plain(11, 5, 0, at),
+            Refusal::TooDeep(at) => flat_plain(11, 6, 0, at),
+            Refusal::TapeTooShort(at) => flat_plain(11, 7, 0, at),
+            Refusal::StoreTooShort(at) => flat_plain(11, 8, 0, at),
+            Refusal::NotWellFormed(at) => flat_plain(11, 9, 0, at),
+            Refusal::NoJsonForm(at) => flat_plain(11, 10, 0, at),
+            Refusal::OutputTooShort(at) => flat_plain(11, 11, 0, at),
+            Refusal::WrittenTooLong(at) => flat_plain(11, 12, 0, at),
+            Refusal::NoSuchRecord(at) => flat_plain(11, 13, 0, at),
+            Refusal::RepeatedKey(at) => flat_plain(11, 14, 0, at),
+        }
     }
 }
 
 // The refusal that these numbers are.
-fn refusal_of(f: Flat) -> Refusal
-    ensures { result ≡ refusal_of f }
-{
-    let at = f.a as usize;
-    let sort = f.sort;
-    match sort {
-        0 => Refusal::TextTooLong,
-        1 => Refusal::NotUtf8(at),
-        2 => Refusal::NotGrammar(at),
-        3 => Refusal::BadEscape(at),
-        4 => Refusal::BadTime(at),
-        5 => Refusal::BadNumber(at),
-        6 => Refusal::TooDeep(at),
-        7 => Refusal::TapeTooShort(at),
-        8 => Refusal::StoreTooShort(at),
-        9 => Refusal::NotWellFormed(at),
-        10 => Refusal::NoJsonForm(at),
-        11 => Refusal::OutputTooShort(at),
-        12 => Refusal::WrittenTooLong(at),
-        13 => Refusal::NoSuchRecord(at),
-        _ => Refusal::RepeatedKey(at),
+impl From<Flat> for Refusal {
+    ghost from_gives = { λ f why. why ≡ refusal_of f };
+
+    fn from(f: Flat) -> Refusal {
+        let at = f.a as usize;
+        match f.sort {
+            0 => Refusal::TextTooLong,
+            1 => Refusal::NotUtf8(at),
+            2 => Refusal::NotGrammar(at),
+            3 => Refusal::BadEscape(at),
+            4 => Refusal::BadTime(at),
+            5 => Refusal::BadNumber(at),
+            6 => Refusal::TooDeep(at),
+            7 => Refusal::TapeTooShort(at),
+            8 => Refusal::StoreTooShort(at),
+            9 => Refusal::NotWellFormed(at),
+            10 => Refusal::NoJsonForm(at),
+            11 => Refusal::OutputTooShort(at),
+            12 => Refusal::WrittenTooLong(at),
+            13 => Refusal::NoSuchRecord(at),
+            _ => Refusal::RepeatedKey(at),
+        }
     }
 }
 
 // Any mode.
-fn flat_mode(mode: Mode) -> Flat
-    ensures { (result ≡ flat_mode mode) × FitMode mode }
-{
-    match mode {
-        Mode::At => flat_plain(0, 0, 0, 0),
-        Mode::Slash => flat_plain(1, 0, 0, 0),
-        Mode::Line => flat_plain(2, 0, 0, 0),
-        Mode::Block => flat_plain(3, 0, 0, 0),
-        Mode::Star => flat_plain(4, 0, 0, 0),
-        Mode::Spelling(at) => flat_plain(5, 0, 0, at),
-        Mode::Counting(figure) => flat_figure(figure),
-        Mode::Timing(stamp, moment) => flat_moment(stamp, moment),
-        Mode::Quoting(quoted, inner) => flat_inner(quoted, inner),
-        Mode::Packing(octets) => flat_octets(octets),
-        Mode::Naming => flat_plain(10, 0, 0, 0),
-        Mode::Failed(why) => flat_refusal(why),
+impl From<Mode> for Flat {
+    ghost from_gives = { λ mode f. (f ≡ flat_mode mode) × FitMode mode };
+
+    fn from(mode: Mode) -> Flat {
+        match mode {
+            Mode::At => flat_plain(0, 0, 0, 0),
+            Mode::Slash => flat_plain(1, 0, 0, 0),
+            Mode::Line => flat_plain(2, 0, 0, 0),
+            Mode::Block => flat_plain(3, 0, 0, 0),
+            Mode::Star => flat_plain(4, 0, 0, 0),
+            Mode::Spelling(at) => flat_plain(5, 0, 0, at),
+            Mode::Counting(figure) => Flat::from(figure),
+            Mode::Timing(stamp, moment) => flat_moment(stamp, moment),
+            Mode::Quoting(quoted, inner) => flat_inner(quoted, inner),
+            Mode::Packing(octets) => Flat::from(octets),
+            Mode::Naming => flat_plain(10, 0, 0, 0),
+            Mode::Failed(why) => Flat::from(why),
+        }
     }
 }
 
 // The mode that these numbers are; any numbers are one.
-fn mode_of(f: Flat) -> Mode
-    ensures { result ≡ mode_of f }
-{
-    let kind = f.kind;
-    match kind {
-        0 => Mode::At,
-        1 => Mode::Slash,
-        2 => Mode::Line,
-        3 => Mode::Block,
-        4 => Mode::Star,
-        5 => Mode::Spelling(f.a as usize),
-        6 => Mode::Counting(figure_of(f)),
-        7 => Mode::Timing(stamp_of(f), moment_of(f)),
-        8 => Mode::Quoting(quoted_of(f), inner_of(f)),
-        9 => Mode::Packing(octets_of(f)),
-        10 => Mode::Naming,
-        _ => Mode::Failed(refusal_of(f)),
+impl From<Flat> for Mode {
+    ghost from_gives = { λ f mode. mode ≡ mode_of f };
+
+    fn from(f: Flat) -> Mode {
+        match f.kind {
+            0 => Mode::At,
+            1 => Mode::Slash,
+            2 => Mode::Line,
+            3 => Mode::Block,
+            4 => Mode::Star,
+            5 => Mode::Spelling(f.a as usize),
+            6 => Mode::Counting(Figure::from(f)),
+            7 => Mode::Timing(Stamp::from(f), Moment::from(f)),
+            8 => Mode::Quoting(Quoted::from(f), Inner::from(f)),
+            9 => Mode::Packing(Octets::from(f)),
+            10 => Mode::Naming,
+            _ => Mode::Failed(Refusal::from(f)),
+        }
     }
 }
 
@@ -532,16 +551,13 @@ fn put_words(words: &[u64], bytes: &mut [u8], at: usize)
     ensures put { bytes.new ≡ sets bytes.old at (spread words.now) }
     ensures fit { Narrow words.now }
 {
-    let mut i = 0;
-    let mut o = at;
-    while i < words.len() {
-        little_endian::store8(bytes, o, words[i]);
-        i += 1;
-        o += 8;
+    for (i, word) in words.iter().enumerate() {
+        little_endian::store8(bytes, at + 8 * i, *word);
     }
 }
 
 // The numbers of one byte: of UTF-8, of what is due, and a mode's.
+#[tactic(auto, unfolding(crate::specs::Between::Packing::smalls))]
 fn put_small(utf: Utf, due: Due, f: Flat, bytes: &mut [u8; 640])
     ensures { bytes.new ≡ sets bytes.old 0 (smalls utf due f) }
 {
@@ -549,8 +565,8 @@ fn put_small(utf: Utf, due: Due, f: Flat, bytes: &mut [u8; 640])
         utf.left,
         utf.low,
         utf.high,
-        bit(utf.broken),
-        due_number(due),
+        u8::from(utf.broken),
+        u8::from(due),
         f.kind,
         f.sort,
         f.x,
@@ -567,6 +583,7 @@ fn put_small(utf: Utf, due: Due, f: Flat, bytes: &mut [u8; 640])
 }
 
 // The numbers of eight bytes: places and counts, and a mode's.
+#[tactic(auto, unfolding(crate::specs::Between::Packing::larges))]
 fn put_large(length: usize, utf: Utf, here: Here, f: Flat, bytes: &mut [u8; 640])
     ensures put { bytes.new ≡ sets bytes.old 16 (spread (larges length utf here f)) }
     ensures fit { Narrow (larges length utf here f) }
@@ -598,7 +615,7 @@ fn put_core(core: Core, bytes: &mut [u8; 640])
     let here = core.here;
     let mode = here.mode;
     let due = here.due;
-    let f = flat_mode(mode);
+    let f = Flat::from(mode);
     put_small(utf, due, f, bytes);
     put_large(core.length, utf, here, f, bytes);
 }
@@ -630,6 +647,7 @@ pub fn keep(check: Check, state: &mut [u8])
 }
 
 // A mode's numbers.
+#[tactic(auto, unfolding(crate::specs::Between::Packing::flat_at))]
 fn flat_at(bytes: &[u8; 640]) -> Flat
     ensures { result ≡ flat_at bytes.now }
 {
@@ -647,6 +665,7 @@ fn flat_at(bytes: &[u8; 640]) -> Flat
 }
 
 // How far a character of UTF-8 has come.
+#[tactic(auto, unfolding(crate::specs::Between::Packing::utf_at))]
 fn utf_at(bytes: &[u8; 640]) -> Utf
     ensures { result ≡ utf_at bytes.now }
 {
@@ -664,8 +683,8 @@ fn here_at(bytes: &[u8; 640]) -> Here
     ensures { result ≡ here_at bytes.now }
 {
     Here {
-        mode: mode_of(flat_at(bytes)),
-        due: due_of(bytes[4]),
+        mode: Mode::from(flat_at(bytes)),
+        due: Due::from(usize::from(bytes[4])),
         depth: little_endian::load8(bytes, 32) as usize,
         records: little_endian::load8(bytes, 40) as usize,
         stored: little_endian::load8(bytes, 48) as usize,

@@ -15,13 +15,11 @@ use meaning::Refusal;
 fn byte_at(list: &[u8], n: usize) -> u8
     ensures { result ≡ get_or list.now n 0 }
 {
-    if n < list.len() {
-        return list[n];
-    }
-    0
+    *list.get(n).unwrap_or(&0)
 }
 
 // The letter at a place of the list of words, 0 where a word is whole.
+#[tactic(auto, unfolding(crate::specs::Between::Small::letter_at))]
 fn letter_at(n: usize) -> u8
     ensures { result ≡ letter_at n }
 {
@@ -29,96 +27,90 @@ fn letter_at(n: usize) -> u8
 }
 
 // A byte in a word, before the letter at a place of the list of words.
+#[tactic(auto, unfolding(crate::specs::Between::Small::next_word))]
 pub fn word_next(n: usize, p: usize, b: u8) -> Out
     ensures { result ≡ next_word n p b }
 {
-    let due = letter_at(n);
-    if due == 0 {
-        return Out::Stops;
+    match letter_at(n) {
+        0 => Out::Stops,
+        due if b == due => Out::Takes(Mode::Spelling(n + 1), 0),
+        _ => Out::Breaks(Refusal::NotGrammar(p)),
     }
-    if b == due {
-        return Out::Takes(Mode::Spelling(n + 1), 0);
-    }
-    Out::Breaks(Refusal::NotGrammar(p))
 }
 
 // A byte in an identifier.
+#[tactic(auto, unfolding(crate::specs::Between::Small::next_name))]
 pub fn name_next(b: u8) -> Out
     ensures { result ≡ next_name b }
 {
     match identifier::sort_of(b) {
         Sort::Neither => Out::Stops,
-        Sort::Letter => Out::Takes(Mode::Naming, 1),
-        Sort::Figure => Out::Takes(Mode::Naming, 1),
+        Sort::Letter | Sort::Figure => Out::Takes(Mode::Naming, 1),
     }
 }
 
 // A digit takes the part on, and so many store bytes come; without one it breaks.
+#[tactic(auto, unfolding(crate::specs::Between::Small::on_digit))]
 fn on_digit(b: u8, next: Octets, stored: usize, p: usize) -> Out
     ensures { result ≡ on_digit (hex_of b) (packs next stored) (Breaks (NotGrammar p)) }
 {
-    if hex_digit::hex(b) < 16 {
-        return Out::Takes(Mode::Packing(next), stored);
+    match hex_digit::hex(b) {
+        Some(_) => Out::Takes(Mode::Packing(next), stored),
+        None => Out::Breaks(Refusal::NotGrammar(p)),
     }
-    Out::Breaks(Refusal::NotGrammar(p))
 }
 
 // A digit begins a pair; without one the part stops.
+#[tactic(auto, unfolding(crate::specs::Between::Small::on_digit))]
 fn pair_or_end(b: u8) -> Out
     ensures { result ≡ on_digit (hex_of b) (packs Low 0) Stops }
 {
-    if hex_digit::hex(b) < 16 {
-        return Out::Takes(Mode::Packing(Octets::Low), 0);
+    match hex_digit::hex(b) {
+        Some(_) => Out::Takes(Mode::Packing(Octets::Low), 0),
+        None => Out::Stops,
     }
-    Out::Stops
 }
 
 // After the dollar.
+#[tactic(auto, unfolding(crate::specs::Between::Small::on_dollar))]
 fn dollar(b: u8) -> Out
     ensures { result ≡ on_dollar b }
 {
-    if b == b'"' {
-        return Out::Takes(Mode::Packing(Octets::Text(b)), 0);
+    match b {
+        b'"' | b'\'' => Out::Takes(Mode::Packing(Octets::Text(b)), 0),
+        _ => pair_or_end(b),
     }
-    if b == b'\'' {
-        return Out::Takes(Mode::Packing(Octets::Text(b)), 0);
-    }
-    pair_or_end(b)
 }
 
 // In the quoted form: from U+0020 to U+007E.
+#[tactic(auto, unfolding(crate::specs::Between::Small::on_text))]
 fn quoted(p: usize, quote: u8, b: u8) -> Out
     ensures { result ≡ on_text p quote b }
 {
-    if b == b'\\' {
-        return Out::Takes(Mode::Packing(Octets::Escape(quote)), 0);
+    match b {
+        b'\\' => Out::Takes(Mode::Packing(Octets::Escape(quote)), 0),
+        _ if b == quote => Out::Takes(Mode::Packing(Octets::Done), 0),
+        0x20..=0x7E => Out::Takes(Mode::Packing(Octets::Text(quote)), 1),
+        _ => Out::Breaks(Refusal::NotGrammar(p)),
     }
-    if b == quote {
-        return Out::Takes(Mode::Packing(Octets::Done), 0);
-    }
-    if b < 0x20 {
-        return Out::Breaks(Refusal::NotGrammar(p));
-    }
-    if b <= 0x7E {
-        return Out::Takes(Mode::Packing(Octets::Text(quote)), 1);
-    }
-    Out::Breaks(Refusal::NotGrammar(p))
 }
 
 // After a backslash.
+#[tactic(auto, unfolding(crate::specs::Between::Small::on_escape, crate::specs::Between::Small::on_short))]
 fn escaped(p: usize, quote: u8, b: u8) -> Out
     ensures { result ≡ on_escape p quote b }
 {
     if b == b'x' {
         return Out::Takes(Mode::Packing(Octets::Hex(quote)), 0);
     }
-    if hex_digit::short(b) < 256 {
-        return Out::Takes(Mode::Packing(Octets::Text(quote)), 1);
+    match hex_digit::short(b) {
+        Some(_) => Out::Takes(Mode::Packing(Octets::Text(quote)), 1),
+        None => Out::Breaks(Refusal::NotGrammar(p)),
     }
-    Out::Breaks(Refusal::NotGrammar(p))
 }
 
 // After a pair.
+#[tactic(auto, unfolding(crate::specs::Between::Small::on_pair))]
 fn after_pair(b: u8) -> Out
     ensures { result ≡ on_pair b }
 {
@@ -129,6 +121,7 @@ fn after_pair(b: u8) -> Out
 }
 
 // A byte in a binary part.
+#[tactic(auto, unfolding(crate::specs::Between::Small::next_octets))]
 pub fn octets_next(o: Octets, p: usize, b: u8) -> Out
     ensures { result ≡ next_octets o p b }
 {

@@ -1,14 +1,15 @@
 // One byte of the grammar: layout, punctuation, and the items by their own steps. `kinds` are those of the open brackets.
-ghost use Rattle.std.specs.Prelude.{ℕ, ◌≤◌, ◌<◌, ◌≡◌, true, List};
+ghost use Rattle.std.specs.Prelude.{ℕ, ◌+◌, ◌≤◌, ◌<◌, ◌≡◌, true, List};
 ghost use Rattle.meaning.specs.Limits.{text_limit, depth_limit};
 ghost use Rattle.machine.specs.Machine.{Bracket, note_of};
 ghost use Rattle.machine.specs.Machine as Machine;
 ghost use Rattle.arriving.specs.declared.states.Out.TheVariants.{Takes};
 ghost use Rattle.arriving.specs.declared.states.Due.TheVariants.{AfterBinary};
-ghost use Rattle.arriving.specs.declared.states.Mode.TheVariants.{Packing};
+ghost use Rattle.arriving.specs.declared.states.Mode.TheVariants.{Packing, Failed};
+ghost use Rattle.meaning.specs.declared.Refusal.TheVariants.{NotGrammar};
 ghost use Rattle.arriving.specs.declared.states.Octets.TheVariants.{Dollar};
 ghost use Rattle.arriving.specs.Between.Steps as Steps;
-ghost use Rattle.arriving.specs.Between.Steps.{kind_of, due_in, top_of, on_slash, on_line, on_block, on_star};
+ghost use Rattle.arriving.specs.Between.Steps.{here_of, kind_of, due_in, top_of, on_slash, on_line, on_block, on_star};
 ghost use Rattle.arriving.specs.Between.Steps.{on_after, begun_figure, on_value, on_key, on_part, after_value};
 ghost use Rattle.arriving.specs.Between.Figures.{begin_figure};
 ghost use Rattle.arriving.specs.Between.Strings.{open_quote};
@@ -22,9 +23,9 @@ use crate::{classes, figures, small, strings, times};
 use meaning::{DEPTH_LIMIT, Refusal};
 
 // The kinds of brackets; 0 is none.
-const ARRAY: u8 = 1;
+pub const ARRAY: u8 = 1;
 
-const OBJECT: u8 = 2;
+pub const OBJECT: u8 = 2;
 
 // Where the letters after the first one begin, in the list of words.
 const NULL_AT: usize = 1;
@@ -35,53 +36,41 @@ const FALSE_AT: usize = 11;
 
 // In another mode, with all else as it was.
 fn moded(here: Here, mode: Mode) -> Here
-    ensures { (ks : List ℕ) → (result, ks) ≡ Steps.moded (here, ks) mode }
+    ensures { result ≡ here_of mode here.due here.depth here.records here.stored }
 {
-    let due = here.due;
-    Here {
-        mode,
-        due,
-        depth: here.depth,
-        records: here.records,
-        stored: here.stored,
-    }
+    Here { mode, ..here }
 }
 
 // In another mode, and this is due after it.
 fn resumed(here: Here, mode: Mode, due: Due) -> Here
-    ensures { (ks : List ℕ) → (result, ks) ≡ Steps.resumed (here, ks) mode due }
+    ensures { result ≡ here_of mode due here.depth here.records here.stored }
 {
-    Here {
-        mode,
-        due,
-        depth: here.depth,
-        records: here.records,
-        stored: here.stored,
-    }
+    Here { mode, due, ..here }
 }
 
 // An item begins that is a record, and so many store bytes come; this is due after it.
 fn begun(here: Here, mode: Mode, due: Due, n: usize) -> Here
     requires { Roomy here × (n ≤ 258) }
-    ensures { (ks : List ℕ) → (result, ks) ≡ Steps.begun (here, ks) mode due n }
+    ensures { result ≡ here_of mode due here.depth (here.records + 1) (here.stored + n) }
 {
     Here {
         mode,
         due,
-        depth: here.depth,
         records: here.records + 1,
         stored: here.stored + n,
+        ..here
     }
 }
 
 // No rule allows the byte at this place.
 fn odd(here: Here, p: usize) -> Here
-    ensures { (ks : List ℕ) → (result, ks) ≡ Steps.odd (here, ks) p }
+    ensures { result ≡ here_of (Failed (NotGrammar p)) here.due here.depth here.records here.stored }
 {
     moded(here, Mode::Failed(Refusal::NotGrammar(p)))
 }
 
 // The kind of the innermost open bracket; 0 where none is open.
+#[tactic(auto, unfolding(crate::specs::Between::Steps::top_of, meaning::specs::Limits::depth_limit))]
 pub fn top(kinds: &[u8; DEPTH_LIMIT], depth: usize) -> u8
     requires { depth ≤ depth_limit }
     ensures { result ≡ top_of kinds.now depth }
@@ -93,6 +82,7 @@ pub fn top(kinds: &[u8; DEPTH_LIMIT], depth: usize) -> u8
 }
 
 // An opening bracket: 7 where too many are open.
+#[tactic(auto, unfolding(crate::specs::Between::Steps::opened, meaning::specs::Limits::depth_limit))]
 fn opened(here: Here, kind: u8, due: Due, p: usize, kinds: &mut [u8; DEPTH_LIMIT]) -> Here
     requires { Roomy here }
     ensures { (c : Bracket) → kind ≡ kind_of c → due ≡ due_in c
@@ -108,59 +98,45 @@ fn opened(here: Here, kind: u8, due: Due, p: usize, kinds: &mut [u8; DEPTH_LIMIT
         due,
         depth: depth + 1,
         records: here.records + 1,
-        stored: here.stored,
+        ..here
     }
 }
 
 // A closing bracket of this kind.
+#[tactic(auto, unfolding(crate::specs::Between::Steps::closed, crate::specs::Between::Steps::top_of))]
 fn closed(here: Here, kind: u8, p: usize, kinds: &[u8; DEPTH_LIMIT]) -> Here
     requires { Roomy here × (1 ≤ kind) }
     ensures { (c : Bracket) → kind ≡ kind_of c → (result, kinds.now) ≡ Steps.closed (here, kinds.now) p c }
 {
-    let depth = here.depth;
-    if top(kinds, depth) != kind {
+    if top(kinds, here.depth) != kind {
         return odd(here, p);
     }
     Here {
         mode: Mode::At,
         due: Due::AfterValue,
-        depth: depth - 1,
-        records: here.records,
-        stored: here.stored,
+        depth: here.depth - 1,
+        ..here
     }
 }
 
 // A comma after a value: the next element or member.
+#[tactic(auto, unfolding(crate::specs::Between::Steps::comma))]
 fn comma(here: Here, p: usize, kinds: &[u8; DEPTH_LIMIT]) -> Here
     requires { Roomy here }
     ensures { (result, kinds.now) ≡ Steps.comma (here, kinds.now) p }
 {
-    let kind = top(kinds, here.depth);
-    if kind == ARRAY {
-        return resumed(here, Mode::At, Due::Value);
+    match top(kinds, here.depth) {
+        ARRAY => resumed(here, Mode::At, Due::Value),
+        OBJECT => resumed(here, Mode::At, Due::Key),
+        _ => odd(here, p),
     }
-    if kind == OBJECT {
-        return resumed(here, Mode::At, Due::Key);
-    }
-    odd(here, p)
 }
 
 // Whether what came may be a value.
 pub fn after_value(due: Due) -> bool
     ensures { result ≡ after_value due }
 {
-    match due {
-        Due::Value => false,
-        Due::Key => false,
-        Due::StringPart => false,
-        Due::KeyPart => false,
-        Due::BinaryPart => false,
-        Due::AfterValue => true,
-        Due::AfterKey => false,
-        Due::AfterString => true,
-        Due::AfterKeyString => false,
-        Due::AfterBinary => true,
-    }
+    matches!(due, Due::AfterValue | Due::AfterString | Due::AfterBinary)
 }
 
 // A closing bracket after a value, or where none has come.
@@ -169,8 +145,7 @@ fn closed_after(here: Here, kind: u8, p: usize, kinds: &[u8; DEPTH_LIMIT]) -> He
     ensures { (c : Bracket) → kind ≡ kind_of c
         → (result, kinds.now) ≡ on_after (here, kinds.now) p (Machine.close_c c) }
 {
-    let due = here.due;
-    if after_value(due) {
+    if after_value(here.due) {
         return closed(here, kind, p, kinds);
     }
     odd(here, p)
@@ -181,8 +156,7 @@ fn comma_after(here: Here, p: usize, kinds: &[u8; DEPTH_LIMIT]) -> Here
     requires { Roomy here }
     ensures { (result, kinds.now) ≡ on_after (here, kinds.now) p Machine.comma_c }
 {
-    let due = here.due;
-    if after_value(due) {
+    if after_value(here.due) {
         return comma(here, p, kinds);
     }
     odd(here, p)
@@ -192,18 +166,9 @@ fn comma_after(here: Here, p: usize, kinds: &[u8; DEPTH_LIMIT]) -> Here
 fn colon_after(here: Here, p: usize) -> Here
     ensures { (ks : List ℕ) → (result, ks) ≡ on_after (here, ks) p Machine.colon_c }
 {
-    let due = here.due;
-    match due {
-        Due::Value => odd(here, p),
-        Due::Key => odd(here, p),
-        Due::StringPart => odd(here, p),
-        Due::KeyPart => odd(here, p),
-        Due::BinaryPart => odd(here, p),
-        Due::AfterValue => odd(here, p),
-        Due::AfterKey => resumed(here, Mode::At, Due::Value),
-        Due::AfterString => odd(here, p),
-        Due::AfterKeyString => resumed(here, Mode::At, Due::Value),
-        Due::AfterBinary => odd(here, p),
+    match here.due {
+        Due::AfterKey | Due::AfterKeyString => resumed(here, Mode::At, Due::Value),
+        _ => odd(here, p),
     }
 }
 
@@ -211,18 +176,11 @@ fn colon_after(here: Here, p: usize) -> Here
 fn plus_after(here: Here, p: usize) -> Here
     ensures { (ks : List ℕ) → (result, ks) ≡ on_after (here, ks) p Machine.plus_c }
 {
-    let due = here.due;
-    match due {
-        Due::Value => odd(here, p),
-        Due::Key => odd(here, p),
-        Due::StringPart => odd(here, p),
-        Due::KeyPart => odd(here, p),
-        Due::BinaryPart => odd(here, p),
-        Due::AfterValue => odd(here, p),
-        Due::AfterKey => odd(here, p),
+    match here.due {
         Due::AfterString => resumed(here, Mode::At, Due::StringPart),
         Due::AfterKeyString => resumed(here, Mode::At, Due::KeyPart),
         Due::AfterBinary => resumed(here, Mode::At, Due::BinaryPart),
+        _ => odd(here, p),
     }
 }
 
@@ -240,19 +198,12 @@ fn on_after(here: Here, p: usize, class: Class, kinds: &[u8; DEPTH_LIMIT]) -> He
         Class::CloseObject => closed_after(here, OBJECT, p, kinds),
         Class::Colon => colon_after(here, p),
         Class::Plus => plus_after(here, p),
-        Class::OpenArray => odd(here, p),
-        Class::OpenObject => odd(here, p),
-        Class::Quote => odd(here, p),
-        Class::Dollar => odd(here, p),
-        Class::LetterN => odd(here, p),
-        Class::LetterT => odd(here, p),
-        Class::LetterF => odd(here, p),
-        Class::Letter => odd(here, p),
-        Class::Other => odd(here, p),
+        _ => odd(here, p),
     }
 }
 
 // The first byte of a number or a time value.
+#[tactic(auto, unfolding(crate::specs::Between::Steps::begun_figure))]
 fn begun_figure(here: Here, p: usize, b: u8) -> Here
     requires { Roomy here }
     ensures { (ks : List ℕ) → (result, ks) ≡ begun_figure (here, ks) p (begin_figure p b) }
@@ -276,17 +227,13 @@ fn on_value(here: Here, p: usize, b: u8, class: Class, kinds: &mut [u8; DEPTH_LI
         Class::OpenArray => opened(here, ARRAY, Due::Value, p, kinds),
         Class::OpenObject => opened(here, OBJECT, Due::Key, p, kinds),
         Class::CloseArray => closed(here, ARRAY, p, kinds),
-        Class::CloseObject => odd(here, p),
         Class::Quote => begun(here, strings::opening(b), Due::AfterString, 0),
         Class::Dollar => begun(here, Mode::Packing(Octets::Dollar), Due::AfterBinary, 0),
         Class::LetterN => begun(here, Mode::Spelling(NULL_AT), Due::AfterValue, 0),
         Class::LetterT => begun(here, Mode::Spelling(TRUE_AT), Due::AfterValue, 0),
         Class::LetterF => begun(here, Mode::Spelling(FALSE_AT), Due::AfterValue, 0),
-        Class::Plus => begun_figure(here, p, b),
-        Class::Letter => begun_figure(here, p, b),
-        Class::Other => begun_figure(here, p, b),
-        Class::Comma => odd(here, p),
-        Class::Colon => odd(here, p),
+        Class::Plus | Class::Letter | Class::Other => begun_figure(here, p, b),
+        Class::CloseObject | Class::Comma | Class::Colon => odd(here, p),
     }
 }
 
@@ -299,20 +246,12 @@ fn on_key(here: Here, p: usize, b: u8, class: Class, kinds: &[u8; DEPTH_LIMIT]) 
         Class::Blank => moded(here, Mode::At),
         Class::Hash => moded(here, Mode::Line),
         Class::Slash => moded(here, Mode::Slash),
-        Class::CloseArray => odd(here, p),
         Class::CloseObject => closed(here, OBJECT, p, kinds),
         Class::Quote => begun(here, strings::opening(b), Due::AfterKeyString, 0),
-        Class::Dollar => begun(here, Mode::Naming, Due::AfterKey, 1),
-        Class::LetterN => begun(here, Mode::Naming, Due::AfterKey, 1),
-        Class::LetterT => begun(here, Mode::Naming, Due::AfterKey, 1),
-        Class::LetterF => begun(here, Mode::Naming, Due::AfterKey, 1),
-        Class::Letter => begun(here, Mode::Naming, Due::AfterKey, 1),
-        Class::OpenArray => odd(here, p),
-        Class::OpenObject => odd(here, p),
-        Class::Plus => odd(here, p),
-        Class::Comma => odd(here, p),
-        Class::Colon => odd(here, p),
-        Class::Other => odd(here, p),
+        Class::Dollar | Class::LetterN | Class::LetterT | Class::LetterF | Class::Letter => {
+            begun(here, Mode::Naming, Due::AfterKey, 1)
+        }
+        _ => odd(here, p),
     }
 }
 
@@ -326,18 +265,7 @@ fn on_part(here: Here, quoted: Here, dollared: Here, p: usize, class: Class) -> 
         Class::Slash => moded(here, Mode::Slash),
         Class::Quote => quoted,
         Class::Dollar => dollared,
-        Class::OpenArray => odd(here, p),
-        Class::OpenObject => odd(here, p),
-        Class::CloseArray => odd(here, p),
-        Class::CloseObject => odd(here, p),
-        Class::LetterN => odd(here, p),
-        Class::LetterT => odd(here, p),
-        Class::LetterF => odd(here, p),
-        Class::Letter => odd(here, p),
-        Class::Plus => odd(here, p),
-        Class::Comma => odd(here, p),
-        Class::Colon => odd(here, p),
-        Class::Other => odd(here, p),
+        _ => odd(here, p),
     }
 }
 
@@ -362,23 +290,19 @@ fn on_binary_part(here: Here, p: usize, class: Class) -> Here
 }
 
 // Where no item stands.
+#[tactic(auto, unfolding(crate::specs::Between::Steps::between))]
 fn between(here: Here, p: usize, b: u8, kinds: &mut [u8; DEPTH_LIMIT]) -> Here
     requires { Roomy here }
     ensures { (result, kinds.new) ≡ Steps.between (here, kinds.old) p b }
 {
     let class = classes::class_of(b);
-    let due = here.due;
-    match due {
+    match here.due {
         Due::Value => on_value(here, p, b, class, kinds),
         Due::Key => on_key(here, p, b, class, kinds),
         Due::StringPart => on_string_part(here, Due::AfterString, p, b, class),
         Due::KeyPart => on_string_part(here, Due::AfterKeyString, p, b, class),
         Due::BinaryPart => on_binary_part(here, p, class),
-        Due::AfterValue => on_after(here, p, class, kinds),
-        Due::AfterKey => on_after(here, p, class, kinds),
-        Due::AfterString => on_after(here, p, class, kinds),
-        Due::AfterKeyString => on_after(here, p, class, kinds),
-        Due::AfterBinary => on_after(here, p, class, kinds),
+        _ => on_after(here, p, class, kinds),
     }
 }
 
@@ -389,9 +313,7 @@ fn slash(here: Here, p: usize, b: u8) -> Here
     match classes::note_of(b) {
         Note::Slash => moded(here, Mode::Line),
         Note::Star => moded(here, Mode::Block),
-        Note::LineEnd => odd(here, p),
-        Note::Plain => odd(here, p),
-        Note::Control => odd(here, p),
+        Note::LineEnd | Note::Plain | Note::Control => odd(here, p),
     }
 }
 
@@ -402,9 +324,7 @@ fn line(here: Here, p: usize, b: u8) -> Here
     match classes::note_of(b) {
         Note::LineEnd => moded(here, Mode::At),
         Note::Control => odd(here, p),
-        Note::Slash => moded(here, Mode::Line),
-        Note::Star => moded(here, Mode::Line),
-        Note::Plain => moded(here, Mode::Line),
+        Note::Slash | Note::Star | Note::Plain => moded(here, Mode::Line),
     }
 }
 
@@ -415,9 +335,7 @@ fn block(here: Here, p: usize, b: u8) -> Here
     match classes::note_of(b) {
         Note::Star => moded(here, Mode::Star),
         Note::Control => odd(here, p),
-        Note::Slash => moded(here, Mode::Block),
-        Note::LineEnd => moded(here, Mode::Block),
-        Note::Plain => moded(here, Mode::Block),
+        Note::Slash | Note::LineEnd | Note::Plain => moded(here, Mode::Block),
     }
 }
 
@@ -429,27 +347,24 @@ fn star(here: Here, p: usize, b: u8) -> Here
         Note::Slash => moded(here, Mode::At),
         Note::Star => moded(here, Mode::Star),
         Note::Control => odd(here, p),
-        Note::LineEnd => moded(here, Mode::Block),
-        Note::Plain => moded(here, Mode::Block),
+        Note::LineEnd | Note::Plain => moded(here, Mode::Block),
     }
 }
 
 // An item goes on in this mode, and so many store bytes come.
 fn taken(here: Here, mode: Mode, n: usize) -> Here
     requires { Roomy here × (n ≤ 258) }
-    ensures { (ks : List ℕ) (p b : ℕ) → (result, ks) ≡ Steps.done (here, ks) p b (Takes mode n) }
+    ensures { result ≡ here_of mode here.due here.depth here.records (here.stored + n) }
 {
-    let due = here.due;
     Here {
         mode,
-        due,
-        depth: here.depth,
-        records: here.records,
         stored: here.stored + n,
+        ..here
     }
 }
 
 // What a byte did to an item. Where the item has stopped before the byte, the byte stands between items.
+#[tactic(auto, unfolding(crate::specs::Between::Steps::done))]
 fn done(here: Here, out: Out, p: usize, b: u8, kinds: &mut [u8; DEPTH_LIMIT]) -> Here
     requires { Roomy here × Few out }
     ensures { (result, kinds.new) ≡ Steps.done (here, kinds.old) p b out }
@@ -462,12 +377,12 @@ fn done(here: Here, out: Out, p: usize, b: u8, kinds: &mut [u8; DEPTH_LIMIT]) ->
 }
 
 // What the byte b does at the place p.
+#[tactic(auto, unfolding(crate::specs::Between::Steps::on_mode))]
 pub fn next(here: Here, p: usize, b: u8, kinds: &mut [u8; DEPTH_LIMIT]) -> Here
     requires { (sane_here p here ≡ true) × (p < text_limit) }
     ensures { (result, kinds.new) ≡ Steps.next (here, kinds.old) p b }
 {
-    let mode = here.mode;
-    match mode {
+    match here.mode {
         Mode::At => between(here, p, b, kinds),
         Mode::Slash => slash(here, p, b),
         Mode::Line => line(here, p, b),

@@ -39,6 +39,7 @@ fn odd(p: usize) -> Out
 }
 
 // The earlier of two places.
+#[tactic(auto, unfolding(crate::specs::Between::Strings::first_of))]
 fn first_of(bad: usize, at: usize) -> usize
     ensures { result ≡ Strings.first_of bad at }
 {
@@ -49,6 +50,7 @@ fn first_of(bad: usize, at: usize) -> usize
 }
 
 // A high surrogate that waits no longer is a bad escape.
+#[tactic(auto, unfolding(crate::specs::Between::Strings::bad_now))]
 fn bad_now(k: Quoted) -> usize
     ensures { result ≡ Strings.bad_now k }
 {
@@ -90,67 +92,50 @@ fn wait(k: Quoted, at: usize) -> Out
 fn utf8_size(w: u32) -> usize
     ensures { result ≡ length (encode w) }
 {
-    if w <= 0x7F {
-        return 1;
+    match w {
+        0..=0x7F => 1,
+        0x80..=0x7FF => 2,
+        0x800..=0xFFFF => 3,
+        _ => 4,
     }
-    if w <= 0x7FF {
-        return 2;
-    }
-    if w <= 0xFFFF {
-        return 3;
-    }
-    4
 }
 
 // A unit of its own.
+#[tactic(auto, unfolding(crate::specs::Between::Strings::alone))]
 fn alone(k: Quoted, at: usize, w: u32) -> Out
     ensures { result ≡ Strings.alone k at w }
 {
-    if w < 0xD800 {
-        return give(k, utf8_size(w));
+    match w {
+        0xD800..=0xDBFF => wait(k, at),
+        0xDC00..=0xDFFF => blame(k, at),
+        _ => give(k, utf8_size(w)),
     }
-    if w < 0xDC00 {
-        return wait(k, at);
-    }
-    if w < 0xE000 {
-        return blame(k, at);
-    }
-    give(k, utf8_size(w))
 }
 
 // The low half of a pair, or a unit of its own.
+#[tactic(auto, unfolding(crate::specs::Between::Strings::unit))]
 fn unit(k: Quoted, at: usize, w: u32) -> Out
     ensures { result ≡ Strings.unit k at w }
 {
-    if k.half == 0 {
-        return alone(k, at, w);
+    match w {
+        0xDC00..=0xDFFF if k.half != 0 => between(k.quote, k.bad, 0, 4),
+        _ => alone(k, at, w),
     }
-    if w < 0xDC00 {
-        return alone(k, at, w);
-    }
-    if w < 0xE000 {
-        return between(k.quote, k.bad, 0, 4);
-    }
-    alone(k, at, w)
 }
 
 // A character in braces.
+#[tactic(auto, unfolding(crate::specs::Between::Strings::in_braces))]
 fn in_braces(k: Quoted, at: usize, w: u32) -> Out
     ensures { result ≡ Strings.in_braces k at w }
 {
-    if w < 0xD800 {
-        return give(k, utf8_size(w));
+    match w {
+        0..=0xD7FF | 0xE000..=0x10FFFF => give(k, utf8_size(w)),
+        _ => blame(k, at),
     }
-    if w < 0xE000 {
-        return blame(k, at);
-    }
-    if w <= 0x10FFFF {
-        return give(k, utf8_size(w));
-    }
-    blame(k, at)
 }
 
 // The digits so far are w, and n more come.
+#[tactic(auto, unfolding(crate::specs::Between::Strings::hexed))]
 fn hexed(k: Quoted, at: usize, n: u8, w: u32) -> Out
     ensures { result ≡ Strings.hexed k at n w }
 {
@@ -166,32 +151,32 @@ fn hexed(k: Quoted, at: usize, n: u8, w: u32) -> Out
 }
 
 // A digit of four, after which n more come.
+#[tactic(auto, unfolding(crate::specs::Between::Strings::on_hex))]
 fn hex(k: Quoted, at: usize, n: u8, v: u32, p: usize, b: u8) -> Out
     ensures { result ≡ Strings.on_hex k at n v p (hex_of b) }
 {
-    let x = hex_digit::hex(b);
-    if x < 16 {
-        return hexed(k, at, n, 16 * (v % 4096) + x as u32);
+    match hex_digit::hex(b) {
+        Some(x) => hexed(k, at, n, 16 * (v % 4096) + u32::from(x)),
+        None => odd(p),
     }
-    odd(p)
 }
 
 // A digit in braces.
+#[tactic(auto, unfolding(crate::specs::Between::Strings::on_brace))]
 fn brace(k: Quoted, at: usize, v: u32, p: usize, b: u8) -> Out
     ensures { result ≡ Strings.on_brace k at v p (hex_of b) }
 {
-    let x = hex_digit::hex(b);
-    if x < 16 {
-        let s = Inner::Brace {
-            value: string_part::grown(v, x as u32),
-            at,
-        };
-        return goes(k, s, 0);
+    match hex_digit::hex(b) {
+        Some(x) => {
+            let value = string_part::grown(v, u32::from(x));
+            goes(k, Inner::Brace { value, at }, 0)
+        }
+        None => odd(p),
     }
-    odd(p)
 }
 
 // After the first digit in braces.
+#[tactic(auto, unfolding(crate::specs::Between::Strings::next_quoted))]
 fn braced(k: Quoted, at: usize, v: u32, p: usize, b: u8) -> Out
     ensures { result ≡ next_quoted k (Inners.Brace v at) p b }
 {
@@ -202,6 +187,7 @@ fn braced(k: Quoted, at: usize, v: u32, p: usize, b: u8) -> Out
 }
 
 // After `\u`.
+#[tactic(auto, unfolding(crate::specs::Between::Strings::next_quoted))]
 fn unicode(k: Quoted, at: usize, p: usize, b: u8) -> Out
     ensures { result ≡ next_quoted k (Inners.Unicode at) p b }
 {
@@ -212,36 +198,35 @@ fn unicode(k: Quoted, at: usize, p: usize, b: u8) -> Out
 }
 
 // After a backslash.
+#[tactic(auto, unfolding(crate::specs::Between::Strings::next_quoted, crate::specs::Between::Strings::on_short))]
 fn escape(k: Quoted, at: usize, p: usize, b: u8) -> Out
     ensures { result ≡ next_quoted k (Inners.Escape at) p b }
 {
     if b == b'u' {
         return goes(k, Inner::Unicode(at), 0);
     }
-    if hex_digit::short(b) < 256 {
-        return give(k, 1);
+    match hex_digit::short(b) {
+        Some(_) => give(k, 1),
+        None => odd(p),
     }
-    odd(p)
 }
 
 // Between two characters.
+#[tactic(auto, unfolding(crate::specs::Between::Strings::on_body, machine::specs::Strings::plain_byte))]
 fn body(k: Quoted, p: usize, b: u8) -> Out
     requires { p ≤ text_limit }
     ensures { result ≡ Strings.on_body k p b }
 {
-    if b == b'\\' {
-        return goes(k, Inner::Escape(p + 1), 0);
+    match b {
+        b'\\' => goes(k, Inner::Escape(p + 1), 0),
+        _ if b == k.quote => goes(k, Inner::Done, 0),
+        0..=0x1F => odd(p),
+        _ => give(k, 1),
     }
-    if b == k.quote {
-        return goes(k, Inner::Done, 0);
-    }
-    if b < 0x20 {
-        return odd(p);
-    }
-    give(k, 1)
 }
 
 // After one quote.
+#[tactic(auto, unfolding(crate::specs::Between::Strings::next_quoted))]
 fn one(k: Quoted, p: usize, b: u8) -> Out
     requires { p ≤ text_limit }
     ensures { result ≡ next_quoted k Inners.One p b }
@@ -253,6 +238,7 @@ fn one(k: Quoted, p: usize, b: u8) -> Out
 }
 
 // After two quotes.
+#[tactic(auto, unfolding(crate::specs::Between::Strings::next_quoted))]
 fn two(k: Quoted, p: usize, b: u8) -> Out
     ensures { result ≡ next_quoted k Inners.Two p b }
 {
@@ -263,6 +249,7 @@ fn two(k: Quoted, p: usize, b: u8) -> Out
 }
 
 // In a multiline part after n quotes, with so many store bytes held back before them; no more than two quotes ever wait.
+#[tactic(auto, unfolding(crate::specs::Between::Strings::on_lines))]
 fn lines(k: Quoted, n: u8, held: usize, p: usize, b: u8) -> Out
     requires { held ≤ 1 }
     ensures { result ≡ Strings.on_lines k n held p b }
@@ -280,19 +267,19 @@ fn lines(k: Quoted, n: u8, held: usize, p: usize, b: u8) -> Out
 }
 
 // After three quotes.
+#[tactic(auto, unfolding(crate::specs::Between::Strings::on_opened))]
 fn opened(k: Quoted, p: usize, b: u8) -> Out
     ensures { result ≡ Strings.on_opened k p b }
 {
-    if b == b'\n' {
-        return goes(k, Inner::Lines(0), 0);
+    match b {
+        b'\n' => goes(k, Inner::Lines(0), 0),
+        b'\r' => goes(k, Inner::OpenedCr, 0),
+        _ => lines(k, 0, 0, p, b),
     }
-    if b == b'\r' {
-        return goes(k, Inner::OpenedCr, 0);
-    }
-    lines(k, 0, 0, p, b)
 }
 
 // After three quotes and a CR, which is lost with an LF behind it, and kept otherwise.
+#[tactic(auto, unfolding(crate::specs::Between::Strings::next_quoted))]
 fn opened_cr(k: Quoted, p: usize, b: u8) -> Out
     ensures { result ≡ next_quoted k Inners.OpenedCr p b }
 {
@@ -303,6 +290,7 @@ fn opened_cr(k: Quoted, p: usize, b: u8) -> Out
 }
 
 // Once the part has closed.
+#[tactic(auto, unfolding(crate::specs::Between::Strings::closed))]
 fn closed(k: Quoted) -> Out
     ensures { result ≡ Strings.closed k }
 {
@@ -314,6 +302,7 @@ fn closed(k: Quoted) -> Out
 }
 
 // What the byte b at the place p does to a string part.
+#[tactic(auto, unfolding(crate::specs::Between::Strings::next_quoted))]
 pub fn quoted_next(k: Quoted, s: Inner, p: usize, b: u8) -> Out
     requires { p ≤ text_limit }
     ensures { result ≡ next_quoted k s p b }

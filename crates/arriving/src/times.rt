@@ -8,7 +8,6 @@ ghost use Rattle.arriving.specs.Between.Times.{goes_on, field_due, tested_out, n
 
 use crate::states::{Mode, Moment, Out, Slot, Stamp};
 use meaning::Refusal;
-use rules::DateAnswer;
 
 // The time value goes on.
 fn goes(s: Stamp, m: Moment) -> Out
@@ -45,10 +44,7 @@ fn tested(s: Stamp) -> Out
 fn is_date(year: u16, month: u8, day: u8) -> bool
     ensures { result ≡ is_date year month day }
 {
-    match rules::date(year as u64, month as u64, day as u64) {
-        DateAnswer::Done => true,
-        DateAnswer::NoDate => false,
-    }
+    rules::date(u64::from(year), u64::from(month), u64::from(day)).is_ok()
 }
 
 // The time value with its date, in range or not.
@@ -66,65 +62,49 @@ fn judged(s: Stamp, good: bool) -> Stamp
 fn within(s: Stamp, v: u8, most: u8) -> Stamp
     ensures { result ≡ Times.within s v most }
 {
-    if s.good {
-        return judged(s, v <= most);
-    }
-    judged(s, false)
+    judged(s, s.good && v <= most)
 }
 
 // After a date: it goes on with a time after T, or after one space followed by a digit.
 fn after_day(s: Stamp, b: u8) -> Out
     ensures { result ≡ next_day s (day_of b) }
 {
-    if b == b'T' {
-        return due(s, Slot::Hour);
+    match b {
+        b'T' | b't' => due(s, Slot::Hour),
+        b' ' => goes(s, Moment::Spaced),
+        _ => tested(s),
     }
-    if b == b't' {
-        return due(s, Slot::Hour);
-    }
-    if b == b' ' {
-        return goes(s, Moment::Spaced);
-    }
-    tested(s)
 }
 
 // After a date and one space.
 fn spaced(s: Stamp, b: u8) -> Out
     ensures { result ≡ Times.next_spaced s b (dg_of b) }
 {
-    if b < b'0' {
-        return tested(s);
+    match b {
+        b'0'..=b'9' => {
+            let value = b - b'0';
+            goes(
+                s,
+                Moment::Field {
+                    slot: Slot::Hour,
+                    left: 1,
+                    value,
+                },
+            )
+        }
+        _ => tested(s),
     }
-    if b > b'9' {
-        return tested(s);
-    }
-    goes(
-        s,
-        Moment::Field {
-            slot: Slot::Hour,
-            left: 1,
-            value: b - b'0',
-        },
-    )
 }
 
 // After a date and its time of day.
 fn offset(s: Stamp, b: u8) -> Out
     ensures { result ≡ next_offset s (sec_of b) }
 {
-    if b == b'Z' {
-        return goes(s, Moment::Zulu);
+    match b {
+        b'Z' | b'z' => goes(s, Moment::Zulu),
+        b'+' | b'-' => due(s, Slot::OffsetHour),
+        _ => tested(s),
     }
-    if b == b'z' {
-        return goes(s, Moment::Zulu);
-    }
-    if b == b'+' {
-        return due(s, Slot::OffsetHour);
-    }
-    if b == b'-' {
-        return due(s, Slot::OffsetHour);
-    }
-    tested(s)
 }
 
 // After a time of day: a local time has no offset.
@@ -151,26 +131,20 @@ fn after_second(s: Stamp, b: u8) -> Out
 fn point(s: Stamp, p: usize, b: u8) -> Out
     ensures { result ≡ Times.next_point s p (dg_of b) }
 {
-    if b < b'0' {
-        return Out::Breaks(Refusal::NotGrammar(p));
+    match b {
+        b'0'..=b'9' => goes(s, Moment::Fraction),
+        _ => Out::Breaks(Refusal::NotGrammar(p)),
     }
-    if b > b'9' {
-        return Out::Breaks(Refusal::NotGrammar(p));
-    }
-    goes(s, Moment::Fraction)
 }
 
 // After a digit of a second's fraction.
 fn fraction(s: Stamp, b: u8) -> Out
     ensures { result ≡ Times.next_fraction s (sec_of b) }
 {
-    if b < b'0' {
-        return zone(s, b);
+    match b {
+        b'0'..=b'9' => goes(s, Moment::Fraction),
+        _ => zone(s, b),
     }
-    if b > b'9' {
-        return zone(s, b);
-    }
-    goes(s, Moment::Fraction)
 }
 
 // No byte but this mark, and then the next field.
@@ -199,29 +173,29 @@ fn full(s: Stamp, slot: Slot, v: u8, p: usize, b: u8) -> Out
 }
 
 // In a field of the value v so far, of which `left` more digits are due.
+#[tactic(auto, unfolding(crate::specs::Between::Times::next_moment))]
 fn field(s: Stamp, slot: Slot, left: u8, v: u8, p: usize, b: u8) -> Out
     ensures { result ≡ next_moment s (Moment.Field slot left v) p b }
 {
-    if left == 0 {
-        return full(s, slot, v, p, b);
+    match b {
+        _ if left == 0 => full(s, slot, v, p, b),
+        b'0'..=b'9' => {
+            let value = 10 * (v % 10) + (b - b'0');
+            goes(
+                s,
+                Moment::Field {
+                    slot,
+                    left: left - 1,
+                    value,
+                },
+            )
+        }
+        _ => Out::Breaks(Refusal::NotGrammar(p)),
     }
-    if b < b'0' {
-        return Out::Breaks(Refusal::NotGrammar(p));
-    }
-    if b > b'9' {
-        return Out::Breaks(Refusal::NotGrammar(p));
-    }
-    goes(
-        s,
-        Moment::Field {
-            slot,
-            left: left - 1,
-            value: 10 * (v % 10) + (b - b'0'),
-        },
-    )
 }
 
 // What the byte b at the place p does to a time value.
+#[tactic(auto, unfolding(crate::specs::Between::Times::next_moment))]
 pub fn moment_next(s: Stamp, m: Moment, p: usize, b: u8) -> Out
     ensures { result ≡ next_moment s m p b }
 {

@@ -1,11 +1,10 @@
 -- The check while a text arrives (docs/FORMAT.md, 13.2): its state, what a part does to it, what it comes to. Assumes
 -- nothing.
 use Rattle.std.specs.Prelude.{ℕ, suc, ◌+◌, ◌*◌, ◌-◌, Bool, true, cond, ◌&&◌, List, [], ◌∷◌, ◌++◌, eqb, leb, length}
-use Rattle.std.specs.Prelude.{replicate}
+use Rattle.std.specs.Prelude.{replicate, Err}
 use Rattle.meaning.specs.Limits.{text_limit, depth_limit}
 use Rattle.meaning.specs.declared.Refusal.TheVariants.{TextTooLong, NotUtf8, NotGrammar}
-use Rattle.reader.specs.declared.Answer.{Answer}
-use Rattle.reader.specs.declared.Answer.TheVariants.{Counts, Refused}
+use Rattle.reader.specs.Answers.{Answer, counts}
 use Rattle.arriving.specs.declared.Core.{Core}
 use Rattle.arriving.specs.declared.Check.{Check}
 use Rattle.arriving.specs.declared.octets.Utf.{Utf}
@@ -85,34 +84,34 @@ feds x (t ∷ ts) = feds (fed x t) ts
 
 unfoldable pub complete : Here → ℕ → Answer
 complete h p =
-    cond (after_value h.due) (cond (eqb h.depth 0) (Counts h.records h.stored) (Refused (NotGrammar p)))
-    (Refused (NotGrammar p))
+    cond (after_value h.due) (cond (eqb h.depth 0) (counts h.records h.stored) (Err (NotGrammar p)))
+    (Err (NotGrammar p))
 
 unfoldable pub end_out : Here → ℕ → Out → Answer
-end_out h p (Takes m n) = Refused (NotGrammar p)
+end_out h p (Takes m n) = Err (NotGrammar p)
 end_out h p Stops = complete h p
-end_out h p (Breaks r) = Refused r
+end_out h p (Breaks r) = Err r
 
 unfoldable pub end_mode : Here → ℕ → ModeOf.Mode → Answer
 end_mode h p Mode.At = complete h p
 end_mode h p Mode.Line = complete h p
-end_mode h p Mode.Slash = Refused (NotGrammar p)
-end_mode h p Mode.Block = Refused (NotGrammar p)
-end_mode h p Mode.Star = Refused (NotGrammar p)
+end_mode h p Mode.Slash = Err (NotGrammar p)
+end_mode h p Mode.Block = Err (NotGrammar p)
+end_mode h p Mode.Star = Err (NotGrammar p)
 end_mode h p (Mode.Spelling n) = end_out h p (next_word n p 0)
 end_mode h p (Mode.Counting f) = end_out h p (next_figure f p 0)
 end_mode h p (Mode.Timing s m) = end_out h p (next_moment s m p 0)
 end_mode h p (Mode.Quoting k s) = end_out h p (next_quoted k s p 0)
 end_mode h p (Mode.Packing o) = end_out h p (next_octets o p 0)
 end_mode h p Mode.Naming = end_out h p (next_name 0)
-end_mode h p (Mode.Failed r) = Refused r
+end_mode h p (Mode.Failed r) = Err r
 
 unfoldable pub ended_core : Core → Answer
 ended_core c =
     cond (sane c)
-    (cond c.utf.broken (Refused (NotUtf8 c.utf.first))
-    (cond (eqb c.utf.left 0) (end_mode c.here c.length c.here.mode) (Refused (NotUtf8 c.utf.first))))
-    (Refused TextTooLong)
+    (cond c.utf.broken (Err (NotUtf8 c.utf.first))
+    (cond (eqb c.utf.left 0) (end_mode c.here c.length c.here.mode) (Err (NotUtf8 c.utf.first))))
+    (Err TextTooLong)
 
 abbrev pub ended : Check → Answer
 ended x = ended_core x.core

@@ -1,14 +1,10 @@
 -- Past a closing bracket. Assumes nothing.
-use mathlib.Core.Path.{refl, sym, ◌∙◌}
+use mathlib.Core.Path.{sym, ◌∙◌}
 use native.Mathlib.Omega.{arith}
 use Rattle.arriving.specs.declared.states.Due.TheVariants as Due
-use Rattle.arriving.specs.Between.Leaps.{stays}
 use Rattle.arriving.proofs.LeapsLaws.{spot_is}
 use Rattle.arriving.proofs.LeapsStepLaws.{top_deep, closed_steps}
 use Rattle.arriving.proofs.leaps.closed.Goals as goal
-
-pub returns-then-top-kind : goal.returns-then-top-kind
-returns-then-top-kind c = λ b e. stays refl refl
 
 pub overflow_sub-result : goal.overflow_sub-result
 overflow_sub-result c = top_deep _ _ _ (sym c.top.ensures ∙ c.if-top-kind.false) c.requires.1

@@ -1,13 +1,9 @@
 -- Past an opening bracket. Assumes nothing.
 use mathlib.Core.Path.{refl}
 use Rattle.meaning.specs.Limits.{depth_limit}
-use Rattle.arriving.specs.Between.Leaps.{stays}
 use Rattle.arriving.proofs.LeapsLaws.{spot_is}
 use Rattle.arriving.proofs.LeapsStepLaws.{opened_steps}
 use Rattle.arriving.proofs.leaps.opened.Goals as goal
-
-pub returns-then-depth-ge-DEPTH_LIMIT : goal.returns-then-depth-ge-DEPTH_LIMIT
-returns-then-depth-ge-DEPTH_LIMIT c = λ b e f. stays refl refl
 
 pub returns : goal.returns
 unfolding depth_limit

@@ -6,14 +6,6 @@ use Rattle.arriving.proofs.LeapsStepLaws.{value_opens, value_closes, null_begins
 use Rattle.arriving.proofs.LeapsReadLaws.{word_skips}
 use Rattle.arriving.proofs.leaps.value.Goals as goal
 
-pub numeric-requires : goal.numeric-requires
-numeric-requires c = (
-  c.requires.0,
-  c.requires.1,
-  c.requires.2,
-  rw c.requires.3 at c.requires.4,
-)
-
 pub returns-in-91 : goal.returns-in-91
 returns-in-91 c = value_opens _ _ _ _ _ c.requires.0.within square c.requires.2
     (sym c.requires.3 ∙ c.in-91.is) (c.opened.ensures square refl refl)

@@ -1,44 +1,27 @@
 -- The open character's rest, and then whole characters up to a fault. Assumes nothing.
-use mathlib.Core.Path.{sym, ◌∙◌, subst}
-use native.Mathlib.Omega.{arith}
-use lib.ListN.{length-take}
-use lib.Seq.{length-take-le}
-use Rattle.rules.specs.Rfc3629.{Judged}
-use Rattle.arriving.proofs.OctetsLaws.{feed_short, feed_broken, feed_done, feed_fault, fault_room}
+use Rattle.std.proofs.Common.{◌∙◌, refl, rules}
+use Rattle.rules.proofs.Outcomes.{utf8_done, utf8_fault}
+use Rattle.arriving.proofs.OctetsLaws.{feed_short, feed_broken, feed_done, feed_fault}
 use Rattle.arriving.proofs.octets.utf_feed.Goals as goal
-
-pub slice_bounds-bytes-end : goal.slice_bounds-bytes-end
-slice_bounds-bytes-end c = sym (length-take-le _ _ c.rest_of-from.ensures.within)
-
-pub bytes-u-requires : goal.bytes-u-requires
-bytes-u-requires c = simp length-take (omega (arith, c.rest_of-from.ensures.within))
-
-pub returns-then-from-part : goal.returns-then-from-part
-returns-then-from-part c = feed_short _ _ _ _ _ c.rest_of-from.ensures c.bytes-u.ensures c.if-from-part.true
+use Rattle.arriving.proofs.octets.utf_feed.Goals.{then-u-via-then-u, then-u-via-else-u+then-is_empty}
 
 pub returns-then-u : goal.returns-then-u
-returns-then-u c = feed_broken _ _ _ _ _ c.rest_of-from.ensures c.bytes-u.ensures c.if-u.true
+returns-then-u c =
+    elim c.then-u.branch [
+      | then-u-via-then-u w ↦
+          feed_broken _ _ _ _ _ _ _ c.rest_of.ensures c.split_at.ensures.front c.split_at.ensures.back c.bytes-u.ensures w.if-u.true
+      | then-u-via-else-u+then-is_empty w ↦
+          feed_short _ _ _ _ _ _ _ c.rest_of.ensures c.split_at.ensures.front c.split_at.ensures.back c.bytes-u.ensures (search rules)
+    ]
 
-pub returns-in-Done : goal.returns-in-Done
-returns-in-Done c = c.whole.ensures
-    ∙ feed_done _ _ _ _ _ c.rest_of-from.ensures
-    c.bytes-u.ensures c.if-from-part.false
-    c.if-u.false
-    (subst (Judged _) c.in-Done.is c.utf8-2.ensures)
+pub returns-in-Ok : goal.returns-in-Ok
+returns-in-Ok c =
+    c.whole.ensures
+    ∙ feed_done _ _ _ _ _ _ _ c.rest_of.ensures c.split_at.ensures.front c.split_at.ensures.back c.bytes-u.ensures (search rules)
+    c.if-u.false (utf8_done c.in-Ok.ensures)
 
-pub overflow_add-from : goal.overflow_add-from
-overflow_add-from c = omega (
-  arith,
-  fault_room _ _ _ _ _ c.rest_of-from.ensures
-      c.bytes-u.ensures
-      c.if-from-part.false c.if-u.false _
-      (subst (Judged _) c.in-IllFormed.is c.utf8-2.ensures),
-)
-
-pub returns-in-IllFormed : goal.returns-in-IllFormed
-returns-in-IllFormed c = c.bytes.ensures
-    ∙ feed_fault _ _ _ _ _ c.rest_of-from.ensures
-    c.bytes-u.ensures
-    c.if-from-part.false c.if-u.false _
-    _ c.whole-in-IllFormed.ensures
-    (subst (Judged _) c.in-IllFormed.is c.utf8-2.ensures)
+pub returns-in-Err : goal.returns-in-Err
+returns-in-Err c =
+    c.bytes.ensures
+    ∙ feed_fault _ _ _ _ _ _ _ c.rest_of.ensures c.split_at.ensures.front c.split_at.ensures.back c.bytes-u.ensures (search rules)
+    c.if-u.false _ _ _ (utf8_fault c.in-Err.ensures) c.whole-in-Err.ensures refl

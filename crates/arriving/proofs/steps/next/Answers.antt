@@ -1,8 +1,5 @@
-use Prim.Native.Nat.{suc}
-use mathlib.Core.Path.{refl, ap, ◌∙◌}
-use native.Mathlib.Omega.{arith}
-use Rattle.arriving.specs.Between.Steps.{done, on_mode}
-use Rattle.arriving.proofs.StepsLaws.{by, few_by, roomy_of, figure_of_lem}
+use Rattle.std.proofs.Common.{suc, arith}
+use Rattle.arriving.proofs.StepsLaws.{few_by, roomy_of, figure_of_lem}
 use Rattle.arriving.proofs.FiguresBounds.{figures_bounded}
 use Rattle.arriving.proofs.TimesLaws.{times_bounded}
 use Rattle.arriving.proofs.StringsBoundsLaws.{quoted_bounded}
@@ -73,85 +70,3 @@ done-requires-in-Naming c = (
   few_by (suc c.args.p) c.name_next.ensures
       (name_bounded (suc c.args.p) c.args.b),
 )
-
-pub returns-in-At : goal.returns-in-At
-unfolding on_mode
-returns-in-At c = by (on_mode (c.args.here, c.args.kinds.now)
-    c.args.p c.args.b) c.in-At.is c.between.ensures
-
-pub returns-in-Slash : goal.returns-in-Slash
-unfolding on_mode
-returns-in-Slash c = by (on_mode (c.args.here, c.args.kinds.now) c.args.p
-    c.args.b) c.in-Slash.is (c.slash.ensures _)
-
-pub returns-in-Line : goal.returns-in-Line
-unfolding on_mode
-returns-in-Line c = by (on_mode (c.args.here, c.args.kinds.now) c.args.p
-    c.args.b) c.in-Line.is (c.line.ensures _)
-
-pub returns-in-Block : goal.returns-in-Block
-unfolding on_mode
-returns-in-Block c = by (on_mode (c.args.here, c.args.kinds.now) c.args.p
-    c.args.b) c.in-Block.is (c.block.ensures _)
-
-pub returns-in-Star : goal.returns-in-Star
-unfolding on_mode
-returns-in-Star c = by (on_mode (c.args.here, c.args.kinds.now) c.args.p
-    c.args.b) c.in-Star.is (c.star.ensures _)
-
-pub returns-in-Spelling : goal.returns-in-Spelling
-unfolding on_mode
-returns-in-Spelling c = by (on_mode (c.args.here, c.args.kinds.now)
-    c.args.p c.args.b)
-    c.in-Spelling.is (c.done.ensures ∙ ap (done
-    (c.args.here, c.args.kinds.now)
-    c.args.p c.args.b)
-    c.word_next.ensures)
-
-pub returns-in-Counting : goal.returns-in-Counting
-unfolding on_mode
-returns-in-Counting c = by (on_mode (c.args.here, c.args.kinds.now)
-    c.args.p c.args.b)
-    c.in-Counting.is (c.done-in-Counting.ensures ∙ ap
-    (done (c.args.here, c.args.kinds.now)
-    c.args.p c.args.b)
-    c.figure_next.ensures)
-
-pub returns-in-Timing : goal.returns-in-Timing
-unfolding on_mode
-returns-in-Timing c = by (on_mode (c.args.here, c.args.kinds.now)
-    c.args.p c.args.b)
-    c.in-Timing.is (c.done-in-Timing.ensures ∙ ap
-    (done (c.args.here, c.args.kinds.now)
-    c.args.p c.args.b)
-    c.moment_next.ensures)
-
-pub returns-in-Quoting : goal.returns-in-Quoting
-unfolding on_mode
-returns-in-Quoting c = by (on_mode (c.args.here, c.args.kinds.now)
-    c.args.p c.args.b)
-    c.in-Quoting.is (c.done-in-Quoting.ensures ∙ ap
-    (done (c.args.here, c.args.kinds.now)
-    c.args.p c.args.b)
-    c.quoted_next.ensures)
-
-pub returns-in-Packing : goal.returns-in-Packing
-unfolding on_mode
-returns-in-Packing c = by (on_mode (c.args.here, c.args.kinds.now)
-    c.args.p c.args.b)
-    c.in-Packing.is (c.done-in-Packing.ensures ∙ ap
-    (done (c.args.here, c.args.kinds.now)
-    c.args.p c.args.b)
-    c.octets_next.ensures)
-
-pub returns-in-Naming : goal.returns-in-Naming
-unfolding on_mode
-returns-in-Naming c = by (on_mode (c.args.here, c.args.kinds.now)
-    c.args.p c.args.b) c.in-Naming.is
-    (c.done-in-Naming.ensures ∙ ap (done (c.args.here, c.args.kinds.now)
-    c.args.p c.args.b) c.name_next.ensures)
-
-pub returns-in-Failed : goal.returns-in-Failed
-unfolding on_mode
-returns-in-Failed c = by (on_mode (c.args.here, c.args.kinds.now) c.args.p c.args.b)
-    c.in-Failed.is refl

@@ -1,15 +1,16 @@
 -- Assumes nothing.
+use Rattle.std.proofs.Common.{arith}
 use Rattle.rules.proofs.Numbers.{row_1, row_2, row_3, row_4}
 use Rattle.arriving.proofs.strings.utf8_size.Goals as goal
 
-pub returns-then-w-le127 : goal.returns-then-w-le127
-returns-then-w-le127 c = rw (row_1 _ c.if-w-le127.true)
+pub returns-in-0-to-127 : goal.returns-in-0-to-127
+returns-in-0-to-127 c = rw (row_1 c.args.w (omega arith))
 
-pub returns-then-w-le2047 : goal.returns-then-w-le2047
-returns-then-w-le2047 c = rw (row_2 _ c.if-w-le127.false c.if-w-le2047.true)
+pub returns-in-128-to-2047 : goal.returns-in-128-to-2047
+returns-in-128-to-2047 c = rw (row_2 c.args.w (omega arith) (omega arith))
 
-pub returns-then-w-le65535 : goal.returns-then-w-le65535
-returns-then-w-le65535 c = rw (row_3 _ c.if-w-le2047.false c.if-w-le65535.true)
+pub returns-in-2048-to-65535 : goal.returns-in-2048-to-65535
+returns-in-2048-to-65535 c = rw (row_3 c.args.w (omega arith) (omega arith))
 
-pub returns : goal.returns
-returns c = rw (row_4 _ c.if-w-le65535.false)
+pub returns-in_default : goal.returns-in_default
+returns-in_default c = rw (row_4 c.args.w (omega arith))
