@@ -31,7 +31,8 @@ begun_there : {text seen : List ℕ} {best : Option ℕ} {from : ℕ} → AtWind
     → Keeping text seen' 0 from nothing
 begun_there {text} {seen} {from = f} a seen' b = begun_keeps (KeyIs text) (hash_of f) seen seen' 0 f b a.roomy (omega arith)
 
-pub window_seen : {text seen : List ℕ} {best : Option ℕ} {from : ℕ} → AtWindow text seen best from → (seen' : List ℕ) → Begun from seen seen' → Seen text seen' 0
+pub window_seen : {text seen : List ℕ} {best : Option ℕ} {from : ℕ} → AtWindow text seen best from → (seen' : List ℕ) → Begun from seen seen'
+    → Seen text seen' 0
 window_seen {from = f} a seen' b = inr (f, (nothing, begun_there a seen' b))
 
 pub zeroes_window : (n : ℕ) → 16 ≤ n → n < 2 ^ 32 → {text : List ℕ} {best : Option ℕ} {from : ℕ} → Searching text best (Some from)

@@ -114,7 +114,8 @@ fn blanks(text: &[u8], from: usize) -> usize
     text.len()
 }
 
-// Where all the layout from `from` on ends, where there is some.
+// Where all the layout from `from` on ends, where there is some. It stays a call, so that `pass` is laid into its callers.
+#[inline(never)]
 fn long_pass(text: &[u8], from: usize) -> Result<usize, NotGrammar>
     requires { from ≤ length text.now }
     ensures { LayoutSays text.now from result }

@@ -34,7 +34,9 @@ searched-requires c = subst (Searching _ _) (sym c.further-from.ensures)
     c.first_twice-twice.ensures c.stopped.ensures)
 
 pub returns-in_err-best : goal.returns-in_err-best
-returns-in_err-best c = absurd (search_refused (measure_counted c.args.text.now (omega (arith, c.if-text-gt-TEXT_LIMIT.false)) c.in_default.ensures c.in_ok-counts.ensures) _ c.in_err-best.ensures)
+returns-in_err-best c = absurd (search_refused (measure_counted c.args.text.now (omega (arith, c.if-text-gt-TEXT_LIMIT.false)) c.in_default.ensures
+    c.in_ok-counts.ensures) _ c.in_err-best.ensures)
 
 pub returns : goal.returns
-returns c = measure_answered (measure_counted c.args.text.now (omega (arith, c.if-text-gt-TEXT_LIMIT.false)) c.in_default.ensures c.in_ok-counts.ensures) _ c.in_ok-best.ensures _ c.answered-2.ensures
+returns c = measure_answered (measure_counted c.args.text.now (omega (arith, c.if-text-gt-TEXT_LIMIT.false)) c.in_default.ensures c.in_ok-counts.ensures) _
+    c.in_ok-best.ensures _ c.answered-2.ensures

@@ -38,33 +38,39 @@ array-value-requires t c = let w = (element_more c.loop-next.invariant.0 _ (rw c
 
 pub array-returns-in_err-last : goal.array-returns-in_err-last
 array-returns-in_err-last t c = let p = err_from_is_err_and c.from_residual-in_err-last.result c.from_residual-in_err-last.ensures.1 in
-    rw (p.1, p.2) (value_refused (element_more c.loop-next.invariant.0 _ (rw c.in-More.is at c.in_ok-next.ensures)).0 _ c.value.new.store c.value.new.seen c.value.auto.tape _
+    rw (p.1, p.2) (value_refused (element_more c.loop-next.invariant.0 _ (rw c.in-More.is at c.in_ok-next.ensures)).0 _ c.value.new.store c.value.new.seen
+    c.value.auto.tape _
     c.in_err-last.ensures)
 
 pub array-after-requires : goal.array-after-requires
-array-after-requires t c = value_ready (element_more c.loop-next.invariant.0 _ (rw c.in-More.is at c.in_ok-next.ensures)).0 _ _ _ c.value.auto.tape _ c.in_ok-last.ensures
+array-after-requires t c = value_ready (element_more c.loop-next.invariant.0 _ (rw c.in-More.is at c.in_ok-next.ensures)).0 _ _ _ c.value.auto.tape _
+    c.in_ok-last.ensures
 
 pub array-overflow_add-count : goal.array-overflow_add-count
 array-overflow_add-count t c = omega (arith, round_counts c.loop-next.invariant.0)
 
 pub array-returns-in_err-next-2 : goal.array-returns-in_err-next-2
 array-returns-in_err-next-2 t c = let p = err_from_is_err_and c.from_residual-in_err-next-2.result c.from_residual-in_err-next-2.ensures.1 in
-    rw (p.1, p.2) (after_refused (element_more c.loop-next.invariant.0 _ (rw c.in-More.is at c.in_ok-next.ensures)).0 _ _ _ c.value.auto.tape c.value.auto.seen _
+    rw (p.1, p.2) (after_refused (element_more c.loop-next.invariant.0 _ (rw c.in-More.is at c.in_ok-next.ensures)).0 _ _ _ c.value.auto.tape c.value.auto.seen
+    _
     c.in_ok-last.ensures _ c.in_err-next-2.ensures)
 
 pub array-returns-in-Close-2 : goal.array-returns-in-Close-2
 array-returns-in-Close-2 t c = rw (c.array_closed-in-Close-2.ensures.0, c.array_closed-in-Close-2.ensures.1) (closed_took c.requires.0
-    c.args.seen.now c.args.seen.now square refl (after_close (element_more c.loop-next.invariant.0 _ (rw c.in-More.is at c.in_ok-next.ensures)).0 _ _ _ c.value.auto.tape c.value.auto.seen _ c.in_ok-last.ensures _
+    c.args.seen.now c.args.seen.now square refl (after_close (element_more c.loop-next.invariant.0 _ (rw c.in-More.is at c.in_ok-next.ensures)).0 _ _ _
+    c.value.auto.tape c.value.auto.seen _ c.in_ok-last.ensures _
     (rw c.in-Close-2.is at c.in_ok-next-2.ensures) _ refl))
 
 pub array-loop-next-smaller : goal.array-loop-next-smaller
-array-loop-next-smaller t c = let f = (after_comma (element_more c.loop-next.invariant.0 _ (rw c.in-More.is at c.in_ok-next.ensures)).0 _ _ _ c.value.auto.tape c.value.auto.seen _ c.in_ok-last.ensures _
+array-loop-next-smaller t c = let f = (after_comma (element_more c.loop-next.invariant.0 _ (rw c.in-More.is at c.in_ok-next.ensures)).0 _ _ _ c.value.auto.tape
+    c.value.auto.seen _ c.in_ok-last.ensures _
     (rw c.in-Comma.is at c.in_ok-next-2.ensures)) in
     omega (arith, (element_more c.loop-next.invariant.0 _ (rw c.in-More.is at c.in_ok-next.ensures)).1, f.1, (round_ready f.0).within)
 
 pub array-loop-next-preserved : goal.array-loop-next-preserved
 array-loop-next-preserved t c = (
-  (after_comma (element_more c.loop-next.invariant.0 _ (rw c.in-More.is at c.in_ok-next.ensures)).0 _ _ _ c.value.auto.tape c.value.auto.seen _ c.in_ok-last.ensures _
+  (after_comma (element_more c.loop-next.invariant.0 _ (rw c.in-More.is at c.in_ok-next.ensures)).0 _ _ _ c.value.auto.tape c.value.auto.seen _
+      c.in_ok-last.ensures _
       (rw c.in-Comma.is at c.in_ok-next-2.ensures)).0,
   c.value.auto.tape ∙ c.loop-next.invariant.1,
   c.value.auto.store ∙ c.loop-next.invariant.2,
@@ -98,7 +104,8 @@ object-object_closed-requires t c = (member_close c.loop-next.invariant.0 _ _ _ 
 
 pub object-returns-in-Close : goal.object-returns-in-Close
 object-returns-in-Close t c = rw (c.object_closed.ensures.0, c.object_closed.ensures.1) (closed_took c.requires.0
-    c.args.seen.now _ curly c.opened.ensures ((member_close c.loop-next.invariant.0 _ _ _ _ (rw c.in-Close.is at c.in_ok-next.ensures)).1 _ c.object_closed.ensures.2))
+    c.args.seen.now _ curly c.opened.ensures ((member_close c.loop-next.invariant.0 _ _ _ _ (rw c.in-Close.is at c.in_ok-next.ensures)).1 _
+    c.object_closed.ensures.2))
 
 pub object-value-requires : goal.object-value-requires
 object-value-requires t c = let w = (member_more c.loop-next.invariant.0 _ _ _ c.member_ahead.auto.seen _ (rw c.in-More.is at c.in_ok-next.ensures)).0 in
@@ -106,36 +113,48 @@ object-value-requires t c = let w = (member_more c.loop-next.invariant.0 _ _ _ c
 
 pub object-returns-in_err-last : goal.object-returns-in_err-last
 object-returns-in_err-last t c = let p = err_from_is_err_and c.from_residual-in_err-last.result c.from_residual-in_err-last.ensures.1 in
-    rw (p.1, p.2) (value_refused (member_more c.loop-next.invariant.0 _ _ _ c.member_ahead.auto.seen _ (rw c.in-More.is at c.in_ok-next.ensures)).0 _ c.value.new.store c.value.new.seen c.value.auto.tape _
+    rw (p.1, p.2) (value_refused (member_more c.loop-next.invariant.0 _ _ _ c.member_ahead.auto.seen _ (rw c.in-More.is at c.in_ok-next.ensures)).0 _
+    c.value.new.store c.value.new.seen c.value.auto.tape _
     c.in_err-last.ensures)
 
 pub object-after-requires : goal.object-after-requires
-object-after-requires t c = value_ready (member_more c.loop-next.invariant.0 _ _ _ c.member_ahead.auto.seen _ (rw c.in-More.is at c.in_ok-next.ensures)).0 _ _ _ c.value.auto.tape _ c.in_ok-last.ensures
+object-after-requires t c = value_ready (member_more c.loop-next.invariant.0 _ _ _ c.member_ahead.auto.seen _ (rw c.in-More.is at c.in_ok-next.ensures)).0 _ _ _
+    c.value.auto.tape _ c.in_ok-last.ensures
 
 pub object-overflow_add-count : goal.object-overflow_add-count
 object-overflow_add-count t c = omega (arith, round_counts c.loop-next.invariant.0)
 
 pub object-returns-in_err-next-2 : goal.object-returns-in_err-next-2
 object-returns-in_err-next-2 t c = let p = err_from_is_err_and c.from_residual-in_err-next-2.result c.from_residual-in_err-next-2.ensures.1 in
-    rw (p.1, p.2) (after_refused (member_more c.loop-next.invariant.0 _ _ _ c.member_ahead.auto.seen _ (rw c.in-More.is at c.in_ok-next.ensures)).0 _ _ _ c.value.auto.tape c.value.auto.seen _
+    rw (p.1, p.2) (after_refused (member_more c.loop-next.invariant.0 _ _ _ c.member_ahead.auto.seen _ (rw c.in-More.is at c.in_ok-next.ensures)).0 _ _ _
+    c.value.auto.tape c.value.auto.seen _
     c.in_ok-last.ensures _ c.in_err-next-2.ensures)
 
 pub object-object_closed-requires-in-Close-2 : goal.object-object_closed-requires-in-Close-2
-object-object_closed-requires-in-Close-2 t c = after_sane (member_more c.loop-next.invariant.0 _ _ _ c.member_ahead.auto.seen _ (rw c.in-More.is at c.in_ok-next.ensures)).0 _ _ _ c.value.auto.tape c.value.auto.seen _ c.in_ok-last.ensures
+object-object_closed-requires-in-Close-2 t c = after_sane (member_more c.loop-next.invariant.0 _ _ _ c.member_ahead.auto.seen _
+    (rw c.in-More.is at c.in_ok-next.ensures)).0 _ _ _ c.value.auto.tape c.value.auto.seen _ c.in_ok-last.ensures
 
 pub object-returns-in-Close-2 : goal.object-returns-in-Close-2
 object-returns-in-Close-2 t c = rw (c.object_closed-in-Close-2.ensures.0, c.object_closed-in-Close-2.ensures.1) (closed_took c.requires.0
-    c.args.seen.now _ curly c.opened.ensures (after_close (member_more c.loop-next.invariant.0 _ _ _ c.member_ahead.auto.seen _ (rw c.in-More.is at c.in_ok-next.ensures)).0 _ _ _ c.value.auto.tape c.value.auto.seen _ c.in_ok-last.ensures _
+    c.args.seen.now _ curly c.opened.ensures (after_close (member_more c.loop-next.invariant.0 _ _ _ c.member_ahead.auto.seen _
+    (rw c.in-More.is at c.in_ok-next.ensures)).0 _ _ _ c.value.auto.tape c.value.auto.seen _ c.in_ok-last.ensures _
     (rw c.in-Close-2.is at c.in_ok-next-2.ensures) _ c.object_closed-in-Close-2.ensures.2))
 
 pub object-loop-next-smaller : goal.object-loop-next-smaller
-object-loop-next-smaller t c = let f = (after_comma (member_more c.loop-next.invariant.0 _ _ _ c.member_ahead.auto.seen _ (rw c.in-More.is at c.in_ok-next.ensures)).0 _ _ _ c.value.auto.tape c.value.auto.seen _ c.in_ok-last.ensures _
+object-loop-next-smaller t c = let f = (after_comma (member_more c.loop-next.invariant.0 _ _ _ c.member_ahead.auto.seen _
+    (rw c.in-More.is at c.in_ok-next.ensures)).0 _ _ _ c.value.auto.tape c.value.auto.seen _ c.in_ok-last.ensures _
     (rw c.in-Comma.is at c.in_ok-next-2.ensures)) in
-    omega (arith, (member_more c.loop-next.invariant.0 _ _ _ c.member_ahead.auto.seen _ (rw c.in-More.is at c.in_ok-next.ensures)).1, f.1, (round_ready f.0).within)
+    omega (
+      arith,
+      (member_more c.loop-next.invariant.0 _ _ _ c.member_ahead.auto.seen _ (rw c.in-More.is at c.in_ok-next.ensures)).1,
+      f.1,
+      (round_ready f.0).within,
+    )
 
 pub object-loop-next-preserved : goal.object-loop-next-preserved
 object-loop-next-preserved t c = (
-  (after_comma (member_more c.loop-next.invariant.0 _ _ _ c.member_ahead.auto.seen _ (rw c.in-More.is at c.in_ok-next.ensures)).0 _ _ _ c.value.auto.tape c.value.auto.seen _ c.in_ok-last.ensures _
+  (after_comma (member_more c.loop-next.invariant.0 _ _ _ c.member_ahead.auto.seen _ (rw c.in-More.is at c.in_ok-next.ensures)).0 _ _ _ c.value.auto.tape
+      c.value.auto.seen _ c.in_ok-last.ensures _
       (rw c.in-Comma.is at c.in_ok-next-2.ensures)).0,
   c.value.auto.tape ∙ c.member_ahead.auto.tape ∙ c.loop-next.invariant.1,
   c.value.auto.store ∙ c.member_ahead.auto.store ∙ c.loop-next.invariant.2,

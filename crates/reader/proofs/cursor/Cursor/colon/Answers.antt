@@ -17,4 +17,5 @@ returns-in_err-next c = let p = err_from_is_err_and c.from_residual-in_err-next.
     rw (p.1, p.2) (colon_breaks c.args.text.now c.args.self c.in_ok-at.at c.in_ok-at.ensures c.if-at-text.false c.if-text-at-ne58.false _ c.in_err-next.ensures)
 
 pub returns : goal.returns
-returns c = colon_key c.args.text.now c.args.self c.in_ok-at.at c.in_ok-at.ensures c.if-at-text.false c.if-text-at-ne58.false c.in_ok-next.next c.in_ok-next.ensures
+returns c = colon_key c.args.text.now c.args.self c.in_ok-at.at c.in_ok-at.ensures c.if-at-text.false c.if-text-at-ne58.false c.in_ok-next.next
+    c.in_ok-next.ensures
