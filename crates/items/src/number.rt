@@ -331,13 +331,17 @@ pub fn rest(s: &[u8], q: usize, g: bool, v: u64, at: usize) -> Scanned
         return settle(q, g, held(v), 0, 0, at);
     }
     if s[at] != b'.' {
-        return decimal(s, q, g, held(v), at);
+        // In a place of its own, as below.
+        let r = decimal(s, q, g, held(v), at);
+        return r;
     }
     let w = plain_digits(s, at + 1, v);
     if ends(s, w.end) {
         return settle(q, g, held(w.value), 0, w.end - (at + 1), w.end);
     }
-    decimal(s, q, g, held(v), at)
+    // In a place of its own, so that a short number's answer is not copied: measured.
+    let r = decimal(s, q, g, held(v), at);
+    r
 }
 
 // One more hexadecimal digit, while the number fits.

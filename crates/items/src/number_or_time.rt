@@ -131,14 +131,15 @@ fn unsigned(s: &[u8], q: usize) -> Scanned
     requires { AtDigit s.now q }
     ensures { Reads s.now q Numeric.begin result }
 {
-    if s[q] == b'0' {
-        return any_unsigned(s, q);
+    if s[q] != b'0' {
+        let w = number::plain_digits(s, q, 0);
+        if !timely(s, w.end) {
+            return number::rest(s, q, false, w.value, w.end);
+        }
     }
-    let w = number::plain_digits(s, q, 0);
-    if timely(s, w.end) {
-        return any_unsigned(s, q);
-    }
-    number::rest(s, q, false, w.value, w.end)
+    // In a place of its own, so that a short number's answer is not copied: measured.
+    let r = any_unsigned(s, q);
+    r
 }
 
 // A number that is a word, after its first letter.

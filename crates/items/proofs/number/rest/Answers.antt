@@ -24,8 +24,8 @@ bounds-s-at c = let h : c.args.at < length c.args.s.now =
     subst (λ (b : Bool). EndsSays c.args.s.now c.args.at b) c.if-ends.false
     c.ends.ensures in omega arith
 
-pub decimal-requires : goal.decimal-requires
-decimal-requires c = record {
+pub decimal-r-requires : goal.decimal-r-requires
+decimal-r-requires c = record {
   within = c.requires.0.within;
   short = c.requires.0.short;
   zeros =
@@ -34,7 +34,7 @@ decimal-requires c = record {
 }
 
 pub returns-then-s-at-ne46 : goal.returns-then-s-at-ne46
-returns-then-s-at-ne46 c = c.decimal.ensures.reads c.args.v c.held-then-s-at-ne46.ensures.holds
+returns-then-s-at-ne46 c = c.decimal-r.ensures.reads c.args.v c.held-then-s-at-ne46.ensures.holds
 
 pub plain_digits-w-requires : goal.plain_digits-w-requires
 plain_digits-w-requires c = let h : c.args.at < length c.args.s.now =
@@ -67,8 +67,8 @@ returns-then-ends-2 c = let h : c.args.at < length
     c.held-then-ends-2.ensures.holds (subst (λ (b : Bool). EndsSays c.args.s.now c.plain_digits-w.result.end b) c.if-ends-2.true c.ends-2.ensures)
     c.settle-then-ends-2.ensures
 
-pub decimal-requires-2 : goal.decimal-requires-2
-decimal-requires-2 c = record {
+pub decimal-r-requires-2 : goal.decimal-r-requires-2
+decimal-r-requires-2 c = record {
   within = c.requires.0.within;
   short = c.requires.0.short;
   zeros = c.held-2.ensures.small c.args.at
@@ -77,5 +77,5 @@ decimal-requires-2 c = record {
 }
 
 pub returns : goal.returns
-returns c = c.decimal-2.ensures.reads c.args.v
+returns c = c.decimal-r-2.ensures.reads c.args.v
     c.held-2.ensures.holds

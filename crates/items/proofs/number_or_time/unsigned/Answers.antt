@@ -12,17 +12,17 @@ rest-requires c = (
     short = c.requires.short;
   },
   plain_small c.args.s.now
-      c.args.q c.if-s-q-eq48.false c.plain_digits-w.result
+      c.args.q c.if-s-q-ne48.true c.plain_digits-w.result
       c.plain_digits-w.ensures c.requires.digit
       c.requires.within (subst (λ (b : Bool).
-      TimelySays c.args.s.now c.plain_digits-w.result.end b) c.if-timely.false
+      TimelySays c.args.s.now c.plain_digits-w.result.end b) c.if-not-timely.true
       c.timely.ensures),
 )
 
-pub returns : goal.returns
-returns c = plain_leads c.args.s.now
-    c.args.q c.if-s-q-eq48.false
+pub returns-then-not-timely : goal.returns-then-not-timely
+returns-then-not-timely c = plain_leads c.args.s.now
+    c.args.q c.if-s-q-ne48.true
     c.plain_digits-w.result c.plain_digits-w.ensures
     c.requires.digit c.requires.within
     (subst (λ (b : Bool). TimelySays c.args.s.now
-    c.plain_digits-w.result.end b) c.if-timely.false c.timely.ensures) _ c.rest.ensures
+    c.plain_digits-w.result.end b) c.if-not-timely.true c.timely.ensures) _ c.rest.ensures
