@@ -149,6 +149,11 @@ Closed text tape₀ tape store₀ store seen₀ seen' b o depth count n =
     Took text (bare_in b depth) (suc depth) (opening_of b) (keeping_inside text seen₀ b o) o
     tape₀ (put_record tape o.records (header b count n.records)) store₀ store seen' n
 
+-- its closing bracket has been passed: what is left is to put its own record and, of an object, to take its keys out of the table
+pub record Ending (text tape₀ tape store₀ store seen₀ seen : List ℕ) (b : Bracket) (o : Cursor) (depth count : ℕ) (n : Cursor) : Type 0 where
+  pub sane : Sane seen
+  pub closes : (seen' : List ℕ) → Closing b seen seen' → Closed text tape₀ tape store₀ store seen₀ seen' b o depth count n
+
 -- in the container that opened before o, up to c
 pub record Content (text tape₀ tape store₀ store : List ℕ) (b : Bracket) (o : Cursor) (count : ℕ) (c : Cursor) (y : Inside) : Type 0 where
   pub opened : Inner text o
@@ -375,13 +380,12 @@ module _ {text tape₀ tape store₀ store seen₀ seen : List ℕ} {b : Bracket
   pub round_refused : {why : Refusal} → AheadSays text c (closing b) (Err why) → Left text (bare_in b depth) always o.at why
   round_refused r = λ k q. then_refused (t.goes k) (r t.y (closer_of b t.y t.content.kind) depth k)
 
-  pub round_sane : Sane seen
-  round_sane = noted_sane t.noted
-
-  pub round_close : (n : Cursor) → AheadSays text c (closing b) (Ok (Ahead.Close n)) → (seen' : List ℕ) → Closing b seen seen'
-      → Closed text tape₀ tape store₀ store seen₀ seen' b o depth count n
-  round_close n g = content_took t.content depth n g.1
-      (λ k. then_tells t.keys (closing_of t.y) _ (t.goes k) (g.0 t.y (closer_of b t.y t.content.kind) depth k)) t.noted
+  pub round_ends : (n : Cursor) → AheadSays text c (closing b) (Ok (Ahead.Close n)) → Ending text tape₀ tape store₀ store seen₀ seen b o depth count n
+  round_ends n g = record {
+    sane = noted_sane t.noted;
+    closes = content_took t.content depth n g.1
+        (λ k. then_tells t.keys (closing_of t.y) _ (t.goes k) (g.0 t.y (closer_of b t.y t.content.kind) depth k)) t.noted;
+  }
 
 pub waiting_seen : {text tape₀ tape store₀ store seen₀ seen : List ℕ} {b : Bracket} {o : Cursor} {depth count : ℕ} {v : Cursor}
     → Waiting text tape₀ tape store₀ store seen₀ seen b o depth count v → Seen text seen v.at
@@ -405,14 +409,14 @@ module _ {text tape₀ tape store₀ store seen₀ seen : List ℕ} {b : Bracket
       pub after_refused : (why : Refusal) → AfterSays text last (closing b) (Err why) → Left text (bare_in b depth) always o.at why
       after_refused why g = λ k q. then_refused (t.goes k) (then_refused (w.runs (t.f ∷ k)) (g t.f t.y t.adds w.m depth k))
 
-      pub after_sane : Sane seen'
-      after_sane = noted_sane (value_noted last w)
-
-      pub after_close : (n : Cursor) → AfterSays text last (closing b) (Ok (After.Close n)) → (seen″ : List ℕ) → Closing b seen' seen″
-          → Closed text tape₀ tape' store₀ store' seen₀ seen″ b o depth (count + 1) n
-      after_close n g = content_took (t.grown last tape' store' seen' w l) depth n g.1
-          (λ k. then_tells (t.keys ++ w.keys) (closing_of (t.y w.m)) _ (then_tells t.keys w.keys _ (t.goes k) (w.runs (t.f ∷ k)))
-          (g.0 t.f t.y t.adds w.m depth k)) (value_noted last w)
+      pub after_ends : (n : Cursor) → AfterSays text last (closing b) (Ok (After.Close n))
+          → Ending text tape₀ tape' store₀ store' seen₀ seen' b o depth (count + 1) n
+      after_ends n g = record {
+        sane = noted_sane (value_noted last w);
+        closes = content_took (t.grown last tape' store' seen' w l) depth n g.1
+            (λ k. then_tells (t.keys ++ w.keys) (closing_of (t.y w.m)) _ (then_tells t.keys w.keys _ (t.goes k) (w.runs (t.f ∷ k)))
+            (g.0 t.f t.y t.adds w.m depth k)) (value_noted last w);
+      }
 
       pub after_comma : (n : Cursor) → AfterSays text last (closing b) (Ok (After.Comma n))
           → Round text tape₀ tape' store₀ store' seen₀ seen' b o depth (count + 1) n × (v.at < n.at)
@@ -574,9 +578,9 @@ member_waits {text} {tape₀} {tape} {store₀} {store} {o = o} {depth} {count} 
 module _ {text tape₀ tape store₀ store seen₀ seen : List ℕ} {o : Cursor} {depth count : ℕ} {c : Cursor}
     (t : Round text tape₀ tape store₀ store seen₀ seen curly o depth count c) (tape' store' seen' : List ℕ) where
   -- nothing has been put
-  pub member_close : (n : Cursor) → MemberAheadSays text c tape tape' store store' seen seen' (Ok (Ahead.Close n))
-      → Sane seen' × ((seen″ : List ℕ) → Closing curly seen' seen″ → Closed text tape₀ tape' store₀ store' seen₀ seen″ curly o depth count n)
-  member_close n (g, et, es, en) = rw (et, es, en) (round_sane t, round_close t n g)
+  pub member_ends : (n : Cursor) → MemberAheadSays text c tape tape' store store' seen seen' (Ok (Ahead.Close n))
+      → Ending text tape₀ tape' store₀ store' seen₀ seen' curly o depth count n
+  member_ends n (g, et, es, en) = rw (et, es, en) (round_ends t n g)
 
   pub member_more : length seen' ≡ length seen → (v : Cursor) → MemberAheadSays text c tape tape' store store' seen seen' (Ok (Ahead.More v))
       → Waiting text tape₀ tape' store₀ store' seen₀ seen' curly o depth count v × (c.at ≤ v.at)

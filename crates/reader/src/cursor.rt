@@ -2,11 +2,9 @@
 ghost use Rattle.std.specs.Prelude.{◌≡◌, ◌-◌, ◌≤◌, ◌<◌, length, get_or};
 ghost use Rattle.meaning.specs.Letters.{ch};
 ghost use Rattle.machine.specs.Machine.{square, curly};
-ghost use Rattle.once.specs.Groups.{Sane};
 ghost use Rattle.reader.specs.Between.Cursor.{record_item, item_bytes, SpeltSays, Quoted, AtScalar, ScalarSays};
 ghost use Rattle.reader.specs.Between.Cursor.{Ready, AtMember, AtValue, Inner, Seen, HeadSays, AheadSays, AfterSays};
 ghost use Rattle.reader.specs.Between.Cursor.{ColonSays, MemberSays, MemberAheadSays, ValueSays, InsideSays};
-ghost use Rattle.reader.specs.Between.Cursor.{ArrayClosed, ObjectClosed};
 
 use crate::{joined, key, layout, repeat};
 use items::{Item, Scanned, Taken, number_or_time, word};
@@ -229,27 +227,6 @@ impl Cursor {
         Ok(Ahead::More(held))
     }
 
-    // After an array's closing bracket: the array's own record is put.
-    fn array_closed(self, tape: &mut [u8], own: usize, count: usize) -> Cursor
-        ensures { ArrayClosed self own count tape.old tape.new result }
-    {
-        let end = self.records;
-        put_record(tape, own, Record::Array { count, end });
-        self
-    }
-
-    // After an object's closing bracket: the object's own record is put, and its keys leave the table.
-    fn object_closed(self, tape: &mut [u8], seen: &mut [u32], own: usize, count: usize) -> Cursor
-        requires { Sane seen.old }
-        ensures { ObjectClosed self own count tape.old tape.new
-            seen.old seen.new result }
-    {
-        let end = self.records;
-        put_record(tape, own, Record::Object { count, end });
-        once::closed(seen);
-        self
-    }
-
     // A value, where no layout stands; `depth` more arrays and objects may open.
     #[cycle(array_object_value)]
     pub fn value(
@@ -304,18 +281,21 @@ impl Cursor {
             records: own + 1,
             ..self
         };
-        loop {
+        let closed = loop {
             let first = match here.ahead(text, b']')? {
-                Ahead::Close(next) => return Ok(next.array_closed(tape, own, count)),
+                Ahead::Close(next) => break next,
                 Ahead::More(first) => first,
             };
             let last = first.value(text, depth, tape, store, seen)?;
             count += 1;
             match last.after(text, b']')? {
-                After::Close(next) => return Ok(next.array_closed(tape, own, count)),
+                After::Close(next) => break next,
                 After::Comma(next) => here = next,
             }
-        }
+        };
+        let end = closed.records;
+        put_record(tape, own, Record::Array { count, end });
+        Ok(closed)
     }
 
     // An object, after its opening bracket.
@@ -339,17 +319,21 @@ impl Cursor {
             records: own + 1,
             ..self
         };
-        loop {
+        let closed = loop {
             let held = match here.member_ahead(text, tape, store, seen)? {
-                Ahead::Close(next) => return Ok(next.object_closed(tape, seen, own, count)),
+                Ahead::Close(next) => break next,
                 Ahead::More(held) => held,
             };
             let last = held.value(text, depth, tape, store, seen)?;
             count += 1;
             match last.after(text, b'}')? {
-                After::Close(next) => return Ok(next.object_closed(tape, seen, own, count)),
+                After::Close(next) => break next,
                 After::Comma(next) => here = next,
             }
-        }
+        };
+        let end = closed.records;
+        put_record(tape, own, Record::Object { count, end });
+        once::closed(seen);
+        Ok(closed)
     }
 }

@@ -41,11 +41,8 @@ fn repeated(text: &[u8], at: usize, tag: u32, seen: &[u32]) -> bool
 {
     let mut slot = once::newest(seen, tag);
     while let Some(i) = slot {
-        if once::tag_of(seen, i) == tag {
-            let place = once::place_of(seen, i) as usize;
-            if same_key(text, at, place) {
-                return true;
-            }
+        if once::tag_of(seen, i) == tag && same_key(text, at, once::place_of(seen, i) as usize) {
+            return true;
         }
         slot = once::earlier(seen, i);
     }

@@ -47,41 +47,27 @@ fn octet(c: u32, left: usize) -> u8
     requires { c ≤ 0x10FFFF }
     ensures { OctetSays c left result }
 {
-    if left == 1 {
-        if c < 0x80 {
-            return c as u8;
-        }
-        return (0x80 + c % 64) as u8;
+    match left {
+        1 if c < 0x80 => c as u8,
+        1 => (0x80 + c % 64) as u8,
+        2 if c < 0x800 => (0xC0 + c / 64) as u8,
+        2 => (0x80 + c / 64 % 64) as u8,
+        3 if c < 0x10000 => (0xE0 + c / 4096) as u8,
+        3 => (0x80 + c / 4096 % 64) as u8,
+        _ => (0xF0 + c / 262144) as u8,
     }
-    if left == 2 {
-        if c < 0x800 {
-            return (0xC0 + c / 64) as u8;
-        }
-        return (0x80 + c / 64 % 64) as u8;
-    }
-    if left == 3 {
-        if c < 0x10000 {
-            return (0xE0 + c / 4096) as u8;
-        }
-        return (0x80 + c / 4096 % 64) as u8;
-    }
-    (0xF0 + c / 262144) as u8
 }
 
 // How many bytes a character's UTF-8 form has.
 fn octets(c: u32) -> usize
     ensures { result ≡ length (encode c) }
 {
-    if c < 0x80 {
-        return 1;
+    match c {
+        0..=0x7F => 1,
+        0x80..=0x7FF => 2,
+        0x800..=0xFFFF => 3,
+        _ => 4,
     }
-    if c < 0x800 {
-        return 2;
-    }
-    if c < 0x10000 {
-        return 3;
-    }
-    4
 }
 
 // A character of which so many bytes are left.

@@ -18,7 +18,6 @@ use Rattle.machine.specs.Heard.{names, tell, key_heard, key_at}
 use Rattle.machine.specs.Names.{word_scan}
 use Rattle.machine.specs.Scan.{ended, broke}
 use Rattle.items.specs.Between.Places.{ran_at}
-use Rattle.once.specs.Groups.{Does, shallower}
 use Rattle.once.specs.Windows.{Kept, level}
 use Rattle.tape.specs.Between.Putting.{put_record}
 use Rattle.reader.specs.Between.Scanning.{Goes, Hears, Tells, Refuses, Bare, Shut}
@@ -310,15 +309,6 @@ abbrev pub Says : List ℕ → (List Frame → Conf) → (List Frame → Type 0)
 Says text start ok top heard stood c tape tape' store store' seen' (Ok n) =
     Took text start top heard stood c tape tape' store store' seen' n
 Says text start ok top heard stood c tape tape' store store' seen' (Err why) = Left text start ok c.at why
-
--- after a container's closing bracket: its own record is put; an object's keys leave the table
-abbrev pub ArrayClosed : Cursor → ℕ → ℕ → List ℕ → List ℕ → Cursor → Type 0
-ArrayClosed c own count tape tape' r =
-    (r ≡ c) × (tape' ≡ put_record tape own (Record.Array count c.records))
-
-abbrev pub ObjectClosed : Cursor → ℕ → ℕ → List ℕ → List ℕ → List ℕ → List ℕ → Cursor → Type 0
-ObjectClosed c own count tape tape' seen seen' r =
-    (r ≡ c) × (tape' ≡ put_record tape own (Record.Object count c.records)) × Does shallower seen seen'
 
 -- where a value is wanted
 abbrev pub wants : ℕ → List Frame → Conf

@@ -4,10 +4,12 @@ use native.Mathlib.Omega.{arith}
 use Rattle.std.proofs.lemmas.Result.{err_from_is_err_and}
 use Rattle.machine.specs.Machine.{square, curly}
 use Rattle.reader.proofs.CursorTableLaws.{seen_opens}
-use Rattle.reader.proofs.CursorLoopLaws.{round_first, closed_took, round_ready, round_seen, round_counts, round_refused, round_close}
-use Rattle.reader.proofs.CursorLoopLaws.{element_more, member_close, member_more, waiting_seen, value_ready, value_refused}
-use Rattle.reader.proofs.CursorLoopLaws.{after_refused, after_sane, after_close, after_comma}
+use Rattle.reader.proofs.CursorLoopLaws.{round_first, closed_took, round_ready, round_seen, round_counts, round_refused, round_ends}
+use Rattle.reader.proofs.CursorLoopLaws.{element_more, member_ends, member_more, waiting_seen, value_ready, value_refused}
+use Rattle.reader.proofs.CursorLoopLaws.{after_refused, after_ends, after_comma, Ending, cursor}
 use Rattle.reader.proofs.CursorLoopLaws.{took_item, opened_inner, opened_seen, says_inside}
+use Rattle.reader.proofs.cursor.Cursor.+array_object_value.Goals.{array-in-Close, array-in-More+in_ok-last+in_ok-next-2+in-Close-2}
+use Rattle.reader.proofs.cursor.Cursor.+array_object_value.Goals.{object-in-Close, object-in-More+in_ok-last+in_ok-next-2+in-Close-2}
 use Rattle.reader.proofs.cursor.Cursor.+array_object_value.Goals as goal
 
 pub array-overflow_add-here : goal.array-overflow_add-here
@@ -27,10 +29,6 @@ array-ahead-requires t c = round_ready c.loop-next.invariant.0
 pub array-returns-in_err-next : goal.array-returns-in_err-next
 array-returns-in_err-next t c = let p = err_from_is_err_and c.from_residual.result c.from_residual.ensures.1 in
     rw (p.1, p.2) (round_refused c.loop-next.invariant.0 c.in_err-next.ensures)
-
-pub array-returns-in-Close : goal.array-returns-in-Close
-array-returns-in-Close t c = rw (c.array_closed.ensures.0, c.array_closed.ensures.1) (closed_took c.requires.0
-    c.args.seen.now c.args.seen.now square refl (round_close c.loop-next.invariant.0 _ (rw c.in-Close.is at c.in_ok-next.ensures) _ refl))
 
 pub array-value-requires : goal.array-value-requires
 array-value-requires t c = let w = (element_more c.loop-next.invariant.0 _ (rw c.in-More.is at c.in_ok-next.ensures)).0 in
@@ -54,12 +52,6 @@ array-returns-in_err-next-2 t c = let p = err_from_is_err_and c.from_residual-in
     rw (p.1, p.2) (after_refused (element_more c.loop-next.invariant.0 _ (rw c.in-More.is at c.in_ok-next.ensures)).0 _ _ _ c.value.auto.tape c.value.auto.seen
     _
     c.in_ok-last.ensures _ c.in_err-next-2.ensures)
-
-pub array-returns-in-Close-2 : goal.array-returns-in-Close-2
-array-returns-in-Close-2 t c = rw (c.array_closed-in-Close-2.ensures.0, c.array_closed-in-Close-2.ensures.1) (closed_took c.requires.0
-    c.args.seen.now c.args.seen.now square refl (after_close (element_more c.loop-next.invariant.0 _ (rw c.in-More.is at c.in_ok-next.ensures)).0 _ _ _
-    c.value.auto.tape c.value.auto.seen _ c.in_ok-last.ensures _
-    (rw c.in-Close-2.is at c.in_ok-next-2.ensures) _ refl))
 
 pub array-loop-next-smaller : goal.array-loop-next-smaller
 array-loop-next-smaller t c = let f = (after_comma (element_more c.loop-next.invariant.0 _ (rw c.in-More.is at c.in_ok-next.ensures)).0 _ _ _ c.value.auto.tape
@@ -99,14 +91,6 @@ pub object-returns-in_err-next : goal.object-returns-in_err-next
 object-returns-in_err-next t c = let p = err_from_is_err_and c.from_residual.result c.from_residual.ensures.1 in
     rw (p.1, p.2) (round_refused c.loop-next.invariant.0 c.in_err-next.ensures)
 
-pub object-object_closed-requires : goal.object-object_closed-requires
-object-object_closed-requires t c = (member_close c.loop-next.invariant.0 _ _ _ _ (rw c.in-Close.is at c.in_ok-next.ensures)).0
-
-pub object-returns-in-Close : goal.object-returns-in-Close
-object-returns-in-Close t c = rw (c.object_closed.ensures.0, c.object_closed.ensures.1) (closed_took c.requires.0
-    c.args.seen.now _ curly c.opened.ensures ((member_close c.loop-next.invariant.0 _ _ _ _ (rw c.in-Close.is at c.in_ok-next.ensures)).1 _
-    c.object_closed.ensures.2))
-
 pub object-value-requires : goal.object-value-requires
 object-value-requires t c = let w = (member_more c.loop-next.invariant.0 _ _ _ c.member_ahead.auto.seen _ (rw c.in-More.is at c.in_ok-next.ensures)).0 in
     (omega (arith, c.decreases), (w.ready, waiting_seen w))
@@ -129,16 +113,6 @@ object-returns-in_err-next-2 t c = let p = err_from_is_err_and c.from_residual-i
     rw (p.1, p.2) (after_refused (member_more c.loop-next.invariant.0 _ _ _ c.member_ahead.auto.seen _ (rw c.in-More.is at c.in_ok-next.ensures)).0 _ _ _
     c.value.auto.tape c.value.auto.seen _
     c.in_ok-last.ensures _ c.in_err-next-2.ensures)
-
-pub object-object_closed-requires-in-Close-2 : goal.object-object_closed-requires-in-Close-2
-object-object_closed-requires-in-Close-2 t c = after_sane (member_more c.loop-next.invariant.0 _ _ _ c.member_ahead.auto.seen _
-    (rw c.in-More.is at c.in_ok-next.ensures)).0 _ _ _ c.value.auto.tape c.value.auto.seen _ c.in_ok-last.ensures
-
-pub object-returns-in-Close-2 : goal.object-returns-in-Close-2
-object-returns-in-Close-2 t c = rw (c.object_closed-in-Close-2.ensures.0, c.object_closed-in-Close-2.ensures.1) (closed_took c.requires.0
-    c.args.seen.now _ curly c.opened.ensures (after_close (member_more c.loop-next.invariant.0 _ _ _ c.member_ahead.auto.seen _
-    (rw c.in-More.is at c.in_ok-next.ensures)).0 _ _ _ c.value.auto.tape c.value.auto.seen _ c.in_ok-last.ensures _
-    (rw c.in-Close-2.is at c.in_ok-next-2.ensures) _ c.object_closed-in-Close-2.ensures.2))
 
 pub object-loop-next-smaller : goal.object-loop-next-smaller
 object-loop-next-smaller t c = let f = (after_comma (member_more c.loop-next.invariant.0 _ _ _ c.member_ahead.auto.seen _
@@ -192,3 +166,35 @@ value-returns-else-depth-eq0-2 t c = let h = rw c.in-Object.is at c.in_ok-item.e
     c.object.new.store c.args.seen.now c.object.new.seen curly (c.args.depth - 1) c.args.depth
     (omega (arith, c.if-depth-eq0-2.false))
     c.args.self c.in-Object.inside c.requires.0.ready h.0 h.1 c.object.result c.object.ensures
+
+pub array-returns : goal.array-returns
+array-returns t c = let e : Ending c.args.text.now c.args.tape.now c.match-branch-2.tape c.args.store.now c.match-branch-2.store c.args.seen.now
+    c.match-branch-2.seen square
+    (cursor c.args.self.at c.args.self.records c.args.self.stored) c.args.depth c.match-branch-2.count c.match-branch-2.closed = elim c.match-branch-2.branch [
+      | array-in-Close w ↦ rw (w.tape-is, w.store-is, w.seen-is, w.count-is, w.closed-is)
+          (round_ends c.loop-next.invariant.0 _ (rw w.in-Close.is at c.in_ok-next.ensures))
+      | array-in-More+in_ok-last+in_ok-next-2+in-Close-2 w ↦ rw (w.tape-is, w.store-is, w.seen-is, w.count-is, w.closed-is)
+          (after_ends (element_more c.loop-next.invariant.0 _ (rw w.in-More.is at c.in_ok-next.ensures)).0 _ _ _
+          w.value.auto.tape w.value.auto.seen _ w.in_ok-last.ensures _ (rw w.in-Close-2.is at w.in_ok-next-2.ensures))
+    ] in
+    rw c.put_record.ensures (closed_took c.requires.0 c.args.seen.now c.args.seen.now square refl (e.closes _ refl))
+
+pub object-closed-requires : goal.object-closed-requires
+object-closed-requires t c = elim c.match-branch-2.branch [
+  | object-in-Close w ↦ rw w.seen-is (member_ends c.loop-next.invariant.0 _ _ _ _ (rw w.in-Close.is at c.in_ok-next.ensures)).sane
+  | object-in-More+in_ok-last+in_ok-next-2+in-Close-2 w ↦ rw w.seen-is
+      (after_ends (member_more c.loop-next.invariant.0 _ _ _ c.member_ahead.auto.seen _ (rw w.in-More.is at c.in_ok-next.ensures)).0 _ _ _
+      w.value.auto.tape w.value.auto.seen _ w.in_ok-last.ensures _ (rw w.in-Close-2.is at w.in_ok-next-2.ensures)).sane
+]
+
+pub object-returns : goal.object-returns
+object-returns t c = let e : Ending c.args.text.now c.args.tape.now c.match-branch-2.tape c.args.store.now c.match-branch-2.store c.opened.new.seen
+    c.match-branch-2.seen curly
+    (cursor c.args.self.at c.args.self.records c.args.self.stored) c.args.depth c.match-branch-2.count c.match-branch-2.closed = elim c.match-branch-2.branch [
+      | object-in-Close w ↦ rw (w.tape-is, w.store-is, w.seen-is, w.count-is, w.closed-is)
+          (member_ends c.loop-next.invariant.0 _ _ _ _ (rw w.in-Close.is at c.in_ok-next.ensures))
+      | object-in-More+in_ok-last+in_ok-next-2+in-Close-2 w ↦ rw (w.tape-is, w.store-is, w.seen-is, w.count-is, w.closed-is)
+          (after_ends (member_more c.loop-next.invariant.0 _ _ _ c.member_ahead.auto.seen _ (rw w.in-More.is at c.in_ok-next.ensures)).0 _ _ _
+          w.value.auto.tape w.value.auto.seen _ w.in_ok-last.ensures _ (rw w.in-Close-2.is at w.in_ok-next-2.ensures))
+    ] in
+    rw c.put_record.ensures (closed_took c.requires.0 c.args.seen.now _ curly c.opened.ensures (e.closes _ c.closed.ensures))
