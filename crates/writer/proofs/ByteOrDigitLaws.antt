@@ -157,17 +157,8 @@ decimal_size (suc w) n a b =
 
 -- ---- by the length in bits
 
-pub power_none : (t : ℕ) → t ≡ 0 → Power t 0
-power_none t e = record { none = λ q. refl; some = λ h. absurd (omega arith) }
-
-pub power_at : (t k : ℕ) → 0 < k → t ≡ k → Power t (10 ^ k)
-power_at t k h e = record { none = λ q. absurd (omega arith); some = λ q. ap (λ (x : ℕ). 10 ^ x) (sym e) }
-
 pub power_some : {t r : ℕ} → Power t r → 0 < t → 0 < r
 power_some {t} x h = omega (arith, x.some h, pow-le-pow_right {n = 10} (omega arith) {i = 0} {j = t} (omega arith))
-
-pub less : {t : ℕ} (k : ℕ) → t < suc k → (t ≡ k → ⊥) → t < k
-less k h n = omega arith
 
 -- 1233 / 4096 is just below the logarithm of 2
 abbrev pub tens : ℕ → ℕ

@@ -1,6 +1,0 @@
--- `byte_or_digit::bytes_at`: the part that was lent, come back. Assumes nothing.
-use Rattle.writer.proofs.LaidLaws.{put_tail}
-use Rattle.writer.proofs.byte_or_digit.bytes_at.Goals as goal
-
-pub returns : goal.returns
-returns c = put_tail c.write_bytes.ensures
