@@ -32,6 +32,7 @@ pub struct NotGrammar {
 impl From<NotGrammar> for Refusal {
     ghost from_gives = { λ e r. r ≡ Refused.NotGrammar e.place };
 
+    // At the same place.
     fn from(e: NotGrammar) -> Refusal {
         Refusal::NotGrammar(e.place)
     }

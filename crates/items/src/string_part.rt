@@ -19,6 +19,7 @@ pub enum Broken {
 impl From<NotGrammar> for Broken {
     ghost from_gives = { λ e r. r ≡ Breaks.NotGrammar e.place };
 
+    // At the same place.
     fn from(e: NotGrammar) -> Broken {
         Broken::NotGrammar(e.place)
     }
