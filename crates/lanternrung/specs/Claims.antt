@@ -1,6 +1,7 @@
 -- What is claimed of the public calls (docs/CLAIMS.md; docs/FORMAT.md, 10 to 13): each claim is about the promises, so
 -- about any program that keeps them. Assumes nothing.
 use Rattle.std.specs.Prelude.{◌≡◌, ◌↔◌, ◌⊎◌, true, List, [], ◌++◌, ℕ, ◌*◌, ◌/◌, ◌≤◌, length, take, drop}
+use Rattle.std.specs.Prelude.{Result, Ok, Err}
 use Rattle.std.proofs.Math.Option.{none}
 use Rattle.rules.specs.Rfc3629.{Judged}
 use Rattle.rules.specs.Rfc3339.{Dated}
@@ -17,11 +18,9 @@ use Rattle.meaning.specs.Tape.{records, bytes, tape_of, store_of, WellFormed}
 use Rattle.grammar.specs.Values.{Loose, Text}
 use Rattle.grammar.specs.Refused.{Repeats, TextRefused}
 use Rattle.tape.specs.Looking.{Looks}
-use Rattle.reader.specs.declared.Answer.{Answer}
-use Rattle.reader.specs.Answers.{tape_bytes, Measures, Loosely, Reads}
+use Rattle.reader.specs.Answers.{Answer, counts, tape_bytes, Measures, Loosely, Reads}
 use Rattle.arriving.specs.declared.Check.{Check}
 use Rattle.arriving.specs.Between.Arriving.{started, fed, feds, ended, joined}
-use Rattle.writer.specs.declared.Written.{Written}
 use Rattle.writer.specs.Written.{WritesJaxn, WritesJson}
 use Rattle.lanternrung.specs.declared.exports.Sizes.{Sizes}
 use Rattle.lanternrung.specs.declared.exports.Text.{Text as TextStruct}
@@ -37,7 +36,7 @@ pub record OneReading : Type 0 where
 
 -- the answer is done, and not a refusal
 abbrev pub Counted : Answer → Type 0
-Counted a = (r : ℕ) × (s : ℕ) × (a ≡ Answer.Counts r s)
+Counted a = (r : ℕ) × (s : ℕ) × (a ≡ counts r s)
 
 -- the grammar gives the text the meaning m, within the limits, and there is room for its tape and its store
 pub record Takes (text tape store : List ℕ) (m : Meaning) : Type 0 where
@@ -48,7 +47,7 @@ pub record Takes (text tape store : List ℕ) (m : Meaning) : Type 0 where
 -- the counts of m are answered; its tape and its store lie at the start of the two buffers, and the rest of each is as
 -- it was
 pub record Holds (m : Meaning) (tape store : List ℕ) (a : Answer) (tape' store' : List ℕ) : Type 0 where
-  pub answer : a ≡ Answer.Counts (records m) (bytes m)
+  pub answer : a ≡ counts (records m) (bytes m)
   pub taped : tape' ≡ laid (tape_of m) tape
   pub stored : store' ≡ laid (store_of m) store
 
@@ -59,7 +58,7 @@ pub record Accepted (text tape store : List ℕ) (a : Answer) (tape' store' : Li
 
 -- the counts of m are answered: they are the sizes of its tape, sixteen bytes a record, and of its store
 pub record SizesOf (m : Meaning) (a : Answer) : Type 0 where
-  pub answer : a ≡ Answer.Counts (records m) (bytes m)
+  pub answer : a ≡ counts (records m) (bytes m)
   pub tape_size : length (tape_of m) ≡ records m * 16
   pub store_size : length (store_of m) ≡ bytes m
 
@@ -81,9 +80,9 @@ OfText why = (number_of why ≤ 7) ⊎ (number_of why ≡ 15)
 -- refusals: which of 1 to 7, or 15, is given, and where; by `read` whatever is lent
 pub record Refusals : Type 0 where
   pub measure : {text : List ℕ} {a : Answer} {why : Refusal} → Measures text a
-      → (a ≡ Answer.Refused why) ↔ TextRefused text why
+      → (a ≡ Err why) ↔ TextRefused text why
   pub read : {text tape store : List ℕ} {a : Answer} {tape' store' : List ℕ} {why : Refusal}
-      → Reads text tape store a tape' store' → OfText why → (a ≡ Answer.Refused why) ↔ TextRefused text why
+      → Reads text tape store a tape' store' → OfText why → (a ≡ Err why) ↔ TextRefused text why
 
 -- The text has a meaning but for its keys. At p begins a key that repeats an earlier one of its object, and before p
 -- none does.
@@ -96,9 +95,9 @@ pub record RepeatsFirst (text : List ℕ) (p : ℕ) : Type 0 where
 -- repeated_key: 15 is given exactly there; and a text with a meaning but for its keys has one where none repeats
 pub record RepeatedKeys : Type 0 where
   pub measure : {text : List ℕ} {a : Answer} {p : ℕ} → Measures text a
-      → (a ≡ Answer.Refused (Refusal.RepeatedKey p)) ↔ RepeatsFirst text p
+      → (a ≡ Err (Refusal.RepeatedKey p)) ↔ RepeatsFirst text p
   pub read : {text tape store : List ℕ} {a : Answer} {tape' store' : List ℕ} {p : ℕ}
-      → Reads text tape store a tape' store' → (a ≡ Answer.Refused (Refusal.RepeatedKey p)) ↔ RepeatsFirst text p
+      → Reads text tape store a tape' store' → (a ≡ Err (Refusal.RepeatedKey p)) ↔ RepeatsFirst text p
   pub none_repeats : {text : List ℕ} {m : Meaning} → Loose true text m
       → ((p : ℕ) → Repeats text p → ⊥) ↔ Text text m
 
@@ -108,15 +107,15 @@ Within text r s = (r ≤ length text) × (s ≤ length text)
 
 pub record Bounded : Type 0 where
   pub grammar : {text : List ℕ} {m : Meaning} → Text text m → Within text (records m) (bytes m)
-  pub measure : (text : List ℕ) {r s : ℕ} → Measures text (Answer.Counts r s) → Within text r s
+  pub measure : (text : List ℕ) {r s : ℕ} → Measures text (counts r s) → Within text r s
   pub read : {text tape store : List ℕ} {r s : ℕ} {tape' store' : List ℕ}
-      → Reads text tape store (Answer.Counts r s) tape' store' → Within text r s
+      → Reads text tape store (counts r s) tape' store' → Within text r s
 
 -- ---- writing
 
 -- the answer is done, and not a refusal
-abbrev pub Wrote : Written → Type 0
-Wrote a = (n : ℕ) × (a ≡ Written.Wrote n)
+abbrev pub Wrote : Result ℕ Refusal → Type 0
+Wrote a = (n : ℕ) × (a ≡ Ok n)
 
 -- the text t is within the limit, and there is room for it
 pub record Room (t out : List ℕ) : Type 0 where
@@ -124,16 +123,16 @@ pub record Room (t out : List ℕ) : Type 0 where
   pub fits : length t ≤ length out
 
 -- the length of t is answered; t lies at the start of the output, and the rest is as it was
-pub record Prints (t out : List ℕ) (a : Written) (out' : List ℕ) : Type 0 where
-  pub answer : a ≡ Written.Wrote (length t)
+pub record Prints (t out : List ℕ) (a : Result ℕ Refusal) (out' : List ℕ) : Type 0 where
+  pub answer : a ≡ Ok (length t)
   pub holds : out' ≡ laid t out
 
-pub record WrittenJaxn (tape store out : List ℕ) (a : Written) (out' : List ℕ) : Type 0 where
+pub record WrittenJaxn (tape store out : List ℕ) (a : Result ℕ Refusal) (out' : List ℕ) : Type 0 where
   pub exactly : Wrote a ↔ ((w : WellFormed tape store) × Room (canonical w.meaning) out)
   pub then : (w : WellFormed tape store) → Room (canonical w.meaning) out
       → Prints (canonical w.meaning) out a out'
 
-pub record WrittenJson (tape store out : List ℕ) (a : Written) (out' : List ℕ) : Type 0 where
+pub record WrittenJson (tape store out : List ℕ) (a : Result ℕ Refusal) (out' : List ℕ) : Type 0 where
   pub exactly : Wrote a ↔ ((w : WellFormed tape store) × (no_json w.meaning ≡ none)
       × Room (canonical w.meaning) out)
   pub then : (w : WellFormed tape store) → no_json w.meaning ≡ none → Room (canonical w.meaning) out
@@ -143,12 +142,12 @@ pub record WrittenJson (tape store out : List ℕ) (a : Written) (out' : List �
 -- filled is well formed, and has the text's meaning
 pub record IsWritten : Type 0 where
   pub one_meaning : {tape store : List ℕ} (v w : WellFormed tape store) → v.meaning ≡ w.meaning
-  pub jaxn : {tape store out : List ℕ} {a : Written} {out' : List ℕ} → WritesJaxn tape store out a out'
+  pub jaxn : {tape store out : List ℕ} {a : Result ℕ Refusal} {out' : List ℕ} → WritesJaxn tape store out a out'
       → WrittenJaxn tape store out a out'
-  pub json : {tape store out : List ℕ} {a : Written} {out' : List ℕ} → WritesJson tape store out a out'
+  pub json : {tape store out : List ℕ} {a : Result ℕ Refusal} {out' : List ℕ} → WritesJson tape store out a out'
       → WrittenJson tape store out a out'
   pub filled : {text tape store : List ℕ} {r s : ℕ} {tape' store' : List ℕ}
-      → Reads text tape store (Answer.Counts r s) tape' store'
+      → Reads text tape store (counts r s) tape' store'
       → (w : WellFormed (take (r * 16) tape') (take s store')) × Text text w.meaning
 
 -- same-text: the canonical texts of two accepted texts, and of two meanings within the limits, are the same bytes
@@ -159,7 +158,7 @@ pub record SameText : Type 0 where
 
 -- the counts of this tape and store are answered, and they are what the two buffers hold
 pub record Again (tape store : List ℕ) (a : Answer) (tape' store' : List ℕ) : Type 0 where
-  pub answer : a ≡ Answer.Counts (length tape / 16) (length store)
+  pub answer : a ≡ counts (length tape / 16) (length store)
   pub taped : tape' ≡ tape
   pub stored : store' ≡ store
 
@@ -174,10 +173,10 @@ pub record ReadBack : Type 0 where
       → (a ≡ b) × (t ≡ u) × (s ≡ v)
   -- of what the writers wrote, read into buffers as long as the tape and the store that they wrote it from
   pub jaxn : {tape store out : List ℕ} {n : ℕ} {out' t s : List ℕ} {a : Answer} {t' s' : List ℕ}
-      → WritesJaxn tape store out (Written.Wrote n) out' → length t ≡ length tape → length s ≡ length store
+      → WritesJaxn tape store out (Ok n) out' → length t ≡ length tape → length s ≡ length store
       → Reads (take n out') t s a t' s' → Again tape store a t' s'
   pub json : {tape store out : List ℕ} {n : ℕ} {out' t s : List ℕ} {a : Answer} {t' s' : List ℕ}
-      → WritesJson tape store out (Written.Wrote n) out' → length t ≡ length tape → length s ≡ length store
+      → WritesJson tape store out (Ok n) out' → length t ≡ length tape → length s ≡ length store
       → Reads (take n out') t s a t' s' → Again tape store a t' s'
 
 -- filed-before: the text in the old form of a meaning within the limits is accepted, with that meaning
@@ -212,8 +211,8 @@ pub data CameC : List ℕ → List ℕ → Type 0 where
 
 -- with 15 left out: where `measure` answers 15 the check answers counts; else both answer the same
 pub record LeftOut (a b : Answer) : Type 0 where
-  pub repeated : (p : ℕ) → a ≡ Answer.Refused (Refusal.RepeatedKey p) → Counted b
-  pub same : ((p : ℕ) → a ≡ Answer.Refused (Refusal.RepeatedKey p) → ⊥) → a ≡ b
+  pub repeated : (p : ℕ) → a ≡ Err (Refusal.RepeatedKey p) → Counted b
+  pub same : ((p : ℕ) → a ≡ Err (Refusal.RepeatedKey p) → ⊥) → a ≡ b
 
 -- checked: for every list of parts, and however a check was come by, the finish answers what `measure` answers for the
 -- parts joined, with 15 left out; nothing past the state's bytes is written, and no more bytes than there are
@@ -234,11 +233,11 @@ pub record Checked : Type 0 where
 -- write
 pub record Untouched : Type 0 where
   pub read : {text tape store : List ℕ} {why : Refusal} {tape' store' : List ℕ}
-      → Reads text tape store (Answer.Refused why) tape' store' → (tape' ≡ tape) × (store' ≡ store)
+      → Reads text tape store (Err why) tape' store' → (tape' ≡ tape) × (store' ≡ store)
   pub write_jaxn : {tape store out : List ℕ} {why : Refusal} {out' : List ℕ}
-      → WritesJaxn tape store out (Written.Refused why) out' → out' ≡ out
+      → WritesJaxn tape store out (Err why) out' → out' ≡ out
   pub write_json : {tape store out : List ℕ} {why : Refusal} {out' : List ℕ}
-      → WritesJson tape store out (Written.Refused why) out' → out' ≡ out
+      → WritesJson tape store out (Err why) out' → out' ≡ out
 
 -- what P allows is one: an answer; an answer and the bytes left in one buffer, or in two
 abbrev pub Single : {A : Type 0} → (A → Type 0) → Type 0
@@ -281,14 +280,14 @@ pub record OneOutcomeC : Type 0 where
 -- is as it was
 pub record CallsForC : Type 0 where
   pub measure_done : {text : List ℕ} {r : Sizes} → MeasureTold text r → r.refused ≡ 0
-      → Measures text (Answer.Counts r.records r.bytes)
+      → Measures text (counts r.records r.bytes)
   pub read_done : {text tape store : List ℕ} {r : Sizes} {tape' store' : List ℕ}
       → ReadTold text tape store r tape' store' → r.refused ≡ 0
-      → Reads text tape store (Answer.Counts r.records r.bytes) tape' store'
+      → Reads text tape store (counts r.records r.bytes) tape' store'
   pub jaxn_done : {tape store out : List ℕ} {r : TextStruct} {out' : List ℕ} → JaxnTold tape store out r out'
-      → r.refused ≡ 0 → WritesJaxn tape store out (Written.Wrote r.length) out'
+      → r.refused ≡ 0 → WritesJaxn tape store out (Ok r.length) out'
   pub json_done : {tape store out : List ℕ} {r : TextStruct} {out' : List ℕ} → JsonTold tape store out r out'
-      → r.refused ≡ 0 → WritesJson tape store out (Written.Wrote r.length) out'
+      → r.refused ≡ 0 → WritesJson tape store out (Ok r.length) out'
   pub read_refused : {text tape store : List ℕ} {r : Sizes} {tape' store' : List ℕ}
       → ReadTold text tape store r tape' store' → (r.refused ≡ 0 → ⊥) → (tape' ≡ tape) × (store' ≡ store)
   pub jaxn_refused : {tape store out : List ℕ} {r : TextStruct} {out' : List ℕ} → JaxnTold tape store out r out'

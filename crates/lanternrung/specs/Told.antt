@@ -1,10 +1,11 @@
 -- What the calls for C hand back (include/lanternrung.h; docs/FORMAT.md, 13): the number and place of each answer, 0
 -- and 0 where nothing is refused; in a refusal all else is 0. Assumes nothing.
-use Rattle.std.specs.Prelude.{◌≡◌, List, ℕ, ◌+◌, ℤ, pos}
+use Rattle.std.specs.Prelude.{◌≡◌, List, ℕ, ◌+◌, ℤ, pos, Result, Ok, Err}
 use Rattle.std.proofs.lemmas.List.Edits.{sets}
 use Rattle.rules.specs.Paper.{Said, utf8_said, date_said, number_said, place_said}
 use Rattle.rules.specs.Rfc3339.{Dated}
 use Rattle.rules.specs.Rfc3629.{Judged}
+use Rattle.rules.specs.declared.exports.Status.{Status}
 use Rattle.meaning.specs.declared.Date.{Date}
 use Rattle.meaning.specs.declared.Number.{Number}
 use Rattle.meaning.specs.declared.Number.TheVariants.{Finite, NotANumber, Infinite}
@@ -14,31 +15,25 @@ use Rattle.meaning.specs.declared.Time.{Time}
 use Rattle.meaning.specs.declared.Time.TheVariants.{LocalDate, LocalTime, LocalDateTime, OffsetDateTime}
 use Rattle.meaning.specs.Bytes.{flag}
 use Rattle.meaning.specs.Paper.{row, number_of, place_of}
-use Rattle.reader.specs.declared.Answer.{Answer}
-use Rattle.reader.specs.declared.Answer.TheVariants as answer
-use Rattle.reader.specs.Answers.{Measures, Loosely, Reads}
-use Rattle.tape.specs.declared.Looked.{Looked}
+use Rattle.reader.specs.Answers.{Answer, Measures, Loosely, Reads}
 use Rattle.tape.specs.Looking.{Looks}
-use Rattle.writer.specs.declared.Written.{Written}
-use Rattle.writer.specs.declared.Written.TheVariants as written
 use Rattle.writer.specs.Written.{WritesJaxn, WritesJson}
 use Rattle.arriving.specs.declared.Check.{Check}
 use Rattle.arriving.specs.Between.Arriving.{started, fed, ended}
 use Rattle.arriving.specs.Between.Packing.{packed, unpacked, padded}
-use Rattle.lanternrung.specs.declared.exports.Status.{Status}
 use Rattle.lanternrung.specs.declared.exports.Sizes.{Sizes}
 use Rattle.lanternrung.specs.declared.exports.Text.{Text}
 use Rattle.lanternrung.specs.declared.exports.Fields.{Fields}
 
 -- lr_sizes
 unfoldable pub sizes_of : Answer → Sizes
-sizes_of (answer.Counts records bytes) = record { refused = 0; place = 0; records = records; bytes = bytes }
-sizes_of (answer.Refused why) = record { refused = number_of why; place = place_of why; records = 0; bytes = 0 }
+sizes_of (Ok n) = record { refused = 0; place = 0; records = n.records; bytes = n.bytes }
+sizes_of (Err why) = record { refused = number_of why; place = place_of why; records = 0; bytes = 0 }
 
 -- lr_written
-unfoldable pub text_of : Written → Text
-text_of (written.Wrote size) = record { refused = 0; place = 0; length = size }
-text_of (written.Refused why) = record { refused = number_of why; place = place_of why; length = 0 }
+unfoldable pub text_of : Result ℕ Refusal → Text
+text_of (Ok size) = record { refused = 0; place = 0; length = size }
+text_of (Err why) = record { refused = number_of why; place = place_of why; length = 0 }
 
 -- ---- lr_record: kind 1 to 13 in the order nu bo nb nx st ky by ld lt dt od ar ob; flag the bool, the minus sign or
 -- the nx value; the count of a container as it stands; 0 where a record has no such field
@@ -102,9 +97,9 @@ fields_of (Record.Object count end) = container_fields 13 count end
 abbrev pub refused_fields : Refusal → Fields
 refused_fields why = all_fields (row why) 0 0 (pos 0, 0) (0, 0) no_date (pos 0, 0) (0, 0)
 
-unfoldable pub looked_fields : Looked → Fields
-looked_fields (Looked.Record r) = fields_of r
-looked_fields (Looked.Refused why) = refused_fields why
+unfoldable pub looked_fields : Result Record Refusal → Fields
+looked_fields (Ok r) = fields_of r
+looked_fields (Err why) = refused_fields why
 
 -- ---- each call hands on an answer that the library's promise allows, with what it leaves in the lent buffers
 

@@ -9,20 +9,10 @@ ghost use Rattle.lanternrung.specs.Told.{CheckStartTold, CheckFeedTold, CheckFin
 use crate::{number, place};
 use arriving::packing;
 use meaning::{Date, Number, Record, Refusal, Time};
-use reader::Answer;
-use rules::{DateAnswer, Utf8Answer};
-use tape::Looked;
-use writer::Written;
+use reader::Counts;
+pub use rules::exports::Status;
 
-// A refusal's number, 0 where there is none, and its place.
-#[repr(C)]
-#[derive(Clone, Copy)]
-pub struct Status {
-    pub refused: u32,
-    pub place: u64,
-}
-
-// The same, and what a text needs or has filled.
+// A refusal's number, 0 where there is none, and its place; what a text needs or has filled.
 #[repr(C)]
 #[derive(Clone, Copy)]
 pub struct Sizes {
@@ -63,40 +53,46 @@ pub struct Fields {
 }
 
 // The reader's counts, or its refusal with both counts 0.
-fn sizes_of(a: Answer) -> Sizes
-    ensures { result ≡ sizes_of a }
-{
-    match a {
-        Answer::Refused(why) => Sizes {
-            refused: number(why),
-            place: place(why),
-            records: 0,
-            bytes: 0,
-        },
-        Answer::Counts { records, bytes } => Sizes {
-            refused: 0,
-            place: 0,
-            records: records as u64,
-            bytes: bytes as u64,
-        },
+impl From<Result<Counts, Refusal>> for Sizes {
+    ghost from_gives = { λ a r. r ≡ sizes_of a };
+
+    // The counts, or the refusal's number and place.
+    fn from(a: Result<Counts, Refusal>) -> Sizes {
+        match a {
+            Ok(counts) => Sizes {
+                refused: 0,
+                place: 0,
+                records: counts.records as u64,
+                bytes: counts.bytes as u64,
+            },
+            Err(why) => Sizes {
+                refused: number(why),
+                place: place(why),
+                records: 0,
+                bytes: 0,
+            },
+        }
     }
 }
 
 // The length of what was written, or the refusal with length 0.
-fn text_of(a: Written) -> Text
-    ensures { result ≡ text_of a }
-{
-    match a {
-        Written::Refused(why) => Text {
-            refused: number(why),
-            place: place(why),
-            length: 0,
-        },
-        Written::Wrote(size) => Text {
-            refused: 0,
-            place: 0,
-            length: size as u64,
-        },
+impl From<Result<usize, Refusal>> for Text {
+    ghost from_gives = { λ a r. r ≡ text_of a };
+
+    // The length, or the refusal's number and place.
+    fn from(a: Result<usize, Refusal>) -> Text {
+        match a {
+            Ok(size) => Text {
+                refused: 0,
+                place: 0,
+                length: size as u64,
+            },
+            Err(why) => Text {
+                refused: number(why),
+                place: place(why),
+                length: 0,
+            },
+        }
     }
 }
 
@@ -182,7 +178,11 @@ impl From<Number> for Fields {
         match n {
             Number::NotANumber => plain(4, 0, 0, 0),
             Number::Infinite { minus } => plain(4, 1 + u32::from(minus), 0, 0),
-            Number::Finite { minus, coefficient, power } => Fields {
+            Number::Finite {
+                minus,
+                coefficient,
+                power,
+            } => Fields {
                 kind: 3,
                 flag: u32::from(minus),
                 power,
@@ -201,16 +201,24 @@ impl From<Time> for Fields {
     fn from(t: Time) -> Fields {
         match t {
             Time::LocalDate(d) => dated(8, d, 0, 0),
-            Time::LocalTime(clock) => Fields { kind: 9, time: clock, ..NOTHING },
+            Time::LocalTime(clock) => Fields {
+                kind: 9,
+                time: clock,
+                ..NOTHING
+            },
             Time::LocalDateTime { date, clock } => dated(10, date, clock, 0),
-            Time::OffsetDateTime { date, clock, offset } => dated(11, date, clock, i32::from(offset)),
+            Time::OffsetDateTime {
+                date,
+                clock,
+                offset,
+            } => dated(11, date, clock, i32::from(offset)),
         }
     }
 }
 
 // A record's kind as its number, and the fields that the kind has.
 impl From<Record> for Fields {
-    ghost from_gives = { λ record r. r ≡ fields_of record };
+    ghost from_gives = { λ x r. r ≡ fields_of x };
 
     // The fields of each kind.
     fn from(r: Record) -> Fields {
@@ -232,46 +240,28 @@ impl From<Record> for Fields {
 pub fn lanternrung_utf8(bytes: &[u8]) -> Status
     ensures { Utf8Told bytes.now result }
 {
-    match rules::utf8(bytes) {
-        Utf8Answer::Done => Status {
-            refused: 0,
-            place: 0,
-        },
-        Utf8Answer::IllFormed(at) => Status {
-            refused: 2,
-            place: at as u64,
-        },
-    }
+    rules::exports::lr_rules_utf8(bytes)
 }
 
 // Whether there is such a date: refusal 5, at place 0, where there is none.
 pub fn lanternrung_date(year: u64, month: u64, day: u64) -> Status
     ensures { DateTold year month day result }
 {
-    match rules::date(year, month, day) {
-        DateAnswer::Done => Status {
-            refused: 0,
-            place: 0,
-        },
-        DateAnswer::NoDate => Status {
-            refused: 5,
-            place: 0,
-        },
-    }
+    rules::exports::lr_rules_date(year, month, day)
 }
 
 // How many records and store bytes the text needs, or the refusal.
 pub fn lanternrung_measure(text: &[u8]) -> Sizes
     ensures { MeasureTold text.now result }
 {
-    sizes_of(reader::measure(text))
+    Sizes::from(reader::measure(text))
 }
 
 // How many records and store bytes the text has filled, or the refusal.
 pub fn lanternrung_read(text: &[u8], tape: &mut [u8], store: &mut [u8]) -> Sizes
     ensures { ReadTold text.now tape.old store.old result tape.new store.new }
 {
-    sizes_of(reader::read(text, tape, store))
+    Sizes::from(reader::read(text, tape, store))
 }
 
 // The record at this index, or the refusal.
@@ -279,8 +269,8 @@ pub fn lanternrung_look(tape: &[u8], store: &[u8], index: u64) -> Fields
     ensures { LookTold tape.now store.now index result }
 {
     match tape::look(tape, store, index as usize) {
-        Looked::Refused(why) => Fields::from(why),
-        Looked::Record(r) => Fields::from(r),
+        Ok(r) => Fields::from(r),
+        Err(why) => Fields::from(why),
     }
 }
 
@@ -288,14 +278,14 @@ pub fn lanternrung_look(tape: &[u8], store: &[u8], index: u64) -> Fields
 pub fn lanternrung_write_jaxn(tape: &[u8], store: &[u8], out: &mut [u8]) -> Text
     ensures { JaxnTold tape.now store.now out.old result out.new }
 {
-    text_of(writer::write_jaxn(tape, store, out))
+    Text::from(writer::write_jaxn(tape, store, out))
 }
 
 // The length of the JSON text in the output, or the refusal.
 pub fn lanternrung_write_json(tape: &[u8], store: &[u8], out: &mut [u8]) -> Text
     ensures { JsonTold tape.now store.now out.old result out.new }
 {
-    text_of(writer::write_json(tape, store, out))
+    Text::from(writer::write_json(tape, store, out))
 }
 
 // A check of a text in parts begins: its state is put into the first bytes lent, whatever they held.
@@ -316,5 +306,5 @@ pub fn lanternrung_check_feed(state: &mut [u8], part: &[u8])
 pub fn lanternrung_check_finish(state: &[u8]) -> Sizes
     ensures { CheckFinishTold state.now result }
 {
-    sizes_of(arriving::check_finish(packing::kept(state)))
+    Sizes::from(arriving::check_finish(packing::kept(state)))
 }

@@ -9,10 +9,10 @@ pub mod exports;
 
 pub use arriving::{Check, check_feed, check_finish, check_start};
 pub use meaning::{Date, Number, Record, Refusal, Time};
-pub use reader::{Answer, measure, read};
-pub use rules::{DateAnswer, Utf8Answer, date, utf8};
-pub use tape::{Looked, look};
-pub use writer::{Written, write_jaxn, write_json};
+pub use reader::{Counts, measure, read};
+pub use rules::{IllFormed, NoDate, date, utf8};
+pub use tape::look;
+pub use writer::{write_jaxn, write_json};
 
 // The longest text: the place of its refusal.
 const LONGEST: u64 = meaning::TEXT_LIMIT as u64;

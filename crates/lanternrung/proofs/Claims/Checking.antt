@@ -10,8 +10,7 @@ use lib.Seq.{length-sets}
 use Rattle.rules.proofs.Characters.{Each, all_none, all_more}
 use Rattle.meaning.specs.Good.{Bytes}
 use Rattle.meaning.specs.Tape.{records, bytes}
-use Rattle.reader.specs.declared.Answer.{Answer}
-use Rattle.reader.specs.Answers.{Measures, Loosely}
+use Rattle.reader.specs.Answers.{Answer, counts, Measures, Loosely}
 use Rattle.reader.proofs.Claims as reader
 use Rattle.arriving.specs.declared.Check.{Check}
 use Rattle.arriving.specs.Between.Arriving.{started, fed, feds, ended, joined}
@@ -101,7 +100,7 @@ left_out {text} {a} {b} p q =
       repeated = λ n e.
           let w = (repeated_key.measure p).0 e in
           let m = w.meaning in
-          (records m, bytes m, reader.one_outcome_loosely text b (Answer.Counts (records m) (bytes m)) q (Loosely.sizes w.means refl));
+          (records m, bytes m, reader.one_outcome_loosely text b (counts (records m) (bytes m)) q (Loosely.sizes w.means refl));
       same = λ n. ⊎_elim (λ e. e) (λ w. absurd (n w.0 w.1)) (reader.left_out text a b p q);
     }
 

@@ -3,16 +3,15 @@ use mathlib.Core.Path.{◌≡◌, refl, sym, ap, ◌∙◌, subst}
 use mathlib.Core.List.{List}
 use Prim.Native.Nat.{ℕ}
 use native.Mathlib.Omega.{arith}
+use Rattle.std.specs.Prelude.{Result, Ok, Err}
 use Rattle.meaning.specs.declared.Refusal.{Refusal}
 use Rattle.meaning.specs.declared.Refusal.TheVariants.{TextTooLong, NotUtf8, NotGrammar, BadEscape, BadTime, BadNumber, TooDeep, TapeTooShort, StoreTooShort}
 use Rattle.meaning.specs.declared.Refusal.TheVariants.{NotWellFormed, NoJsonForm, OutputTooShort, WrittenTooLong, NoSuchRecord, RepeatedKey}
 use Rattle.rules.specs.Paper.{utf8_said, date_said}
 use Rattle.meaning.specs.Paper.{number_of}
-use Rattle.reader.specs.declared.Answer.{Answer}
-use Rattle.reader.specs.Answers.{Measures, Reads}
-use Rattle.writer.specs.declared.Written.{Written}
+use Rattle.reader.specs.Answers.{Answer, counts, Measures, Reads}
 use Rattle.writer.specs.Written.{WritesJaxn, WritesJson}
-use Rattle.lanternrung.specs.declared.exports.Status.{Status}
+use Rattle.rules.specs.declared.exports.Status.{Status}
 use Rattle.lanternrung.specs.declared.exports.Sizes.{Sizes}
 use Rattle.lanternrung.specs.declared.exports.Text.{Text}
 use Rattle.lanternrung.specs.declared.exports.Fields.{Fields}
@@ -92,37 +91,37 @@ numbered (WrittenTooLong p) e = omega arith
 numbered (NoSuchRecord p) e = omega arith
 numbered (RepeatedKey p) e = omega arith
 
-counts : (a : Answer) → (sizes_of a).refused ≡ 0 → a ≡ Answer.Counts (sizes_of a).records (sizes_of a).bytes
+counts_told : (a : Answer) → (sizes_of a).refused ≡ 0 → a ≡ counts (sizes_of a).records (sizes_of a).bytes
 unfolding sizes_of
-counts (Answer.Counts r s) e = refl
-counts (Answer.Refused why) e = absurd (numbered why e)
+counts_told (Ok n) e = refl
+counts_told (Err why) e = absurd (numbered why e)
 
-no_counts : (a : Answer) → ((sizes_of a).refused ≡ 0 → ⊥) → (why : Refusal) × (a ≡ Answer.Refused why)
+no_counts : (a : Answer) → ((sizes_of a).refused ≡ 0 → ⊥) → (why : Refusal) × (a ≡ Err why)
 unfolding sizes_of
-no_counts (Answer.Counts r s) n = absurd (n refl)
-no_counts (Answer.Refused why) n = (why, refl)
+no_counts (Ok c) n = absurd (n refl)
+no_counts (Err why) n = (why, refl)
 
-length_told : (a : Written) → (text_of a).refused ≡ 0 → a ≡ Written.Wrote (text_of a).length
+length_told : (a : Result ℕ Refusal) → (text_of a).refused ≡ 0 → a ≡ Ok (text_of a).length
 unfolding text_of
-length_told (Written.Wrote n) e = refl
-length_told (Written.Refused why) e = absurd (numbered why e)
+length_told (Ok n) e = refl
+length_told (Err why) e = absurd (numbered why e)
 
-no_length : (a : Written) → ((text_of a).refused ≡ 0 → ⊥) → (why : Refusal) × (a ≡ Written.Refused why)
+no_length : (a : Result ℕ Refusal) → ((text_of a).refused ≡ 0 → ⊥) → (why : Refusal) × (a ≡ Err why)
 unfolding text_of
-no_length (Written.Wrote n) e = absurd (e refl)
-no_length (Written.Refused why) e = (why, refl)
+no_length (Ok n) e = absurd (e refl)
+no_length (Err why) e = (why, refl)
 
 -- the library's answer, by what C is told of it
-sizes_done : {a : Answer} {r : Sizes} → r ≡ sizes_of a → r.refused ≡ 0 → a ≡ Answer.Counts r.records r.bytes
-sizes_done {a} e z = rw e (counts a (rw e at z))
+sizes_done : {a : Answer} {r : Sizes} → r ≡ sizes_of a → r.refused ≡ 0 → a ≡ counts r.records r.bytes
+sizes_done {a} e z = rw e (counts_told a (rw e at z))
 
-sizes_refused : {a : Answer} {r : Sizes} → r ≡ sizes_of a → (r.refused ≡ 0 → ⊥) → (why : Refusal) × (a ≡ Answer.Refused why)
+sizes_refused : {a : Answer} {r : Sizes} → r ≡ sizes_of a → (r.refused ≡ 0 → ⊥) → (why : Refusal) × (a ≡ Err why)
 sizes_refused {a} e n = no_counts a (rw e at n)
 
-text_done : {a : Written} {r : Text} → r ≡ text_of a → r.refused ≡ 0 → a ≡ Written.Wrote r.length
+text_done : {a : Result ℕ Refusal} {r : Text} → r ≡ text_of a → r.refused ≡ 0 → a ≡ Ok r.length
 text_done {a} e z = rw e (length_told a (rw e at z))
 
-text_refused : {a : Written} {r : Text} → r ≡ text_of a → (r.refused ≡ 0 → ⊥) → (why : Refusal) × (a ≡ Written.Refused why)
+text_refused : {a : Result ℕ Refusal} {r : Text} → r ≡ text_of a → (r.refused ≡ 0 → ⊥) → (why : Refusal) × (a ≡ Err why)
 text_refused {a} e n = no_length a (rw e at n)
 
 pub calls_for_c : CallsForC
@@ -131,12 +130,12 @@ calls_for_c =
       measure_done = λ {text} t z. subst (Measures text) (sizes_done t.told z) t.allowed;
       read_done = λ {text} {tape} {store} {r} {tape'} {store'} t z.
           subst (λ (a : Answer). Reads text tape store a tape' store') (sizes_done t.told z) t.allowed;
-      jaxn_done = λ {tape} {store} {out} {r} {out'} t z. subst (λ (a : Written). WritesJaxn tape store out a out') (text_done t.told z) t.allowed;
-      json_done = λ {tape} {store} {out} {r} {out'} t z. subst (λ (a : Written). WritesJson tape store out a out') (text_done t.told z) t.allowed;
+      jaxn_done = λ {tape} {store} {out} {r} {out'} t z. subst (λ (a : Result ℕ Refusal). WritesJaxn tape store out a out') (text_done t.told z) t.allowed;
+      json_done = λ {tape} {store} {out} {r} {out'} t z. subst (λ (a : Result ℕ Refusal). WritesJson tape store out a out') (text_done t.told z) t.allowed;
       read_refused = λ {text} {tape} {store} {r} {tape'} {store'} t n.
           untouched.read (subst (λ (a : Answer). Reads text tape store a tape' store') (sizes_refused t.told n).1 t.allowed);
       jaxn_refused = λ {tape} {store} {out} {r} {out'} t n.
-          untouched.write_jaxn (subst (λ (a : Written). WritesJaxn tape store out a out') (text_refused t.told n).1 t.allowed);
+          untouched.write_jaxn (subst (λ (a : Result ℕ Refusal). WritesJaxn tape store out a out') (text_refused t.told n).1 t.allowed);
       json_refused = λ {tape} {store} {out} {r} {out'} t n.
-          untouched.write_json (subst (λ (a : Written). WritesJson tape store out a out') (text_refused t.told n).1 t.allowed);
+          untouched.write_json (subst (λ (a : Result ℕ Refusal). WritesJson tape store out a out') (text_refused t.told n).1 t.allowed);
     }

@@ -10,15 +10,16 @@ use lib.Count.{count_leading_zeros}
 use lib.Dec.{lit≤, lit<}
 use lib.IntN.{pos}
 use lib.ListN.{length, get_or, drop}
-use Rattle.rules.specs.declared.Utf8Answer.{Utf8Answer}
-use Rattle.rules.specs.declared.DateAnswer.{DateAnswer}
+use Rattle.std.specs.Prelude.{Result, Ok, Err}
+use Rattle.rules.specs.declared.IllFormed.{IllFormed}
+use Rattle.rules.specs.declared.NoDate.{NoDate}
 use Rattle.rules.specs.Rfc3629.{Octets, Judged}
 use Rattle.rules.specs.Rfc3339.{Date, Dated}
 use Rattle.rules.specs.Between.Decided.{is_wide, length_at, fault_from, judged}
 use Rattle.rules.proofs.Decided.{judged_is}
 use Rattle.rules.specs.Between.Decided.{is_leap, is_date}
 use Rattle.rules.proofs.Months.{date_is, is_date_lem}
-use Rattle.rules.proofs.Outcomes.{one_outcome_utf8, one_outcome_date}
+use Rattle.rules.proofs.Outcomes.{one_outcome_utf8, date_done_lem, date_none}
 use Rattle.meaning.specs.declared.Number.TheVariants.{Finite}
 use Rattle.meaning.specs.declared.Record.{Record}
 use Rattle.meaning.specs.declared.Refusal.{Refusal}
@@ -47,7 +48,6 @@ use Rattle.grammar.proofs.Good.{text_good}
 use Rattle.grammar.proofs.Sizes.{Fits, text_fits}
 use Rattle.grammar.proofs.Canonical.{text_derived}
 use Rattle.arriving.specs.Between.Arriving.{joined}
-use Rattle.tape.specs.declared.Looked.{Looked}
 use Rattle.meaning.specs.Between.Words.{get}
 use Rattle.tape.specs.Between.Shapes.{record_of, not_finite}
 use Rattle.tape.proofs.JudgingMachineLaws.{nay, slot, put, enter, give, settle, size_of, start_of, does, act_of, push, finish, run}
@@ -55,8 +55,7 @@ use Rattle.tape.specs.Between.Standing.{read_at, records_from}
 use Rattle.tape.proofs.JudgingWholeLaws.{verdict}
 use Rattle.tape.proofs.JudgingOnceLaws.{nay_ill}
 use Rattle.tape.proofs.Outcomes.{look_well_formed}
-use Rattle.reader.specs.declared.Answer.{Answer}
-use Rattle.reader.specs.Answers.{tape_bytes, Loosely}
+use Rattle.reader.specs.Answers.{Answer, counts, tape_bytes, Loosely}
 use Rattle.reader.proofs.Claims.{one_outcome_loosely, measure_refuses, read_refuses}
 use Rattle.lanternrung.specs.Trials.Samples.{Outcome, Says, IsTaken, Case, All, ◌&◌}
 use Rattle.lanternrung.proofs.Claims.PList.{p_list, slips_hold, keys_twice}
@@ -138,7 +137,7 @@ small_true = record { good = record { parts = tt; shallow = lit≤ tt; single = 
 
 -- ---- how each fails
 
-refuses_all : (f : Reader) → ((text tape store : List ℕ) → (why : Refusal) × ((f text tape store).0 ≡ Answer.Refused why)) → KeepsRead f → ⊥
+refuses_all : (f : Reader) → ((text tape store : List ℕ) → (why : Refusal) × ((f text tape store).0 ≡ Err why)) → KeepsRead f → ⊥
 refuses_all f r k =
     let h = (reads small_null f k).answer in
     let e = (r (canonical null) (tape₀ small_null) (store₀ small_null)).1 in
@@ -330,7 +329,7 @@ files_json f r k = files f r (prints_json small_hundred f k hundred_json 6 (omeg
 
 -- and is still read
 refuses_filed : (f : Reader)
-    → ((m : Meaning) (tape store : List ℕ) → (filed m ≡ canonical m → ⊥) → (why : Refusal) × ((f (filed m) tape store).0 ≡ Answer.Refused why))
+    → ((m : Meaning) (tape store : List ℕ) → (filed m ≡ canonical m → ⊥) → (why : Refusal) × ((f (filed m) tape store).0 ≡ Err why))
     → KeepsRead f → ⊥
 refuses_filed f r k =
     let m = hundred in
@@ -362,20 +361,25 @@ copies f r k =
 
 -- ---- measure
 
-invents : (f : Measurer) {text : List ℕ} {m : Meaning} → Text text m → (f text ≡ Answer.Counts (records m) (bytes m) → ⊥) → KeepsMeasure f → ⊥
+invents : (f : Measurer) {text : List ℕ} {m : Meaning} → Text text m → (f text ≡ counts (records m) (bytes m) → ⊥) → KeepsMeasure f → ⊥
 invents f {text} {m} x n k = n ((measured (k text (text_lent x.loose))).then m x).answer
 
-counted : {m : Meaning} → Small m → (f : Measurer) → KeepsMeasure f → f (canonical m) ≡ Answer.Counts (records m) (bytes m)
+counted : {m : Meaning} → Small m → (f : Measurer) → KeepsMeasure f → f (canonical m) ≡ counts (records m) (bytes m)
 counted {m} s f k = let x = derived s in ((measured (k (canonical m) (text_lent x.loose))).then m x).answer
 
-one_count : (f : Measurer) (r s : ℕ) → ((text : List ℕ) → Counted (f text) → f text ≡ Answer.Counts r s) → KeepsMeasure f → ⊥
-unfolding records
+-- how many records an answer counts, 0 of a refusal
+record_count : Answer → ℕ
+record_count (Ok n) = n.records
+record_count (Err why) = 0
+
+one_count : (f : Measurer) (r s : ℕ) → ((text : List ℕ) → Counted (f text) → f text ≡ counts r s) → KeepsMeasure f → ⊥
+unfolding records record_count
 one_count f r s g k =
     let p = counted small_null f k in
     let q = counted small_array f k in
     let a = g (canonical null) (_, _, p) in
     let b = g (canonical (array (more none null))) (_, _, q) in
-    let z : records null ≡ records (array (more none null)) = cc in
+    let z : records null ≡ records (array (more none null)) = ap record_count (sym p ∙ a ∙ sym b ∙ q) in
     omega arith
 
 counts_all : (f : Measurer) → ((text : List ℕ) → Counted (f text)) → KeepsMeasure f → ⊥
@@ -399,14 +403,14 @@ lent₀ : Lent text₀
 lent₀ = text_lent first₀.means
 
 -- counts are no refusal
-not_counted : {a : Answer} {why : Refusal} → a ≡ Answer.Refused why → Counted a → ⊥
+not_counted : {a : Answer} {why : Refusal} → a ≡ Err why → Counted a → ⊥
 not_counted e d = let c = d.2 in let z : ◌≡◌ {A = ℕ} 0 1 = cc in omega arith
 
-refuses_at : (f : Measurer) → KeepsMeasure f → f text₀ ≡ Answer.Refused (RepeatedKey 8)
+refuses_at : (f : Measurer) → KeepsMeasure f → f text₀ ≡ Err (RepeatedKey 8)
 refuses_at f k = measure_refuses keys_twice.1 (k text₀ lent₀)
 
 earlier_key : (f : Measurer)
-    → ((text : List ℕ) (p : ℕ) → TextRefused text (RepeatedKey p) → (q : ℕ) × (q < p) × (f text ≡ Answer.Refused (RepeatedKey q)))
+    → ((text : List ℕ) (p : ℕ) → TextRefused text (RepeatedKey p) → (q : ℕ) × (q < p) × (f text ≡ Err (RepeatedKey q)))
     → KeepsMeasure f → ⊥
 earlier_key f r k =
     let w = r text₀ 8 keys_twice.1 in
@@ -430,28 +434,28 @@ reads_repeated f r k =
     (zeros (bytes m) (omega (arith, fits₀.small))))) d
 
 checks_keys : (f : Checker)
-    → ((ps : List (List ℕ)) (p : ℕ) → TextRefused (joined ps) (RepeatedKey p) → answers f ps ≡ Answer.Refused (RepeatedKey p)) → KeepsCheck f → ⊥
+    → ((ps : List (List ℕ)) (p : ℕ) → TextRefused (joined ps) (RepeatedKey p) → answers f ps ≡ Err (RepeatedKey p)) → KeepsCheck f → ⊥
 checks_keys f r k =
     let m = first₀.meaning in
     let ps = text₀ ∷ [] in
-    let e = one_outcome_loosely text₀ (answers f ps) (Answer.Counts (records m) (bytes m)) (k ps lent₀) (Loosely.sizes first₀.means refl) in
+    let e = one_outcome_loosely text₀ (answers f ps) (counts (records m) (bytes m)) (k ps lent₀) (Loosely.sizes first₀.means refl) in
     not_counted (r ps 8 keys_twice.1) (records m, bytes m, e)
 
 -- ---- a text in parts
 
 module _ (f : Checker) (k : KeepsCheck f) where
-  counted_parts : {m : Meaning} → Small m → (ps : List (List ℕ)) → canonical m ≡ joined ps → answers f ps ≡ Answer.Counts (records m) (bytes m)
+  counted_parts : {m : Meaning} → Small m → (ps : List (List ℕ)) → canonical m ≡ joined ps → answers f ps ≡ counts (records m) (bytes m)
   counted_parts {m} s ps e =
       let x : Loose true (joined ps) m = subst (λ (t : List ℕ). Loose true t m) e (loosely s) in
-      one_outcome_loosely (joined ps) (answers f ps) (Answer.Counts (records m) (bytes m)) (k ps (text_lent x)) (Loosely.sizes x refl)
+      one_outcome_loosely (joined ps) (answers f ps) (counts (records m) (bytes m)) (k ps (text_lent x)) (Loosely.sizes x refl)
 
   -- two texts of one and of two records are not told apart
   not_apart : (ps qs : List (List ℕ)) → canonical null ≡ joined ps → canonical (array (more none null)) ≡ joined qs → answers f ps ≡ answers f qs → ⊥
-  unfolding records
+  unfolding records record_count
   not_apart ps qs d e same =
       let p = counted_parts small_null ps d in
       let q = counted_parts small_array qs e in
-      let z : records null ≡ records (array (more none null)) = cc in
+      let z : records null ≡ records (array (more none null)) = ap record_count (sym p ∙ same ∙ q) in
       omega arith
 
 alone : (t : List ℕ) → t ≡ joined (t ∷ [])
@@ -478,25 +482,25 @@ first_only f g k =
 -- ---- look, utf8, date
 
 looked : {m : Meaning} (s : Small m) (f : Looker) → KeepsLook f → 0 < records m → f (tape_of m) (store_of m) 0
-    ≡ Looked.Record (get_or (records_of m 0 0) 0 Record.Null)
+    ≡ Ok (get_or (records_of m 0 0) 0 Record.Null)
 looked {m} s f k h = look_well_formed (well_formed s) h (k (tape_of m) (store_of m) 0 (tape_lent s) (store_lent s) (lit< tt))
 
-misplaces : (f : Measurer) {text : List ℕ} {why : Refusal} → Lent text → TextRefused text why → (f text ≡ Answer.Refused why → ⊥) → KeepsMeasure f → ⊥
+misplaces : (f : Measurer) {text : List ℕ} {why : Refusal} → Lent text → TextRefused text why → (f text ≡ Err why → ⊥) → KeepsMeasure f → ⊥
 misplaces f {text} l x n k = n (measure_refuses x (k text l))
 
-misplaces_reading : (f : Reader) {text : List ℕ} {why : Refusal} → Lent text → TextRefused text why → ((f text [] []).0 ≡ Answer.Refused why → ⊥) → KeepsRead f
+misplaces_reading : (f : Reader) {text : List ℕ} {why : Refusal} → Lent text → TextRefused text why → ((f text [] []).0 ≡ Err why → ⊥) → KeepsRead f
     → ⊥
 misplaces_reading f {text} l x n k = let nothing : Lent [] = record { each = tt; few = lit< tt } in n (read_refuses x (k text [] [] l nothing nothing))
 
-looks_null : (f : Looker) → ((tape store : List ℕ) (index : ℕ) → index < whole_records tape → f tape store index ≡ Looked.Record Record.Null) → KeepsLook f → ⊥
+looks_null : (f : Looker) → ((tape store : List ℕ) (index : ℕ) → index < whole_records tape → f tape store index ≡ Ok Record.Null) → KeepsLook f → ⊥
 unfolding records records_of
 looks_null f r k =
-    let p : f (tape_of (bool true)) (store_of (bool true)) 0 ≡ Looked.Record (Record.Bool true) = looked small_true f k (lit< tt) in
+    let p : f (tape_of (bool true)) (store_of (bool true)) 0 ≡ Ok (Record.Bool true) = looked small_true f k (lit< tt) in
     let q = r (tape_of (bool true)) (store_of (bool true)) 0 (omega (arith, tape_length (bool true))) in
     let z : ◌≡◌ {A = ℕ} 0 1 = cc in
     omega arith
 
-looks_nowhere : (f : Looker) → ((tape store : List ℕ) (index : ℕ) → (why : Refusal) × (f tape store index ≡ Looked.Refused why)) → KeepsLook f → ⊥
+looks_nowhere : (f : Looker) → ((tape store : List ℕ) (index : ℕ) → (why : Refusal) × (f tape store index ≡ Err why)) → KeepsLook f → ⊥
 unfolding records
 looks_nowhere f r k =
     let p = looked small_null f k (lit< tt) in
@@ -504,18 +508,18 @@ looks_nowhere f r k =
     let z : ◌≡◌ {A = ℕ} 0 1 = cc in
     omega arith
 
-all_utf8 : (f : List ℕ → Utf8Answer) → ((s : List ℕ) → f s ≡ Utf8Answer.Done) → KeepsUtf8 f → ⊥
+all_utf8 : (f : List ℕ → Result (Unit {0}) IllFormed) → ((s : List ℕ) → f s ≡ Ok tt) → KeepsUtf8 f → ⊥
 unfolding judged fault_from length_at is_wide count_leading_zeros
 all_utf8 f r k =
     let s : List ℕ = 0xFF ∷ [] in
-    let e : Utf8Answer.IllFormed 0 ≡ f s = one_outcome_utf8 (judged_is s) (k s (record { each = (lit< tt, tt); few = lit< tt })) in
+    let e : Err (record { place = 0 }) ≡ f s = one_outcome_utf8 (judged_is s) (k s (record { each = (lit< tt, tt); few = lit< tt })) in
     let q = r s in
     let z : ◌≡◌ {A = ℕ} 0 1 = cc in
     omega arith
 
-no_utf8 : (f : List ℕ → Utf8Answer) → ((s : List ℕ) → (k : ℕ) × (f s ≡ Utf8Answer.IllFormed k)) → KeepsUtf8 f → ⊥
+no_utf8 : (f : List ℕ → Result (Unit {0}) IllFormed) → ((s : List ℕ) → (k : ℕ) × (f s ≡ Err (record { place = k }))) → KeepsUtf8 f → ⊥
 no_utf8 f r k =
-    let e : Utf8Answer.Done ≡ f [] = one_outcome_utf8 (Judged.done Octets.none refl) (k [] (record { each = tt; few = lit< tt })) in
+    let e : Ok tt ≡ f [] = one_outcome_utf8 (Judged.done Octets.none refl) (k [] (record { each = tt; few = lit< tt })) in
     let q = (r []).1 in
     let z : ◌≡◌ {A = ℕ} 0 1 = cc in
     omega arith
@@ -527,21 +531,14 @@ february_30 d =
     let z : ◌≡◌ {A = ℕ} 0 1 = cc in
     omega arith
 
-long_months : (f : Calendar) → ((y m d : ℕ) → y ≤ 9999 → 1 ≤ m → m ≤ 12 → 1 ≤ d → d ≤ 31 → f y m d ≡ DateAnswer.Done) → KeepsDate f → ⊥
-long_months f r k =
-    let e : DateAnswer.NoDate ≡ f 2000 2 30 = one_outcome_date (Dated.none february_30 refl) (k 2000 2 30 (lit< tt) (lit< tt) (lit< tt)) in
-    let q = r 2000 2 30 (lit≤ tt) (lit≤ tt) (lit≤ tt) (lit≤ tt) (lit≤ tt) in
-    let z : ◌≡◌ {A = ℕ} 0 1 = cc in
-    omega arith
+long_months : (f : Calendar) → ((y m d : ℕ) → y ≤ 9999 → 1 ≤ m → m ≤ 12 → 1 ≤ d → d ≤ 31 → f y m d ≡ Ok tt) → KeepsDate f → ⊥
+long_months f r k = february_30 (date_done_lem (subst (Dated 2000 2 30) (r 2000 2 30 (lit≤ tt) (lit≤ tt) (lit≤ tt) (lit≤ tt) (lit≤ tt))
+    (k 2000 2 30 (lit< tt) (lit< tt) (lit< tt))))
 
-no_date_lem : (f : Calendar) → ((y m d : ℕ) → f y m d ≡ DateAnswer.NoDate) → KeepsDate f → ⊥
+no_date_lem : (f : Calendar) → ((y m d : ℕ) → (e : NoDate) × (f y m d ≡ Err e)) → KeepsDate f → ⊥
 unfolding is_date is_leap
-no_date_lem f r k =
-    let e : DateAnswer.Done ≡ f 2000 2 29 = one_outcome_date (Dated.done (is_date_lem {y = 2000} {m = 2} {d = 29} refl) refl)
-    (k 2000 2 29 (lit< tt) (lit< tt) (lit< tt)) in
-    let q = r 2000 2 29 in
-    let z : ◌≡◌ {A = ℕ} 0 1 = cc in
-    omega arith
+no_date_lem f r k = date_none (subst (Dated 2000 2 29) (r 2000 2 29).1 (k 2000 2 29 (lit< tt) (lit< tt) (lit< tt)))
+    (is_date_lem {y = 2000} {m = 2} {d = 29} refl)
 
 pub impostors : Impostors
 impostors =

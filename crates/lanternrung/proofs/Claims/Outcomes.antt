@@ -2,20 +2,20 @@
 use mathlib.Core.Path.{◌≡◌, refl, sym, ◌∙◌}
 use mathlib.Core.List.{List}
 use Prim.Native.Nat.{ℕ}
-use Rattle.rules.specs.declared.Utf8Answer.{Utf8Answer}
-use Rattle.rules.specs.declared.DateAnswer.{DateAnswer}
+use Rattle.meaning.specs.declared.Record.{Record}
+use Rattle.meaning.specs.declared.Refusal.{Refusal}
+use Rattle.std.specs.Prelude.{Result}
+use Rattle.rules.specs.declared.IllFormed.{IllFormed}
+use Rattle.rules.specs.declared.NoDate.{NoDate}
 use Rattle.rules.specs.Rfc3629.{Judged}
 use Rattle.rules.specs.Rfc3339.{Dated}
 use Rattle.rules.proofs.Outcomes as rules
-use Rattle.tape.specs.declared.Looked.{Looked}
 use Rattle.tape.specs.Looking.{Looks}
 use Rattle.tape.proofs.Outcomes as tapes
-use Rattle.reader.specs.declared.Answer.{Answer}
-use Rattle.reader.specs.Answers.{Measures, Reads}
+use Rattle.reader.specs.Answers.{Answer, Measures, Reads}
 use Rattle.reader.proofs.Claims as reader
 use Rattle.arriving.specs.declared.Check.{Check}
 use Rattle.arriving.specs.Between.Arriving.{started, fed, ended}
-use Rattle.writer.specs.declared.Written.{Written}
 use Rattle.writer.specs.Written.{WritesJaxn, WritesJson}
 use Rattle.writer.proofs.Outcomes as writer
 use Rattle.lanternrung.specs.Claims.{Untouched, OneOutcome}
@@ -32,10 +32,10 @@ untouched =
 
 -- ---- one-outcome-X: two outcomes that the promise of X allows for the same input are equal, answers and all final bytes
 
-pub one_outcome_utf8 : {s : List ℕ} {a b : Utf8Answer} → Judged s a → Judged s b → a ≡ b
+pub one_outcome_utf8 : {s : List ℕ} {a b : Result (Unit {0}) IllFormed} → Judged s a → Judged s b → a ≡ b
 one_outcome_utf8 = rules.one_outcome_utf8
 
-pub one_outcome_date : {year month day : ℕ} {a b : DateAnswer} → Dated year month day a → Dated year month day b → a ≡ b
+pub one_outcome_date : {year month day : ℕ} {a b : Result (Unit {0}) NoDate} → Dated year month day a → Dated year month day b → a ≡ b
 one_outcome_date = rules.one_outcome_date
 
 pub one_outcome_measure : (text : List ℕ) {a b : Answer} → Measures text a → Measures text b → a ≡ b
@@ -45,14 +45,16 @@ pub one_outcome_read : {text tape store : List ℕ} {a b : Answer} {t u s v : Li
     × (t ≡ u) × (s ≡ v)
 one_outcome_read = reader.one_outcome_read
 
-pub one_outcome_look : {tape store : List ℕ} {index : ℕ} {a b : Looked} → Looks tape store index a → Looks tape store index b → a ≡ b
+pub one_outcome_look : {tape store : List ℕ} {index : ℕ} {a b : Result Record Refusal} → Looks tape store index a → Looks tape store index b → a ≡ b
 one_outcome_look = tapes.one_outcome_look
 
-pub one_outcome_write_jaxn : {tape store out : List ℕ} {a b : Written} {x y : List ℕ} → WritesJaxn tape store out a x → WritesJaxn tape store out b y → (a ≡ b)
+pub one_outcome_write_jaxn : {tape store out : List ℕ} {a b : Result ℕ Refusal} {x y : List ℕ} → WritesJaxn tape store out a x → WritesJaxn tape store out b y
+    → (a ≡ b)
     × (x ≡ y)
 one_outcome_write_jaxn = writer.one_outcome_jaxn
 
-pub one_outcome_write_json : {tape store out : List ℕ} {a b : Written} {x y : List ℕ} → WritesJson tape store out a x → WritesJson tape store out b y → (a ≡ b)
+pub one_outcome_write_json : {tape store out : List ℕ} {a b : Result ℕ Refusal} {x y : List ℕ} → WritesJson tape store out a x → WritesJson tape store out b y
+    → (a ≡ b)
     × (x ≡ y)
 one_outcome_write_json = writer.one_outcome_json
 

@@ -5,6 +5,8 @@ use mathlib.Core.List.{List, [], ◌∷◌}
 use mathlib.Core.Option.{some}
 use Prim.Native.Nat.{ℕ}
 use lib.Count.{count_leading_zeros}
+use Rattle.reader.specs.Answers.{Answer}
+use Rattle.std.specs.Prelude.{Ok, Err}
 use Rattle.rules.specs.Between.Posts.{low_of, high_of}
 use Rattle.rules.specs.Rfc3629.{encode}
 use Rattle.rules.specs.Between.Decided.{is_wide, length_at, fault_from, judged}
@@ -31,7 +33,6 @@ use Rattle.machine.specs.Heard.{tell, telling, heard_of}
 use Rattle.machine.proofs.Whole.{sound}
 use Rattle.machine.proofs.Refusals.Whole.{loose_refusals}
 use Rattle.machine.proofs.Accepted.{unambiguous, not_refused, first_refused}
-use Rattle.reader.specs.declared.Answer.{Answer}
 use Rattle.reader.proofs.Claims.{measure_refuses, read_refuses}
 use Rattle.lanternrung.specs.Trials.Samples.{samples, slips, IsTaken, Says, IsRefused, All, done, ◌&◌}
 use Rattle.lanternrung.proofs.Claims.Reading.{accepted, measured}
@@ -57,7 +58,7 @@ is_refused text why x =
       read = λ tape store a tape' store' q. said a (read_refuses x q);
     }
   where
-    said : (a : Answer) → a ≡ Answer.Refused why → Says (number_of why) (place_of why) a
+    said : (a : Answer) → a ≡ Err why → Says (number_of why) (place_of why) a
     said a f = subst (Says (number_of why) (place_of why)) (sym f) (refl, refl)
 
 refuses : (text : List ℕ) (why : Refusal) → verdict text ≡ No why → IsRefused text (number_of why) (place_of why)

@@ -6,6 +6,7 @@ use mathlib.Core.List.{List}
 use Prim.Native.Nat.{ℕ, ◌≤◌, ◌<◌}
 use native.Mathlib.Omega.{arith}
 use lib.Dec.{lit<}
+use Rattle.std.specs.Prelude.{Err}
 use Rattle.rules.specs.Paper.{number_said}
 use Rattle.rules.proofs.Outcomes.{done_apart}
 use Rattle.meaning.specs.declared.Refusal.{Refusal}
@@ -22,8 +23,7 @@ use Rattle.grammar.specs.Refused.{ItemFault, Refused, LooseRefused, Repeats, Tex
 use Rattle.grammar.proofs.Sizes.{text_fits}
 use Rattle.machine.proofs.Accepted as machine
 use Rattle.machine.proofs.Repeated.{KeyedText, text_keys_lem}
-use Rattle.reader.specs.declared.Answer.{Answer}
-use Rattle.reader.specs.Answers.{Measures, Reads}
+use Rattle.reader.specs.Answers.{Answer, counts, Measures, Reads}
 use Rattle.reader.proofs.Claims as reader
 use Rattle.lanternrung.specs.Claims.{OneReading, Counted, Takes, Holds, Accepted, SizesOf, Measured, IsRead, OfText, Refusals, RepeatsFirst, RepeatedKeys}
 use Rattle.lanternrung.specs.Claims.{Within, Bounded}
@@ -42,7 +42,7 @@ accepted {text} {tape} {store} {a} {tape'} {store'} p = record {
       held;
 }
   where
-    by_counts : {r s : ℕ} → a ≡ Answer.Counts r s → reader.Held text tape store r s tape' store'
+    by_counts : {r s : ℕ} → a ≡ counts r s → reader.Held text tape store r s tape' store'
     by_counts {r} {s} e = reader.read_accepts text tape store r s tape' store' (subst (λ (x : Answer). Reads text tape store x tape' store') e p)
 
     only : Counted a → (m : Meaning) × Takes text tape store m
@@ -65,7 +65,7 @@ measured {text} {a} p = record { exactly = (only, λ w. (records w.0, bytes w.0,
 
     sized : (m : Meaning) → Text text m → SizesOf m a
     sized m x = record {
-      answer = reader.one_outcome_measure text a (Answer.Counts (records m) (bytes m)) p (reader.accepts_measure x);
+      answer = reader.one_outcome_measure text a (counts (records m) (bytes m)) p (reader.accepts_measure x);
       tape_size =
           tape_length m;
       store_size = refl;
@@ -76,7 +76,7 @@ is_read = record { read = accepted; measure = measured }
 
 -- ---- refusals: which of 1 to 7, or 15, is given, and where
 
-measure_why : {text : List ℕ} {why : Refusal} → Measures text (Answer.Refused why) → TextRefused text why
+measure_why : {text : List ℕ} {why : Refusal} → Measures text (Err why) → TextRefused text why
 measure_why (Measures.sizes x e) = absurd (done_apart (sym e))
 measure_why {text} {why} (Measures.no_text {why = w} x e) = subst (TextRefused text) (same_refusal w why (sym e)) x
 
@@ -84,7 +84,7 @@ not_between : {n k : ℕ} → (n ≤ 7) ⊎ (n ≡ 15) → n ≡ k → 7 < k →
 not_between (inl h) e l m = omega arith
 not_between (inr h) e l m = omega arith
 
-read_why : {text tape store : List ℕ} {tape' store' : List ℕ} {why : Refusal} → Reads text tape store (Answer.Refused why) tape' store' → OfText why
+read_why : {text tape store : List ℕ} {tape' store' : List ℕ} {why : Refusal} → Reads text tape store (Err why) tape' store' → OfText why
     → TextRefused text why
 read_why (Reads.filled x h k e) n = absurd (done_apart (sym e))
 read_why (Reads.tape_short x h e) n = absurd (not_between n (ap number_said e) (lit< tt) (lit< tt))
@@ -154,10 +154,10 @@ bounded = record { grammar = by_grammar; measure = by_measure; read = by_read }
     by_grammar : {text : List ℕ} {m : Meaning} → Text text m → Within text (records m) (bytes m)
     by_grammar x = let f = text_fits x.loose in (f.few, f.small)
 
-    by_measure : (text : List ℕ) {r s : ℕ} → Measures text (Answer.Counts r s) → Within text r s
+    by_measure : (text : List ℕ) {r s : ℕ} → Measures text (counts r s) → Within text r s
     by_measure text {r} {s} p = reader.bounded (reader.measure_accepts text r s p)
 
-    by_read : {text tape store : List ℕ} {r s : ℕ} {tape' store' : List ℕ} → Reads text tape store (Answer.Counts r s) tape' store' → Within text r s
+    by_read : {text tape store : List ℕ} {r s : ℕ} {tape' store' : List ℕ} → Reads text tape store (counts r s) tape' store' → Within text r s
     by_read {text} {tape} {store} {r} {s} {tape'} {store'} p =
         let h = reader.read_accepts text tape store r s tape' store' p in
         let f = text_fits h.text_means.loose in

@@ -8,6 +8,8 @@ use Prim.Native.Nat.{ℕ, ◌*◌, ◌≤◌}
 use native.Mathlib.Omega.{arith}
 use lib.ListN.{length, take, drop, drop_of_length-le}
 use lib.Seq.{take_at}
+use Rattle.std.specs.Prelude.{Result, Ok}
+use Rattle.meaning.specs.declared.Refusal.{Refusal}
 use Rattle.meaning.specs.Limits.{text_limit}
 use Rattle.meaning.specs.Meaning.{Meaning}
 use Rattle.meaning.specs.Good.{Good}
@@ -20,40 +22,38 @@ use Rattle.grammar.proofs.Good.{text_good}
 use Rattle.grammar.proofs.Sizes.{text_fits}
 use Rattle.grammar.proofs.Canonical.{text_derived, filed_derived}
 use Rattle.machine.proofs.Whole.{same_canonical}
-use Rattle.reader.specs.declared.Answer.{Answer}
-use Rattle.reader.specs.Answers.{tape_bytes, Reads}
+use Rattle.reader.specs.Answers.{Answer, counts, tape_bytes, Reads}
 use Rattle.reader.proofs.Claims.{one_outcome_read, reads_as, read_accepts}
-use Rattle.writer.specs.declared.Written.{Written}
 use Rattle.writer.specs.Written.{Writes, too_long, too_short, WritesJaxn, WritesJson}
 use Rattle.writer.proofs.Outcomes as writer
 use Rattle.lanternrung.specs.Claims.{Room, Prints, WrittenJaxn, WrittenJson, IsWritten, SameText, Again, ReadBack, FiledBefore, Holds}
 use Rattle.lanternrung.proofs.Claims.Reading.{accepted}
 
 -- from the text to the output
-printed : {t out out' : List ℕ} {a : Written} → Room t out → Writes t out a out' → Prints t out a out'
+printed : {t out out' : List ℕ} {a : Result ℕ Refusal} → Room t out → Writes t out a out' → Prints t out a out'
 printed r (too_long h s) = absurd (omega (arith, r.short))
 printed r (too_short h g s) = absurd (omega (arith, r.fits))
-printed {t} {a = a} r (Writes.written h g s) = record { answer = writer.same_written a (Written.Wrote (length t)) s; holds = refl }
+printed {t} {a = a} r (Writes.written h g s) = record { answer = writer.same_written a (Ok (length t)) s; holds = refl }
 
 -- done: then within the limit, and with room
-roomy : {t out out' : List ℕ} {a : Written} {n : ℕ} → Writes t out a out' → a ≡ Written.Wrote n → Room t out
+roomy : {t out out' : List ℕ} {a : Result ℕ Refusal} {n : ℕ} → Writes t out a out' → a ≡ Ok n → Room t out
 roomy (too_long h s) e = absurd (writer.wrote_apart s e)
 roomy (too_short h g s) e = absurd (writer.wrote_apart s e)
 roomy (Writes.written h g s) e = record { short = h; fits = g }
 
 module _ {tape store out : List ℕ} where
-  jaxn_done : {a : Written} {out' : List ℕ} {n : ℕ} → WritesJaxn tape store out a out' → a ≡ Written.Wrote n → (w : WellFormed tape store)
+  jaxn_done : {a : Result ℕ Refusal} {out' : List ℕ} {n : ℕ} → WritesJaxn tape store out a out' → a ≡ Ok n → (w : WellFormed tape store)
       × Room (canonical w.meaning) out
   jaxn_done (WritesJaxn.ill n s) e = absurd (writer.wrote_apart s e)
   jaxn_done (WritesJaxn.text w p) e = (w, roomy p e)
 
-  json_done : {a : Written} {out' : List ℕ} {n : ℕ} → WritesJson tape store out a out' → a ≡ Written.Wrote n → (w : WellFormed tape store)
+  json_done : {a : Result ℕ Refusal} {out' : List ℕ} {n : ℕ} → WritesJson tape store out a out' → a ≡ Ok n → (w : WellFormed tape store)
       × (no_json w.meaning ≡ none) × Room (canonical w.meaning) out
   json_done (WritesJson.ill n s) e = absurd (writer.wrote_apart s e)
   json_done (WritesJson.formless w f s) e = absurd (writer.wrote_apart s e)
   json_done (WritesJson.text w f p) e = (w, f, roomy p e)
 
-  jaxn_written : {a : Written} {out' : List ℕ} → WritesJaxn tape store out a out' → WrittenJaxn tape store out a out'
+  jaxn_written : {a : Result ℕ Refusal} {out' : List ℕ} → WritesJaxn tape store out a out' → WrittenJaxn tape store out a out'
   jaxn_written {a} {out'} p = record {
     exactly = (λ d. jaxn_done p d.1, λ w. (length (canonical w.0.meaning), (prints w.0 w.1).answer));
     then =
@@ -63,7 +63,7 @@ module _ {tape store out : List ℕ} where
       prints : (w : WellFormed tape store) → Room (canonical w.meaning) out → Prints (canonical w.meaning) out a out'
       prints w r = printed r (writer.written_jaxn w p)
 
-  json_written : {a : Written} {out' : List ℕ} → WritesJson tape store out a out' → WrittenJson tape store out a out'
+  json_written : {a : Result ℕ Refusal} {out' : List ℕ} → WritesJson tape store out a out' → WrittenJson tape store out a out'
   json_written {a} {out'} p = record {
     exactly = (λ d. json_done p d.1, λ w. (length (canonical w.0.meaning), (prints w.0 w.1 w.2).answer));
     then = prints;
@@ -75,7 +75,7 @@ module _ {tape store out : List ℕ} where
 pub text_length : {t : List ℕ} {m : Meaning} → Loose true t m → length t ≤ text_limit
 text_length (Loose.text w v l h) = h
 
-filled : {text tape store : List ℕ} {r s : ℕ} {tape' store' : List ℕ} → Reads text tape store (Answer.Counts r s) tape' store'
+filled : {text tape store : List ℕ} {r s : ℕ} {tape' store' : List ℕ} → Reads text tape store (counts r s) tape' store'
     → (w : WellFormed (take (r * 16) tape') (take s store')) × Text text w.meaning
 filled {text} {tape} {store} {r} {s} {tape'} {store'} p =
     let h = read_accepts text tape store r s tape' store' p in
@@ -122,7 +122,7 @@ all_of : (x t : List ℕ) → length t ≤ length x → x ++ drop (length x) t �
 all_of x t h = rw (drop_of_length-le t h) (append-nil x)
 
 module _ {tape store out : List ℕ} {n : ℕ} {out' t s : List ℕ} {a : Answer} {t' s' : List ℕ} where
-  back : (w : WellFormed tape store) → Room (canonical w.meaning) out → Prints (canonical w.meaning) out (Written.Wrote n) out'
+  back : (w : WellFormed tape store) → Room (canonical w.meaning) out → Prints (canonical w.meaning) out (Ok n) out'
       → length t ≡ length tape → length s ≡ length store → Reads (take n out') t s a t' s' → Again tape store a t' s'
   back w r p h k q =
       let m = w.meaning in
@@ -133,16 +133,16 @@ module _ {tape store out : List ℕ} {n : ℕ} {out' t s : List ℕ} {a : Answer
       let ls = ap length w.stored in
       let x = back_meaning w.good r.short (omega arith) (omega arith) (subst (λ (i : List ℕ). Reads i t s a t' s') f q) in
       record {
-        answer = x.answer ∙ ap₂ Answer.Counts (omega arith) (sym ls);
+        answer = x.answer ∙ ap₂ counts (omega arith) (sym ls);
         taped = x.taped ∙ all_of (tape_of m) t (omega (arith, tape_length m)) ∙ sym w.taped;
         stored = x.stored ∙ all_of (store_of m) s (omega arith) ∙ sym w.stored;
       }
 
-  back_jaxn : WritesJaxn tape store out (Written.Wrote n) out' → length t ≡ length tape → length s ≡ length store → Reads (take n out') t s a t' s' → Again
+  back_jaxn : WritesJaxn tape store out (Ok n) out' → length t ≡ length tape → length s ≡ length store → Reads (take n out') t s a t' s' → Again
       tape store a t' s'
   back_jaxn p h k q = let d = jaxn_done p refl in back d.0 d.1 ((jaxn_written p).then d.0 d.1) h k q
 
-  back_json : WritesJson tape store out (Written.Wrote n) out' → length t ≡ length tape → length s ≡ length store → Reads (take n out') t s a t' s' → Again
+  back_json : WritesJson tape store out (Ok n) out' → length t ≡ length tape → length s ≡ length store → Reads (take n out') t s a t' s' → Again
       tape store a t' s'
   back_json p h k q = let d = json_done p refl in back d.0 d.2 ((json_written p).then d.0 d.1 d.2) h k q
 

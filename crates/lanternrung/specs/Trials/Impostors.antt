@@ -1,8 +1,8 @@
 -- Wrong programs, each a function from what it is given to what it answers and leaves, and each ruled out by its
 -- promise (docs/CLAIMS.md; docs/FORMAT.md, 13). Assumes nothing.
-use Rattle.std.specs.Prelude.{◌≡◌, true, List, [], ◌∷◌, ◌++◌, ℕ, ◌≤◌, ◌<◌, ◌^◌, length, get_or, drop}
-use Rattle.rules.specs.declared.Utf8Answer.{Utf8Answer}
-use Rattle.rules.specs.declared.DateAnswer.{DateAnswer}
+use Rattle.std.specs.Prelude.{◌≡◌, true, List, [], ◌∷◌, ◌++◌, ℕ, ◌≤◌, ◌<◌, ◌^◌, length, get_or, drop, Result, Ok, Err}
+use Rattle.rules.specs.declared.IllFormed.{IllFormed}
+use Rattle.rules.specs.declared.NoDate.{NoDate}
 use Rattle.rules.specs.Rfc3629.{Judged}
 use Rattle.rules.specs.Rfc3339.{Dated}
 use Rattle.meaning.specs.declared.Record.{Record}
@@ -16,12 +16,9 @@ use Rattle.meaning.specs.Meaning.{Meaning, Members, null, object, bare, member}
 use Rattle.meaning.specs.Tape.{records, members_records, bytes, records_bytes, tape_of, store_of}
 use Rattle.grammar.specs.Values.{Loose, Text}
 use Rattle.grammar.specs.Refused.{TextRefused}
-use Rattle.tape.specs.declared.Looked.{Looked}
 use Rattle.tape.specs.Looking.{Looks}
-use Rattle.reader.specs.declared.Answer.{Answer}
-use Rattle.reader.specs.Answers.{tape_bytes, Measures, Loosely, Reads}
+use Rattle.reader.specs.Answers.{Answer, counts, tape_bytes, Measures, Loosely, Reads}
 use Rattle.arriving.specs.Between.Arriving.{joined}
-use Rattle.writer.specs.declared.Written.{Written}
 use Rattle.writer.specs.Written.{WritesJaxn, WritesJson}
 use Rattle.lanternrung.specs.Claims.{Counted, Takes, Holds, Wrote, Prints}
 
@@ -48,7 +45,7 @@ KeepsRead f = (text tape store : List ℕ) → Lent text → Lent tape → Lent 
 
 -- the answer, and the output at exit
 abbrev pub Writer : Type 0
-Writer = List ℕ → List ℕ → List ℕ → Written × List ℕ
+Writer = List ℕ → List ℕ → List ℕ → Result ℕ Refusal × List ℕ
 
 abbrev pub KeepsJaxn : Writer → Type 0
 KeepsJaxn f = (tape store out : List ℕ) → Lent tape → Lent store → Lent out
@@ -59,17 +56,17 @@ KeepsJson f = (tape store out : List ℕ) → Lent tape → Lent store → Lent 
     → WritesJson tape store out (f tape store out).0 (f tape store out).1
 
 abbrev pub Looker : Type 0
-Looker = List ℕ → List ℕ → ℕ → Looked
+Looker = List ℕ → List ℕ → ℕ → Result Record Refusal
 
 abbrev pub KeepsLook : Looker → Type 0
 KeepsLook f = (tape store : List ℕ) (index : ℕ) → Lent tape → Lent store → index < 2 ^ 64
     → Looks tape store index (f tape store index)
 
-abbrev pub KeepsUtf8 : (List ℕ → Utf8Answer) → Type 0
+abbrev pub KeepsUtf8 : (List ℕ → Result (Unit {0}) IllFormed) → Type 0
 KeepsUtf8 f = (s : List ℕ) → Lent s → Judged s (f s)
 
 abbrev pub Calendar : Type 0
-Calendar = ℕ → ℕ → ℕ → DateAnswer
+Calendar = ℕ → ℕ → ℕ → Result (Unit {0}) NoDate
 
 abbrev pub KeepsDate : Calendar → Type 0
 KeepsDate f = (y m d : ℕ) → y < 2 ^ 64 → m < 2 ^ 64 → d < 2 ^ 64 → Dated y m d (f y m d)
@@ -93,7 +90,7 @@ KeepsCheck f = (ps : List (List ℕ)) → Lent (joined ps) → Loosely (joined p
 
 -- whatever it writes is the text t
 abbrev pub WritesOnly : List ℕ → Writer → Type 0
-WritesOnly t f = (tape store out : List ℕ) (n : ℕ) → (f tape store out).0 ≡ Written.Wrote n → (f tape store out).1 ≡ t
+WritesOnly t f = (tape store out : List ℕ) (n : ℕ) → (f tape store out).0 ≡ Ok n → (f tape store out).1 ≡ t
     ++ drop (length t) out
 
 -- `[null]` as it was taped before there were counts
@@ -117,7 +114,7 @@ Files f = (m : Meaning) (out : List ℕ) → length (filed m) ≤ length out
 pub record Impostors : Type 0 where
   -- a reader that refuses everything, for whatever reason
   pub refuses_all : (f : Reader) → ((text tape store : List ℕ) → (why : Refusal)
-      × ((f text tape store).0 ≡ Answer.Refused why)) → KeepsRead f → ⊥
+      × ((f text tape store).0 ≡ Err why)) → KeepsRead f → ⊥
   -- one that answers `null` for all that it accepts
   pub null_for_all : (f : Reader)
       → ((text tape store : List ℕ) (m : Meaning) → Takes text tape store m
@@ -146,7 +143,7 @@ pub record Impostors : Type 0 where
   pub files_json : (f : Writer) → Files f → KeepsJson f → ⊥
   pub refuses_filed : (f : Reader)
       → ((m : Meaning) (tape store : List ℕ) → (filed m ≡ canonical m → ⊥) → (why : Refusal)
-      × ((f (filed m) tape store).0 ≡ Answer.Refused why)) → KeepsRead f → ⊥
+      × ((f (filed m) tape store).0 ≡ Err why)) → KeepsRead f → ⊥
   -- a writer that always prints one text, or refuses
   pub one_text_jaxn : (f : Writer) (t : List ℕ) → WritesOnly t f → KeepsJaxn f → ⊥
   pub one_text_json : (f : Writer) (t : List ℕ) → WritesOnly t f → KeepsJson f → ⊥
@@ -157,20 +154,20 @@ pub record Impostors : Type 0 where
       → ((text : List ℕ) → KeepsJaxn (f text)) → ⊥
   -- a measure that invents its counts: for one text; the same for all; some for all
   pub invents : (f : Measurer) {text : List ℕ} {m : Meaning} → Text text m
-      → (f text ≡ Answer.Counts (records m) (bytes m) → ⊥) → KeepsMeasure f → ⊥
-  pub one_count : (f : Measurer) (r s : ℕ) → ((text : List ℕ) → Counted (f text) → f text ≡ Answer.Counts r s)
+      → (f text ≡ counts (records m) (bytes m) → ⊥) → KeepsMeasure f → ⊥
+  pub one_count : (f : Measurer) (r s : ℕ) → ((text : List ℕ) → Counted (f text) → f text ≡ counts r s)
       → KeepsMeasure f → ⊥
   pub counts_all : (f : Measurer) → ((text : List ℕ) → Counted (f text)) → KeepsMeasure f → ⊥
   -- a measure, and a reader, that refuses some text with another number or at another place than the grammar
   pub misplaces : (f : Measurer) {text : List ℕ} {why : Refusal} → Lent text → TextRefused text why
-      → (f text ≡ Answer.Refused why → ⊥) → KeepsMeasure f → ⊥
+      → (f text ≡ Err why → ⊥) → KeepsMeasure f → ⊥
   pub misplaces_reading : (f : Reader) {text : List ℕ} {why : Refusal} → Lent text → TextRefused text why
-      → ((f text [] []).0 ≡ Answer.Refused why → ⊥) → KeepsRead f → ⊥
+      → ((f text [] []).0 ≡ Err why → ⊥) → KeepsRead f → ⊥
   -- a measure that answers 15 at an earlier place, as that of the key which is repeated; a measure, and a reader, that
   -- takes a text with repeated keys
   pub earlier_key : (f : Measurer)
       → ((text : List ℕ) (p : ℕ) → TextRefused text (Refusal.RepeatedKey p)
-      → (q : ℕ) × (q < p) × (f text ≡ Answer.Refused (Refusal.RepeatedKey q))) → KeepsMeasure f → ⊥
+      → (q : ℕ) × (q < p) × (f text ≡ Err (Refusal.RepeatedKey q))) → KeepsMeasure f → ⊥
   pub measures_repeated : (f : Measurer) → ((text : List ℕ) (m : Meaning) → Loose true text m → Counted (f text))
       → KeepsMeasure f → ⊥
   pub reads_repeated : (f : Reader)
@@ -179,7 +176,7 @@ pub record Impostors : Type 0 where
   -- a check that answers 15
   pub checks_keys : (f : Checker)
       → ((ps : List (List ℕ)) (p : ℕ) → TextRefused (joined ps) (Refusal.RepeatedKey p)
-      → answers f ps ≡ Answer.Refused (Refusal.RepeatedKey p)) → KeepsCheck f → ⊥
+      → answers f ps ≡ Err (Refusal.RepeatedKey p)) → KeepsCheck f → ⊥
   -- a check that answers the same whatever parts come; one that forgets all but the last part; one that takes the first
   -- part only
   pub one_answer : (f : Checker) (a : Answer) → ((ps : List (List ℕ)) → answers f ps ≡ a) → KeepsCheck f → ⊥
@@ -187,13 +184,14 @@ pub record Impostors : Type 0 where
   pub first_only : (f : Checker) → ((s p q : List ℕ) → f.feed (f.feed s p) q ≡ f.feed s p) → KeepsCheck f → ⊥
   -- a look that answers `null` for all, or refuses all
   pub looks_null : (f : Looker) → ((tape store : List ℕ) (index : ℕ) → index < whole_records tape → f tape store index
-      ≡ Looked.Record Record.Null) → KeepsLook f → ⊥
+      ≡ Ok Record.Null) → KeepsLook f → ⊥
   pub looks_nowhere : (f : Looker) → ((tape store : List ℕ) (index : ℕ) → (why : Refusal)
-      × (f tape store index ≡ Looked.Refused why)) → KeepsLook f → ⊥
+      × (f tape store index ≡ Err why)) → KeepsLook f → ⊥
   -- a test of UTF-8 that passes all, or refuses all
-  pub all_utf8 : (f : List ℕ → Utf8Answer) → ((s : List ℕ) → f s ≡ Utf8Answer.Done) → KeepsUtf8 f → ⊥
-  pub no_utf8 : (f : List ℕ → Utf8Answer) → ((s : List ℕ) → (k : ℕ) × (f s ≡ Utf8Answer.IllFormed k)) → KeepsUtf8 f → ⊥
+  pub all_utf8 : (f : List ℕ → Result (Unit {0}) IllFormed) → ((s : List ℕ) → f s ≡ Ok tt) → KeepsUtf8 f → ⊥
+  pub no_utf8 : (f : List ℕ → Result (Unit {0}) IllFormed) →
+      ((s : List ℕ) → (k : ℕ) × (f s ≡ Err (record { place = k }))) → KeepsUtf8 f → ⊥
   -- a calendar in which every month has 31 days, or that refuses all
   pub long_months : (f : Calendar) → ((y m d : ℕ) → y ≤ 9999 → 1 ≤ m → m ≤ 12 → 1 ≤ d → d ≤ 31 → f y m d
-      ≡ DateAnswer.Done) → KeepsDate f → ⊥
-  pub no_date_lem : (f : Calendar) → ((y m d : ℕ) → f y m d ≡ DateAnswer.NoDate) → KeepsDate f → ⊥
+      ≡ Ok tt) → KeepsDate f → ⊥
+  pub no_date_lem : (f : Calendar) → ((y m d : ℕ) → (e : NoDate) × (f y m d ≡ Err e)) → KeepsDate f → ⊥

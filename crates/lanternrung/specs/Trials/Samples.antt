@@ -1,6 +1,6 @@
 -- The cases marked P, one list; the slips to rule out (docs/FORMAT.md, 14); and what it is for a case to hold. Assumes
 -- nothing.
-use Rattle.std.specs.Prelude.{◌≡◌, true, false, List, [], ◌∷◌, ◌++◌, ℕ, ◌≤◌, pos, negsuc, length}
+use Rattle.std.specs.Prelude.{◌≡◌, true, false, List, [], ◌∷◌, ◌++◌, ℕ, ◌≤◌, pos, negsuc, length, Ok, Err}
 use Rattle.rules.specs.Rfc3629.{encode}
 use Rattle.meaning.specs.declared.Number.TheVariants.{Finite}
 use Rattle.meaning.specs.declared.Time.TheVariants.{LocalDate, LocalTime}
@@ -11,8 +11,7 @@ use Rattle.meaning.specs.Paper.{number_of, place_of}
 use Rattle.meaning.specs.Tape.{records, bytes}
 use Rattle.meaning.specs.Canonical.{canonical}
 use Rattle.grammar.specs.Values.{Text}
-use Rattle.reader.specs.declared.Answer.{Answer}
-use Rattle.reader.specs.Answers.{tape_bytes, Measures, Reads}
+use Rattle.reader.specs.Answers.{Answer, counts, tape_bytes, Measures, Reads}
 
 pub data Outcome : Type 0 where
   -- taken, with this meaning and this canonical text
@@ -96,14 +95,14 @@ pub record IsTaken (text : List ℕ) (m : Meaning) (printed : List ℕ) : Type 0
   pub means : Text text m
   pub only : (n : Meaning) → Text text n → n ≡ m
   pub prints : canonical m ≡ printed
-  pub measured : (a : Answer) → Measures text a → a ≡ Answer.Counts (records m) (bytes m)
+  pub measured : (a : Answer) → Measures text a → a ≡ counts (records m) (bytes m)
   pub read : (tape store : List ℕ) (a : Answer) (tape' store' : List ℕ) → tape_bytes m ≤ length tape
-      → bytes m ≤ length store → Reads text tape store a tape' store' → a ≡ Answer.Counts (records m) (bytes m)
+      → bytes m ≤ length store → Reads text tape store a tape' store' → a ≡ counts (records m) (bytes m)
 
 -- a refusal with the number n, at the place p
 abbrev pub Says : ℕ → ℕ → Answer → Type 0
-Says n p (Answer.Counts r s) = ⊥
-Says n p (Answer.Refused why) = (number_of why ≡ n) × (place_of why ≡ p)
+Says n p (Ok sizes) = ⊥
+Says n p (Err why) = (number_of why ≡ n) × (place_of why ≡ p)
 
 -- The grammar gives the text no meaning. Whatever `measure` and `read` may answer is the refusal n at p.
 pub record IsRefused (text : List ℕ) (n p : ℕ) : Type 0 where

@@ -6,4 +6,4 @@ use Rattle.lanternrung.specs.Told.{sizes_of}
 use Rattle.lanternrung.proofs.exports.lanternrung_check_finish.Goals as goal
 
 pub returns : goal.returns
-returns c = c.sizes_of.ensures ∙ ap sizes_of (c.check_finish.ensures ∙ ap (λ (x : Check). ended x) c.kept.ensures)
+returns c = c.from.ensures ∙ ap sizes_of (c.check_finish.ensures ∙ ap (λ (x : Check). ended x) c.kept.ensures)

@@ -1,14 +1,17 @@
 -- The number and place of what `date` answers. Assumes nothing.
-use mathlib.Core.Path.{refl, subst}
-use Rattle.rules.specs.declared.DateAnswer.TheVariants.{Done, NoDate}
-use Rattle.rules.specs.Rfc3339.{Dated}
+use mathlib.Core.Path.{ap₂}
+use Prim.Native.Nat.{ℕ}
+use Rattle.rules.specs.declared.exports.Status.{Status}
 use Rattle.lanternrung.specs.Told.{status_of}
 use Rattle.lanternrung.proofs.exports.lanternrung_date.Goals as goal
 
-pub returns-in-Done : goal.returns-in-Done
-unfolding status_of
-returns-in-Done c = record { answer = Done; allowed = subst (Dated _ _ _) c.in-Done.is c.date.ensures; told = refl }
+status : ℕ → ℕ → Status
+status n p = record { refused = n; place = p }
 
-pub returns-in-NoDate : goal.returns-in-NoDate
-unfolding status_of
-returns-in-NoDate c = record { answer = NoDate; allowed = subst (Dated _ _ _) c.in-NoDate.is c.date.ensures; told = refl }
+pub returns : goal.returns
+unfolding status_of status
+returns c = record {
+  answer = c.lr_rules_date.ensures.answer;
+  allowed = c.lr_rules_date.ensures.dated;
+  told = ap₂ status c.lr_rules_date.ensures.number_is c.lr_rules_date.ensures.place_is;
+}

@@ -1,19 +1,17 @@
 -- The number and place of what `utf8` answers. Assumes nothing.
-use mathlib.Core.Path.{refl, subst}
-use Rattle.rules.specs.declared.Utf8Answer.TheVariants.{Done, IllFormed}
-use Rattle.rules.specs.Rfc3629.{Judged}
+use mathlib.Core.Path.{ap₂}
+use Prim.Native.Nat.{ℕ}
+use Rattle.rules.specs.declared.exports.Status.{Status}
 use Rattle.lanternrung.specs.Told.{status_of}
 use Rattle.lanternrung.proofs.exports.lanternrung_utf8.Goals as goal
 
-pub returns-in-Done : goal.returns-in-Done
-unfolding status_of
-returns-in-Done c = record { answer = Done; allowed = subst (Judged _) c.in-Done.is c.utf8-2.ensures; told = refl }
+status : ℕ → ℕ → Status
+status n p = record { refused = n; place = p }
 
-pub returns-in-IllFormed : goal.returns-in-IllFormed
-unfolding status_of
-returns-in-IllFormed c = record {
-  answer = IllFormed c.in-IllFormed.at;
-  allowed =
-      subst (Judged _) c.in-IllFormed.is c.utf8-2.ensures;
-  told = refl;
+pub returns : goal.returns
+unfolding status_of status
+returns c = record {
+  answer = c.lr_rules_utf8.ensures.answer;
+  allowed = c.lr_rules_utf8.ensures.judged;
+  told = ap₂ status c.lr_rules_utf8.ensures.number_is c.lr_rules_utf8.ensures.place_is;
 }
