@@ -9,9 +9,6 @@ use Rattle.writer.proofs.string_or_binary.runs_len.Goals as goal
 pub loop-i-init : goal.loop-i-init
 loop-i-init c = (omega arith, omega (arith, quoted_length c.args.s.now))
 
-pub overflow_sub-total : goal.overflow_sub-total
-overflow_sub-total c = omega (arith, c.if-i-j.true)
-
 pub overflow_add-total : goal.overflow_add-total
 overflow_add-total c = omega (
   arith,
@@ -21,9 +18,6 @@ overflow_add-total c = omega (
   quoted_small c.args.s.now
       c.requires,
 )
-
-pub loop-i-smaller-then-i-j : goal.loop-i-smaller-then-i-j
-loop-i-smaller-then-i-j c = omega (arith, c.if-i-j.true, c.plain_run-j.ensures.within)
 
 pub loop-i-preserved-then-i-j : goal.loop-i-preserved-then-i-j
 loop-i-preserved-then-i-j c = (
@@ -45,12 +39,6 @@ overflow_add-total-else-i-j c = omega (
   quoted_small c.args.s.now
       c.requires,
 )
-
-pub overflow_add-i : goal.overflow_add-i
-overflow_add-i c = omega (arith, c.loop-i-test.true)
-
-pub loop-i-smaller : goal.loop-i-smaller
-loop-i-smaller c = omega (arith, c.loop-i-test.true)
 
 pub loop-i-preserved : goal.loop-i-preserved
 loop-i-preserved c = (
