@@ -127,14 +127,14 @@ fn closed(x: Spot, kind: u8, kinds: &[u8; DEPTH_LIMIT]) -> Spot
     ensures { (c : Bracket) → kind ≡ kind_of c
         → Stepped (λ s p. Steps.closed s p c) x kinds.now result kinds.now }
 {
-    if steps::top(kinds, x.depth) != kind {
-        return x;
-    }
-    Spot {
-        at: x.at + 1,
-        due: due_number(Due::AfterValue),
-        depth: x.depth - 1,
-        ..x
+    match steps::top(kinds, x.depth) {
+        Some(last) if last == kind => Spot {
+            at: x.at + 1,
+            due: due_number(Due::AfterValue),
+            depth: x.depth - 1,
+            ..x
+        },
+        _ => x,
     }
 }
 
@@ -144,8 +144,8 @@ fn comma(x: Spot, kinds: &[u8; DEPTH_LIMIT]) -> Spot
     ensures { Stepped Steps.comma x kinds.now result kinds.now }
 {
     match steps::top(kinds, x.depth) {
-        steps::ARRAY => moved(x, x.at + 1, Due::Value, 0, 0),
-        steps::OBJECT => moved(x, x.at + 1, Due::Key, 0, 0),
+        Some(steps::ARRAY) => moved(x, x.at + 1, Due::Value, 0, 0),
+        Some(steps::OBJECT) => moved(x, x.at + 1, Due::Key, 0, 0),
         _ => x,
     }
 }
@@ -322,7 +322,7 @@ fn turn(part: &[u8], x: Spot, kinds: &mut [u8; DEPTH_LIMIT]) -> Spot
     }
 }
 
-// As far as items are whole.
+// As far as items are whole. No `for`: a turn goes over a whole item.
 fn skim(part: &[u8], from: Spot, kinds: &mut [u8; DEPTH_LIMIT]) -> Spot
     requires { Stands part.now from.at (here_of Modes.At (due_at from) from.depth from.records from.stored) }
     ensures { Skips part.now from kinds.old result kinds.new }

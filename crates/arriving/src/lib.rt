@@ -108,7 +108,7 @@ fn sane(c: Core) -> bool
     c.length <= TEXT_LIMIT && sane_here(c.here, c.length)
 }
 
-// The bytes of a part, the first at the place `base`: whole items and runs at once, and a byte at a time between them.
+// The bytes of a part, the first at the place `base`: whole items and runs at once, and a byte at a time between them. No `for`: a leap goes over many.
 fn walked(had: Here, part: &[u8], base: usize, kinds: &mut [u8; DEPTH_LIMIT]) -> Here
     requires { (sane_here base had ≡ true) × (base + length part.now ≤ text_limit) }
     ensures { (result, kinds.new) ≡ Steps.walked (had, kinds.old) base part.now }

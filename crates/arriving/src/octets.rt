@@ -4,7 +4,7 @@ ghost use Rattle.meaning.specs.Limits.{text_limit};
 ghost use Rattle.arriving.specs.Between.Octets.{between, fault_at, opens, lead_of_three, lead_of_four, leads, follow, Rests, next_utf, fed_utf};
 
 // How many bytes of a character are still to come, between which bounds the next one lies, and the character's first place; the place
-// of the first fault, where there is one.
+// of the first fault, where there is one. Each field lies in the bytes that a caller keeps, and comes back as it was whatever the others are.
 #[derive(Clone, Copy)]
 pub struct Utf {
     pub left: u8,

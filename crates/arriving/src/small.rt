@@ -4,7 +4,7 @@ ghost use Rattle.machine.specs.Strings.{hex_of};
 ghost use Rattle.meaning.specs.declared.Refusal.TheVariants.{NotGrammar};
 ghost use Rattle.arriving.specs.declared.states.Octets.TheVariants.{Low};
 ghost use Rattle.arriving.specs.declared.states.Out.TheVariants.{Stops, Breaks};
-ghost use Rattle.arriving.specs.Between.Small.{letter_at, next_word, next_name, packs, on_digit, on_text, on_dollar, on_escape, on_pair, next_octets};
+ghost use Rattle.arriving.specs.Between.Small.{LetterIs, next_word, next_name, packs, on_digit, on_text, on_dollar, on_escape, on_pair, next_octets};
 
 use crate::states::{Mode, Octets, Out};
 use items::identifier::Sort;
@@ -18,12 +18,15 @@ fn byte_at(list: &[u8], n: usize) -> u8
     *list.get(n).unwrap_or(&0)
 }
 
-// The letter at a place of the list of words, 0 where a word is whole.
+// The letter at a place of the list of words, where no word ends there.
 #[tactic(auto, unfolding(crate::specs::Between::Small::letter_at))]
-fn letter_at(n: usize) -> u8
-    ensures { result ≡ letter_at n }
+fn letter_at(n: usize) -> Option<u8>
+    ensures { LetterIs n result }
 {
-    byte_at(b"null\0true\0false\0NaN\0Infinity\0", n)
+    match byte_at(b"null\0true\0false\0NaN\0Infinity\0", n) {
+        0 => None,
+        letter => Some(letter),
+    }
 }
 
 // A byte in a word, before the letter at a place of the list of words.
@@ -32,9 +35,9 @@ pub fn word_next(n: usize, p: usize, b: u8) -> Out
     ensures { result ≡ next_word n p b }
 {
     match letter_at(n) {
-        0 => Out::Stops,
-        due if b == due => Out::Takes(Mode::Spelling(n + 1), 0),
-        _ => Out::Breaks(Refusal::NotGrammar(p)),
+        None => Out::Stops,
+        Some(due) if b == due => Out::Takes(Mode::Spelling(n + 1), 0),
+        Some(_) => Out::Breaks(Refusal::NotGrammar(p)),
     }
 }
 

@@ -26,7 +26,8 @@ pub struct Decimal {
     pub fraction: usize,
 }
 
-// A number, or digits that may yet be a time. Each holds the number's first place.
+// A number, or digits that may yet be a time. Each holds the number's first place. A hexadecimal value keeps its digits beside the mark that they are
+// too many: both lie in the bytes that a caller keeps.
 #[derive(Clone, Copy)]
 pub enum Figure {
     Sign(usize),
@@ -86,7 +87,8 @@ pub enum Moment {
     Zulu,
 }
 
-// A string part: its quote; the backslash of its first bad escape, and of a high surrogate that waits, each one more than its place, 0 for none.
+// A string part: its quote; the backslash of its first bad escape, and of a high surrogate that waits, each one more than its place, 0 for none: so they
+// lie in the bytes that a caller keeps, where every value of the eight bytes must come back as it was.
 #[derive(Clone, Copy)]
 pub struct Quoted {
     pub quote: u8,
@@ -142,7 +144,8 @@ pub enum Mode {
     Failed(Refusal),
 }
 
-// What a byte does to an item: it is taken, and so many store bytes come; the item stops before it; or the item breaks.
+// What a byte does to an item: it is taken, and so many store bytes come; the item stops before it; or the item breaks. Three ways with three names, as
+// the machine's scanners have them: a Result of an Option would name none of them.
 #[derive(Clone, Copy)]
 pub enum Out {
     Takes(Mode, usize),

@@ -9,7 +9,7 @@ ghost use Rattle.arriving.specs.declared.states.Mode.TheVariants.{Packing, Faile
 ghost use Rattle.meaning.specs.declared.Refusal.TheVariants.{NotGrammar};
 ghost use Rattle.arriving.specs.declared.states.Octets.TheVariants.{Dollar};
 ghost use Rattle.arriving.specs.Between.Steps as Steps;
-ghost use Rattle.arriving.specs.Between.Steps.{here_of, kind_of, due_in, top_of, on_slash, on_line, on_block, on_star};
+ghost use Rattle.arriving.specs.Between.Steps.{here_of, kind_of, due_in, TopIs, on_slash, on_line, on_block, on_star};
 ghost use Rattle.arriving.specs.Between.Steps.{on_after, begun_figure, on_value, on_key, on_part, after_value};
 ghost use Rattle.arriving.specs.Between.Figures.{begin_figure};
 ghost use Rattle.arriving.specs.Between.Strings.{open_quote};
@@ -22,7 +22,7 @@ use crate::states::{Due, Here, Mode, Octets, Out};
 use crate::{classes, figures, small, strings, times};
 use meaning::{DEPTH_LIMIT, Refusal};
 
-// The kinds of brackets; 0 is none.
+// The kinds of brackets.
 pub const ARRAY: u8 = 1;
 
 pub const OBJECT: u8 = 2;
@@ -69,16 +69,14 @@ fn odd(here: Here, p: usize) -> Here
     moded(here, Mode::Failed(Refusal::NotGrammar(p)))
 }
 
-// The kind of the innermost open bracket; 0 where none is open.
+// The kind of the innermost open bracket, where one is open.
 #[tactic(auto, unfolding(crate::specs::Between::Steps::top_of, meaning::specs::Limits::depth_limit))]
-pub fn top(kinds: &[u8; DEPTH_LIMIT], depth: usize) -> u8
+pub fn top(kinds: &[u8; DEPTH_LIMIT], depth: usize) -> Option<u8>
     requires { depth ≤ depth_limit }
-    ensures { result ≡ top_of kinds.now depth }
+    ensures { TopIs kinds.now depth result }
 {
-    if depth == 0 {
-        return 0;
-    }
-    kinds[depth - 1]
+    let last = depth.checked_sub(1)?;
+    Some(kinds[last])
 }
 
 // An opening bracket: 7 where too many are open.
@@ -108,26 +106,26 @@ fn closed(here: Here, kind: u8, p: usize, kinds: &[u8; DEPTH_LIMIT]) -> Here
     requires { Roomy here × (1 ≤ kind) }
     ensures { (c : Bracket) → kind ≡ kind_of c → (result, kinds.now) ≡ Steps.closed (here, kinds.now) p c }
 {
-    if top(kinds, here.depth) != kind {
-        return odd(here, p);
-    }
-    Here {
-        mode: Mode::At,
-        due: Due::AfterValue,
-        depth: here.depth - 1,
-        ..here
+    match top(kinds, here.depth) {
+        Some(last) if last == kind => Here {
+            mode: Mode::At,
+            due: Due::AfterValue,
+            depth: here.depth - 1,
+            ..here
+        },
+        _ => odd(here, p),
     }
 }
 
 // A comma after a value: the next element or member.
-#[tactic(auto, unfolding(crate::specs::Between::Steps::comma))]
+#[tactic(auto, unfolding(crate::specs::Between::Steps::comma, crate::specs::Between::Steps::top_of))]
 fn comma(here: Here, p: usize, kinds: &[u8; DEPTH_LIMIT]) -> Here
     requires { Roomy here }
     ensures { (result, kinds.now) ≡ Steps.comma (here, kinds.now) p }
 {
     match top(kinds, here.depth) {
-        ARRAY => resumed(here, Mode::At, Due::Value),
-        OBJECT => resumed(here, Mode::At, Due::Key),
+        Some(ARRAY) => resumed(here, Mode::At, Due::Value),
+        Some(OBJECT) => resumed(here, Mode::At, Due::Key),
         _ => odd(here, p),
     }
 }

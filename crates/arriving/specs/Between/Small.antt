@@ -1,6 +1,6 @@
 -- Words, identifiers and binary parts (docs/FORMAT.md, 1.2, 4 and 7.2), a byte at a time, as the check in parts keeps
 -- them. Assumes nothing.
-use Rattle.std.specs.Prelude.{ℕ, ◌+◌, cond, List, [], ◌∷◌, ◌++◌, eqb, ltb, leb, get_or}
+use Rattle.std.specs.Prelude.{ℕ, ◌+◌, ◌<◌, ◌≡◌, Option, Some, None, cond, List, [], ◌∷◌, ◌++◌, eqb, ltb, leb, get_or}
 use Rattle.meaning.specs.Letters.{letters, ch}
 use Rattle.meaning.specs.declared.Refusal.TheVariants.{NotGrammar}
 use Rattle.machine.specs.Strings.{hex_of, no_digit, short_of, no_short}
@@ -41,6 +41,11 @@ words =
 -- 0 where the word is whole
 unfoldable pub letter_at : ℕ → ℕ
 letter_at n = get_or words n 0
+
+-- what the code says of it
+abbrev pub LetterIs : ℕ → Option ℕ → Type 0
+LetterIs n None = letter_at n ≡ 0
+LetterIs n (Some b) = (b ≡ letter_at n) × (0 < b)
 
 -- in a word before the letter at the place n of the list of words
 unfoldable pub next_word : ℕ → ℕ → ℕ → Out

@@ -1,6 +1,6 @@
 -- One byte of a text (docs/FORMAT.md, 1.2, 2 and 7), as the check in parts keeps it: where it stands, and the kinds of
 -- the open brackets. It goes by the machine's classes of bytes, clause by clause. Assumes nothing.
-use Rattle.std.specs.Prelude.{ℕ, zero, suc, ◌+◌, ◌-◌, Bool, true, false, cond, List, [], ◌∷◌, eqb, ltb, get_or}
+use Rattle.std.specs.Prelude.{ℕ, zero, suc, ◌+◌, ◌-◌, ◌≡◌, ◌<◌, Option, Some, None, Bool, true, false, cond, List, [], ◌∷◌, eqb, ltb, get_or}
 use Rattle.std.proofs.lemmas.List.Edits.{sets}
 use Rattle.meaning.specs.Limits.{depth_limit}
 use Rattle.meaning.specs.declared.Refusal.{Refusal}
@@ -66,6 +66,11 @@ due_in curly = Due.Key
 unfoldable pub top_of : List ℕ → ℕ → ℕ
 top_of ks zero = 0
 top_of ks (suc d) = get_or ks d 0
+
+-- what the code says of it
+abbrev pub TopIs : List ℕ → ℕ → Option ℕ → Type 0
+TopIs ks d None = d ≡ 0
+TopIs ks d (Some k) = (k ≡ top_of ks d) × (0 < d)
 
 -- 7, more than so many open
 unfoldable pub opened : Stand → ℕ → Bracket → Stand
