@@ -4,13 +4,12 @@ use mathlib.Core.Bool.{Bool, true, false, cond, ◌&&◌}
 use mathlib.Core.List.{List, [], ◌∷◌}
 use lib.Pointwise.{pointwise}
 use Rattle.std.proofs.Common.{Option, Some, None, unwrap_or}
-use Prim.Native.Nat.{ℕ, ◌+◌, ◌-◌, ◌*◌, ◌%◌, ◌≤◌, ◌<◌}
+use Prim.Native.Nat.{ℕ, ◌+◌, ◌-◌, ◌*◌, ◌≤◌, ◌<◌}
 use native.Mathlib.Omega.{arith}
 use native.Mathlib.Numerals.{add-one}
 use lib.Dec.{eqb}
 use lib.ListN.{length, get_or, take, drop}
 use lib.Seq.{take-suc, take_all}
-use borrow.Author.Tests.{eq-eqb, ne_eqb}
 use Rattle.meaning.specs.declared.Record.{Record}
 use Rattle.meaning.specs.Once.{same}
 use Rattle.meaning.specs.Between.Words.{mid_of, high_of}
@@ -22,7 +21,7 @@ use Rattle.once.proofs.KeepingSeekLaws.{Sought, seek_begins, seek_stands, seek_k
 use Rattle.once.proofs.KeepingSeekLaws.{seek_ends}
 use Rattle.tape.specs.declared.Words.{Words}
 use Rattle.tape.specs.Between.Shapes.{words_at}
-use Rattle.tape.specs.Between.Key.{array_to, object_to, KeyIs, SlotHolds, SlotIs, other_tag, told, Seeks, Repeats, Coming, Notes, Innermost}
+use Rattle.tape.specs.Between.Key.{KeyIs, SlotHolds, SlotIs, other_tag, told, Seeks, Repeats, Coming, Notes}
 use Rattle.tape.proofs.LookingLaws.{record_numbers}
 
 -- ---- equal bytes
@@ -113,23 +112,6 @@ module _ {tape store key : List ℕ} {tag : ℕ} {seen : List ℕ} {i : ℕ} (w 
 
 pub slots_over : {tape store key : List ℕ} {tag : ℕ} {seen : List ℕ} → Seeking tape store key tag seen None → Repeats tape store key tag seen false
 slots_over w at from s t = sym (seek_ends (w.sought at from t.tagged) s t.keeps)
-
--- ---- the innermost open container
-
-pub none_open : (stack : List ℕ) (depth : ℕ) → depth ≡ 0 → Innermost stack depth false
-none_open stack depth e [] s l = refl
-none_open stack depth e (o ∷ os) s l = absurd (omega arith)
-
-pub some_open : (stack : List ℕ) (depth : ℕ) → (depth ≡ 0 → ⊥) → Innermost stack depth (eqb (get_or stack (depth - 1) 0 % 2) 1)
-some_open stack depth n [] s l = absurd (n (sym l))
-some_open stack depth n (array_to e ∷ os) s l =
-    let z : length os ≡ depth - 1 = omega arith in
-    let q = s.0 in
-    ne_eqb (get_or stack (depth - 1) 0 % 2) 1 (λ g. let y : get_or stack (depth - 1) 0 ≡ 2 * e = ap (λ (k : ℕ). get_or stack k 0) (sym z) ∙ q in omega arith)
-some_open stack depth n (object_to e ∷ os) s l =
-    let z : length os ≡ depth - 1 = omega arith in
-    let y : get_or stack (depth - 1) 0 ≡ 2 * e + 1 = ap (λ (k : ℕ). get_or stack k 0) (sym z) ∙ s.0 in
-    eq-eqb (get_or stack (depth - 1) 0 % 2) 1 (omega arith)
 
 -- ---- a key comes
 

@@ -12,9 +12,6 @@ pub loop-i-init : goal.loop-i-init
 unfolding depth_limit
 loop-i-init c = rw c.requires.1 (state_start _ _ c.requires.0.few refl refl)
 
-pub turn_at-requires : goal.turn_at-requires
-turn_at-requires c = c.requires.0.short
-
 pub returns-in-None : goal.returns-in-None
 returns-in-None c = answer_no c.loop-i.invariant c.requires.0
     c.if-i-end.true c.turn_at.ensures c.in-None.is
@@ -25,16 +22,6 @@ overflow_sub-rest c = omega (
   (let p = passed c.turn_at.ensures c.in-Some-Pass.is c.in-Some-Pass.field-0-is in
       state_two c.loop-i.invariant c.if-i-end.true p.r p.there pass_is p.turned),
 )
-
-pub overflow_add-i : goal.overflow_add-i
-overflow_add-i c = omega (
-  arith,
-  (let p = passed c.turn_at.ensures c.in-Some-Pass.is c.in-Some-Pass.field-0-is in p.there.within),
-  c.requires.0.few,
-)
-
-pub loop-i-smaller-in-Some-Pass : goal.loop-i-smaller-in-Some-Pass
-loop-i-smaller-in-Some-Pass c = omega (arith, (let p = passed c.turn_at.ensures c.in-Some-Pass.is c.in-Some-Pass.field-0-is in p.there.within))
 
 pub loop-i-preserved-in-Some-Pass : goal.loop-i-preserved-in-Some-Pass
 loop-i-preserved-in-Some-Pass c = let p = passed c.turn_at.ensures c.in-Some-Pass.is c.in-Some-Pass.field-0-is in
@@ -87,16 +74,6 @@ overflow_add-depth c = omega (
   depth_limit_small,
 )
 
-pub overflow_add-i-in-Some-Open : goal.overflow_add-i-in-Some-Open
-overflow_add-i-in-Some-Open c = omega (
-  arith,
-  (let p = opened c.turn_at.ensures c.in-Some-Open.is c.in-Some-Open.field-0-is in p.there.within),
-  c.requires.0.few,
-)
-
-pub loop-i-smaller-in-Some-Open : goal.loop-i-smaller-in-Some-Open
-loop-i-smaller-in-Some-Open c = omega (arith, (let p = opened c.turn_at.ensures c.in-Some-Open.is c.in-Some-Open.field-0-is in p.there.within))
-
 pub loop-i-preserved-in-Some-Open : goal.loop-i-preserved-in-Some-Open
 loop-i-preserved-in-Some-Open c = let p = opened c.turn_at.ensures c.in-Some-Open.is c.in-Some-Open.field-0-is in
     state_opened c.loop-i.invariant c.if-i-end.true p.r p.there _ _ p.turned
@@ -105,9 +82,6 @@ pub returns-then-depth-eq0 : goal.returns-then-depth-eq0
 returns-then-depth-eq0 c = rw c.ended.ensures (answer_ended c.loop-i.invariant c.requires.0
     (λ j. (c.type_inv.tape j).fits)
     (λ j. (c.type_inv.store j).fits) c.if-i-end.false c.if-depth-eq0.true)
-
-pub overflow_sub-depth : goal.overflow_sub-depth
-overflow_sub-depth c = omega (arith, c.if-depth-eq0.false)
 
 pub offset_bounds-ends-depth-then-counted : goal.offset_bounds-ends-depth-then-counted
 offset_bounds-ends-depth-then-counted c = omega (arith, depth_limit_small, c.loop-i.invariant.deepest)
@@ -122,9 +96,6 @@ offset_bounds-rests-depth-then-counted c = omega (arith, depth_limit_small, c.lo
 pub bounds-rests-depth-then-counted : goal.bounds-rests-depth-then-counted
 unfolding depth_limit
 bounds-rests-depth-then-counted c = omega (arith, c.if-depth-eq0.false, c.loop-i.invariant.deepest)
-
-pub loop-i-smaller : goal.loop-i-smaller
-loop-i-smaller c = omega (arith, c.if-depth-eq0.false)
 
 pub loop-i-preserved : goal.loop-i-preserved
 loop-i-preserved c = state_pop c.loop-i.invariant c.if-i-end.false c.if-depth-eq0.false

@@ -1,13 +1,7 @@
 use native.Mathlib.Omega.{arith}
-use Rattle.tape.proofs.KeyWalkLaws.{closing_none, closing_sane, closing_room, closing_object, closing_array, closing_all}
+use Rattle.tape.proofs.KeyWalkLaws.{closing_sane, closing_room, closing_object, closing_array, closing_all}
 use Rattle.tape.proofs.key.closed.Goals as goal
 use Rattle.tape.proofs.key.closed.Goals.{then-end-eq1, else-end-eq1}
-
-pub loop-depth-init : goal.loop-depth-init
-loop-depth-init c = closing_none _ _ _ _
-
-pub overflow_sub-end : goal.overflow_sub-end
-overflow_sub-end c = omega arith
 
 pub offset_bounds-ends-depth : goal.offset_bounds-ends-depth
 offset_bounds-ends-depth c = omega (arith, closing_room c.loop-depth.invariant c.requires)
@@ -15,30 +9,15 @@ offset_bounds-ends-depth c = omega (arith, closing_room c.loop-depth.invariant c
 pub bounds-ends-depth : goal.bounds-ends-depth
 bounds-ends-depth c = omega (arith, closing_room c.loop-depth.invariant c.requires)
 
-pub shape_of-seen-then-end-index : goal.shape_of-seen-then-end-index
-shape_of-seen-then-end-index c = c.loop-depth.invariant.same_length
-
-pub returns-then-end-index : goal.returns-then-end-index
-returns-then-end-index c = (λ n. c.if-end-index.true, c.loop-depth.invariant.onward)
-
 pub closed-requires : goal.closed-requires
 closed-requires c = closing_sane c.loop-depth.invariant
     c.requires
-
-pub overflow_sub-depth : goal.overflow_sub-depth
-overflow_sub-depth c = omega arith
-
-pub loop-depth-smaller : goal.loop-depth-smaller
-loop-depth-smaller c = omega arith
 
 pub loop-depth-preserved : goal.loop-depth-preserved
 loop-depth-preserved c = elim c.if-end-eq1.branch [
   | then-end-eq1 w ↦ rw w.seen-is (closing_object c.loop-depth.invariant c.loop-depth-test.true c.if-end-index.false w.if-end-eq1.true _ w.closed.ensures)
   | else-end-eq1 w ↦ rw w.seen-is (closing_array c.loop-depth.invariant c.loop-depth-test.true c.if-end-index.false w.if-end-eq1.false)
 ]
-
-pub shape_of-seen : goal.shape_of-seen
-shape_of-seen c = c.loop-depth.invariant.same_length
 
 pub returns : goal.returns
 returns c = (λ n. absurd (omega arith), closing_all c.loop-depth.invariant c.loop-depth-test.false)

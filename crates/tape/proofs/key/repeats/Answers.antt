@@ -1,9 +1,5 @@
-use Rattle.once.proofs.KeepingLaws.{keeps_sane}
 use Rattle.tape.proofs.KeyLaws.{seek_start, slot_stands, slot_holds, slot_falls, slot_found, slot_other, slots_over}
 use Rattle.tape.proofs.key.repeats.Goals as goal
-
-pub newest-at-requires : goal.newest-at-requires
-newest-at-requires c = keeps_sane c.requires.1.1.1.keeps
 
 pub loop-at-init : goal.loop-at-init
 loop-at-init c = seek_start _ _ _ _ _ _ c.newest-at.ensures

@@ -1,13 +1,10 @@
 -- `key::step`: by the mark. Assumes nothing.
 use native.Mathlib.Omega.{arith}
 use Rattle.tape.proofs.KeyLaws.{key_inside}
-use Rattle.tape.proofs.KeyWalkLaws.{walk_opens, ready_within, ready_inside, array_room, object_room, key_there, key_comes, walk_idle, walk_array}
+use Rattle.tape.proofs.KeyWalkLaws.{walk_opens, ready_inside, array_room, object_room, key_there, key_comes, walk_idle, walk_array}
 use Rattle.tape.proofs.KeyWalkLaws.{walk_object}
 use Rattle.tape.proofs.KeyWalkLaws.{walk_no_key, walk_key}
 use Rattle.tape.proofs.key.step.Goals as goal
-
-pub words_at-w-requires : goal.words_at-w-requires
-words_at-w-requires c = ready_within c.requires.1
 
 pub overflow_add-end : goal.overflow_add-end
 overflow_add-end c = omega (

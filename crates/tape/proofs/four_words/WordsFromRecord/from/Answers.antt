@@ -12,10 +12,6 @@ pub returns-in-Bool : goal.returns-in-Bool
 unfolding mark_of low_of mid_of high_of
 returns-in-Bool c = rw c.in-Bool.is (written _ _ tt (record { mark_is = refl; low_is = refl; mid_is = bool_flag _ _ c.from.ensures; high_is = refl }))
 
-pub returns-in-Number : goal.returns-in-Number
-unfolding mark_of low_of mid_of high_of
-returns-in-Number c = rw c.in-Number.is c.from-in-Number.ensures
-
 pub returns-in-Str : goal.returns-in-Str
 unfolding mark_of low_of mid_of high_of
 returns-in-Str c = rw c.in-Str.is (written_as _ _ tt c.two_words.ensures)
@@ -27,10 +23,6 @@ returns-in-Key c = rw c.in-Key.is (written_as _ _ tt c.two_words-in-Key.ensures)
 pub returns-in-Bin : goal.returns-in-Bin
 unfolding mark_of low_of mid_of high_of
 returns-in-Bin c = rw c.in-Bin.is (written_as _ _ tt c.two_words-in-Bin.ensures)
-
-pub returns-in-Time : goal.returns-in-Time
-unfolding mark_of low_of mid_of high_of
-returns-in-Time c = rw c.in-Time.is c.from-in-Time.ensures
 
 pub returns-in-Array : goal.returns-in-Array
 unfolding mark_of low_of mid_of high_of
