@@ -1,4 +1,4 @@
--- Bytes that stand for themselves: one, a block, a run, and a run's share of a string's text. Assumes nothing.
+-- Bytes that stand for themselves: one, a run, and a run's share of a string's text. Assumes nothing.
 use mathlib.Core.Path.{◌≡◌, sym, ap, ap₂, ◌∙◌, subst}
 use mathlib.Core.Bool.{Bool, true, not}
 use mathlib.Core.List.{List, [], ◌∷◌, ◌++◌}
@@ -18,25 +18,6 @@ use Rattle.writer.proofs.LaidLaws.{drop_more}
 
 pub ease_of : (b r : ℕ) → ((r ≡ 0 → ⊥) → (ch " " ≤ b) × (b ≡ ch "\"" → ⊥) × (b ≡ ch "\\" → ⊥)) → Ease b r
 ease_of b r h = record { plain = λ n. escaped_plain b (h n).1 (h n).2 (h n).0 }
-
--- ---- a block
-
-pub all_none : (s : List ℕ) (at r : ℕ) → EaseAll s at 0 r
-all_none s at r = record { each = λ k h. absurd (omega arith) }
-
-pub all_more : (s : List ℕ) (at k least b r : ℕ) → EaseAll s at k least → Ease (get_or s (at + k) 0) b → (r ≤ least) × (r ≤ b) → EaseAll s at (k + 1) r
-all_more s at k least b r d e h =
-    record {
-      each = λ j l. elim (dec_lt j k) [
-        | yes g ↦ record { plain = λ n. (d.each j g).plain (λ q. n (omega arith)) }
-        | no g ↦
-            let z : k ≡ j = omega arith in
-            subst (λ (x : ℕ). Ease (get_or s (at + x) 0) r) z (record { plain = λ n. e.plain (λ q. n (omega arith)) })
-      ];
-    }
-
-pub all_full : (s : List ℕ) (at k r : ℕ) → k ≤ 16 → 16 ≤ k → EaseAll s at k r → EaseAll s at 16 r
-all_full s at k r l h d = let z : k ≡ 16 = omega arith in subst (λ (x : ℕ). EaseAll s at x r) z d
 
 -- ---- a run
 
