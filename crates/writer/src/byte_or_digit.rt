@@ -57,7 +57,7 @@ fn few_digits(out: &mut [u8], w: usize, n: u64) -> usize
     w
 }
 
-// The same of any w, four by one division as long as there are four.
+// The same of any w, four by one division as long as there are four: from the end, with what is left of n beside the place, so it is no range.
 fn write_digits(out: &mut [u8], w: usize, n: u64) -> usize
     requires { w ≤ length out.old }
     ensures { Put (fixed w n) out.old out.new result }

@@ -53,7 +53,8 @@ fn plain_last(s: &[u8]) -> bool
     s.len() >= 16 && block(s, s.len() - 16) != 0
 }
 
-// The same place, in blocks of sixteen as long as all of a block is plain; the last block is taken from the end.
+// The same place, in blocks of sixteen as long as all of a block is plain; the last block is taken from the end. The place is wanted after the
+// loop, so it is no range.
 pub fn plain_run(s: &[u8], from: usize) -> usize
     requires { from ≤ length s.now }
     ensures { PlainRun s.now from result }

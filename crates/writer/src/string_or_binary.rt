@@ -84,7 +84,7 @@ fn short_at(out: &mut [u8], at: usize, s: &[u8]) -> usize
     end
 }
 
-// Run by run.
+// Run by run: the place goes on by a whole run or by one byte, so it is no range.
 fn runs_at(out: &mut [u8], at: usize, s: &[u8]) -> usize
     requires { at + length (escapes s.now) ≤ length out.old }
     ensures { PutAt (escapes s.now) at out.old out.new result }
@@ -137,7 +137,7 @@ fn short_len(s: &[u8]) -> usize
     total
 }
 
-// The same, run by run.
+// The same, run by run: no range here either.
 fn runs_len(s: &[u8]) -> usize
     requires { length s.now ≤ store_limit }
     ensures { result ≡ length (quoted s.now) }
