@@ -36,7 +36,6 @@ use Rattle.once.specs.Windows.{level}
 use Rattle.once.proofs.KeepingLaws.{keeps_further, goes_none}
 use Rattle.items.specs.declared.Item.{Item}
 use Rattle.std.specs.Prelude.{Result, Ok, Err}
-use Rattle.meaning.specs.declared.Refusal.TheVariants.{TooDeep}
 use Rattle.reader.specs.declared.cursor.Ahead.{Ahead}
 use Rattle.reader.specs.declared.cursor.After.{After}
 
@@ -629,10 +628,6 @@ pub opened_seen : {text : List ℕ} {c : Cursor} (b : Bracket) (n : Cursor) → 
     → Seen text seen (n.at - 1)
 opened_seen {text} b n v h seen t =
     seen_further text (n.at - 1) (omega (arith, h.moved.past)) (omega (arith, h.moved.within, v.ready.short)) t
-
-pub opened_deep : {text : List ℕ} {c : Cursor} (b : Bracket) (n : Cursor) (depth : ℕ) → depth ≡ 0 → Opened text c b n
-    → Left text (wants depth) (λ k. Shut text c.at depth k) c.at (TooDeep c.at)
-opened_deep b n depth e h = λ k s. rw e (h.deep k)
 
 took_inside : {text tape tape' entry store store' seen seen' : List ℕ} (b : Bracket) (d depth : ℕ) → depth ≡ suc d → (c n last : Cursor)
     → Ready text c → Opened text c b n → store ≡ entry

@@ -100,11 +100,6 @@ pub part_length : (text : List ℕ) (p : ℕ) → length (take (length text - p)
 part_length text p = ap length (part_here text p) ∙ simp length-drop refl
 
 module _ (text : List ℕ) (p start : ℕ) (entry : List ℕ) (h : p ≤ length text) where
-  pub part_refused : (exit : List ℕ) (why : ℕ → Refusal)
-      → ((o : ℕ) → ran Strings.scan o Strings.begin (take (length text - p) (drop p text)) ≡ broke (why o))
-      → Unlinked Strings.scan Strings.begin text p start entry exit (why p)
-  part_refused exit why w = in_part (ap (ran Strings.scan p Strings.begin) (sym (part_here text p)) ∙ w p)
-
   pub part_closed : (exit : List ℕ) (taken n : ℕ) → PartSays (take (length text - p) (drop p text)) start entry exit (Ok (record { value = n; end = taken }))
       → Ended Strings.scan Strings.begin text p start entry exit (p + taken) n
   part_closed exit taken n w =

@@ -141,28 +141,11 @@ module _ {text : List ℕ} {p q : ℕ} where
   pub laying : Blanks text p q → Laying text p q
   laying v = record { goes = v.goes; onward = v.onward; stopped = v.stopped }
 
-  pub layout_end : Laying text p q → length text ≤ q → LayoutEnds text p q
-  layout_end v h = record {
-    goes = v.goes;
-    onward = v.onward;
-    bare = record { no_blank = v.stopped; no_hash = λ g. absurd (omega arith); no_slash = λ g. absurd (omega arith) };
-  }
-
   pub layout_stop : Laying text p q → (class_of (get_or text q 0) ≡ hash_c → ⊥) → (class_of (get_or text q 0) ≡ slash_c → ⊥) → LayoutEnds text p q
   layout_stop v i j = record {
     goes = v.goes;
     onward = v.onward;
     bare = record { no_blank = v.stopped; no_hash = λ g. i; no_slash = λ g. j };
-  }
-
-  pub laid_breaks : Laying text p q → {r : ℕ} → Breaks text base q r → Breaks text base p r
-  laid_breaks v w s d k = v.goes s d k ∙ w s d k
-
-  pub laid_more : Laying text p q → {r t : ℕ} → Commented text base q r → Blanks text r t → Laying text p t
-  laid_more v w b = record {
-    goes = λ s d k. v.goes s d k ∙ w.goes s d k ∙ b.goes s d k;
-    onward = then v.onward (then w.onward b.onward);
-    stopped = b.stopped;
   }
 
 -- ---- in a line comment

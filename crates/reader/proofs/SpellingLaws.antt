@@ -22,7 +22,7 @@ use Rattle.machine.specs.Strings.{Bad, fine, spoilt, whole, mk, St, one, two, li
 use Rattle.machine.specs.Names
 use Rattle.machine.specs.Machine.{class_of, quote_c}
 use Rattle.items.specs.Between.Places.{byte_at, Goes, ran_at, Runs}
-use Rattle.items.specs.Between.StringPart.{Read, Blamed, Stopped, Begun}
+use Rattle.items.specs.Between.StringPart.{Read, Blamed, Begun}
 use Rattle.items.proofs.PlacesLaws.{alike, byte_in, byte_out, runs_by, broken_by, ended_by, run_take, run_stop, run_break, end_stop, end_break}
 use Rattle.reader.specs.Between.Joined.{Alone, Joining, Stray}
 use Rattle.reader.specs.Between.Repeat.{KeyIs}
@@ -417,11 +417,6 @@ module _ (text : List ℕ) (p quote : ℕ) (small : quote < 256) where
               (λ acc. run_take Strings.scan text p (between quote bad acc) (between quote bad (acc ++ (get_or text p 0 ∷ []))) l (byte_on d bad acc true x))
           by e u bad w false x = absurd (inside_whole w (NotGrammar p) (λ acc. run_break Strings.scan text p (between quote bad acc) (NotGrammar p) l
               (byte_on d bad acc false x)))
-
-  -- an escape
-  pub escaped_stops : (q : ℕ) → Stopped text p q → StepSays text (Spelling.Quoted p quote) Spelt.Over
-  escaped_stops q g e u w =
-      absurd (inside_whole w.1 (NotGrammar (0 + q)) (λ acc. sym (zeroed Strings.scan text (between quote w.0 acc) p) ∙ g.ends 0 quote small w.0 acc))
 
   pub escaped_bad : (q : ℕ) → Blamed text p q → StepSays text (Spelling.Quoted p quote) (Spelt.On (Spelling.Quoted q quote))
   escaped_bad q g = (

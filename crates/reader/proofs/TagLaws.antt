@@ -7,9 +7,7 @@ use mathlib.Core.Logic.{◌⊎◌, inl, inr}
 use mathlib.Core.List.{List, [], ◌∷◌, ◌++◌}
 use Prim.Native.Nat.{ℕ, ◌+◌, ◌≤◌, ◌<◌}
 use native.Mathlib.Omega.{arith}
-use lib.Dec.{eqb}
 use lib.ListN.{length, get_or}
-use borrow.Author.Tests.{eqb-true}
 use Rattle.meaning.specs.Letters.{ch}
 use Rattle.machine.specs.Names
 use Rattle.machine.specs.Machine.{class_of, colon_c}
@@ -49,12 +47,6 @@ module _ (text : List ℕ) (q salt : ℕ) where
         x ∙ ap finish y.1.1 ∙ ap (λ (a : List ℕ). finish (mixes (seed salt) a)) (w y.0 u y.1.0) ∙ hash_done salt u
 
 -- ---- a key in quotes
-
-pub no_colon : (text : List ℕ) (p : ℕ) → ColonAtSays text p false
-no_colon text p e = absurd (let z : ◌≡◌ {A = ℕ} 0 1 = cc in omega arith)
-
-pub colon_says : (text : List ℕ) (p : ℕ) → p < length text → ColonAtSays text p (eqb (get_or text p 0) (ch ":"))
-colon_says text p l e = (l, eqb-true _ _ e)
 
 -- no part follows before a colon
 colon_alone : (text : List ℕ) (p : ℕ) → p < length text → get_or text p 0 ≡ ch ":" → Alone text p p

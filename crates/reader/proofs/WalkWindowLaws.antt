@@ -5,7 +5,7 @@ use mathlib.Core.Logic.{inr}
 use mathlib.Core.List.{List}
 use Prim.Native.Nat.{ℕ, ◌≤◌, ◌<◌, ◌^◌}
 use native.Mathlib.Omega.{arith}
-use lib.ListN.{length, replicate, length-replicate}
+use lib.ListN.{length, replicate}
 use Rattle.meaning.specs.Limits.{text_limit}
 use Rattle.meaning.specs.Meaning.{Meaning}
 use Rattle.meaning.specs.Between.Events.{Event, Spans}
@@ -34,10 +34,6 @@ begun_there {text} {seen} {from = f} a seen' b = begun_keeps (KeyIs text) (hash_
 pub window_seen : {text seen : List ℕ} {best : Option ℕ} {from : ℕ} → AtWindow text seen best from → (seen' : List ℕ) → Begun from seen seen'
     → Seen text seen' 0
 window_seen {from = f} a seen' b = inr (f, (nothing, begun_there a seen' b))
-
-pub zeroes_window : (n : ℕ) → 16 ≤ n → n < 2 ^ 32 → {text : List ℕ} {best : Option ℕ} {from : ℕ} → Searching text best (Some from)
-    → AtWindow text (replicate n 0) best from
-zeroes_window n l m s = let e = length-replicate {A = ℕ} n 0 in record { searching = s; roomy = omega arith; small = omega arith }
 
 -- ---- the keys of the text
 

@@ -13,8 +13,5 @@ pub returns-in_err-next : goal.returns-in_err-next
 returns-in_err-next c = let p = err_from_is_err_and c.from_residual-in_err-next.result c.from_residual-in_err-next.ensures.1 in
     rw (p.1, p.2) (walk_refused _ _ c.in_ok-pass.ensures _ c.in_err-next.ensures)
 
-pub ended-requires : goal.ended-requires
-ended-requires c = c.in_ok-next.ensures.within
-
 pub returns : goal.returns
 returns c = walk_ended _ _ c.in_ok-pass.ensures _ _ _ _ _ _ _ c.requires.0 c.in_ok-next.ensures c.ended.result c.ended.ensures

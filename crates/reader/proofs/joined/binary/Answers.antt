@@ -9,18 +9,12 @@ use Rattle.reader.proofs.joined.binary.Goals as goal
 pub loop-part-init : goal.loop-part-init
 loop-part-init c = (no_part Unit binary_part_of c.args.text.now c.args.from c.args.start c.args.store.now (omega arith), refl)
 
-pub binary_part-requires : goal.binary_part-requires
-binary_part-requires c = (c.loop-part.invariant.0.within, omega (arith, c.loop-part.invariant.0.placed, c.loop-part.invariant.0.room, c.requires))
-
 pub returns-in_err-part : goal.returns-in_err-part
 returns-in_err-part c = let p = err_from_is_err_and c.from_residual.result c.from_residual.ensures.1 in
     rw (p.1, p.2) (parts_refused binaries c.loop-part.invariant.0 _ c.in_err-part.ensures)
 
 pub overflow_add-out : goal.overflow_add-out
 overflow_add-out c = omega (arith, parts_short binaries c.loop-part.invariant.0 c.requires.1 c.in_ok-part.ensures)
-
-pub overflow_sub-result : goal.overflow_sub-result
-overflow_sub-result c = omega (arith, c.loop-part.invariant.0.placed)
 
 pub returns-in-Last : goal.returns-in-Last
 returns-in-Last c = parts_last binaries c.loop-part.invariant.0 _ (omega (arith, c.loop-part.invariant.0.placed))

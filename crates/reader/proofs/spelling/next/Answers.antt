@@ -4,9 +4,6 @@ use Rattle.reader.proofs.spelling.next.Goals as goal
 pub loop-b-init : goal.loop-b-init
 loop-b-init c = not_stepped c.args.text.now c.args.from c.requires
 
-pub step-requires : goal.step-requires
-step-requires c = c.loop-b.invariant.within
-
 pub returns-in-Over : goal.returns-in-Over
 returns-in-Over c = stepped_over c.args.text.now c.args.from
     c.loop-b.s c.loop-b.invariant (rw c.in-Over.is at c.step.ensures)

@@ -1,18 +1,12 @@
 use Rattle.reader.proofs.TagLaws.{tag_begins, tag_more, tag_done}
 use Rattle.reader.proofs.tag.spelled_tag.Goals as goal
 
-pub begun-s-requires : goal.begun-s-requires
-begun-s-requires c = c.requires
-
 pub loop-b-init : goal.loop-b-init
 loop-b-init c = (
   c.begun-s.ensures.0,
   tag_begins c.args.text.now c.args.at
       c.args.salt _ _ c.seeded-h.ensures c.begun-s.ensures.1,
 )
-
-pub next-requires : goal.next-requires
-next-requires c = c.loop-b.invariant.0
 
 pub returns : goal.returns
 returns c = tag_done c.args.text.now

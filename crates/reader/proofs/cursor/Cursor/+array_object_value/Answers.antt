@@ -12,9 +12,6 @@ use Rattle.reader.proofs.cursor.Cursor.+array_object_value.Goals.{array-in-Close
 use Rattle.reader.proofs.cursor.Cursor.+array_object_value.Goals.{object-in-Close, object-in-More+in_ok-last+in_ok-next-2+in-Close-2}
 use Rattle.reader.proofs.cursor.Cursor.+array_object_value.Goals as goal
 
-pub array-overflow_add-here : goal.array-overflow_add-here
-array-overflow_add-here t c = omega (arith, c.requires.0.records, c.requires.0.within)
-
 pub array-loop-next-init : goal.array-loop-next-init
 array-loop-next-init t c = (
   round_first c.requires.0 c.args.seen.now c.args.seen.now square refl c.args.tape.now c.args.store.now c.args.depth refl c.requires.1,
@@ -71,9 +68,6 @@ array-loop-next-preserved t c = (
 
 pub object-opened-requires : goal.object-opened-requires
 object-opened-requires t c = seen_opens _ c.requires.1
-
-pub object-overflow_add-here : goal.object-overflow_add-here
-object-overflow_add-here t c = omega (arith, c.requires.0.records, c.requires.0.within)
 
 pub object-loop-next-init : goal.object-loop-next-init
 object-loop-next-init t c = (
@@ -134,6 +128,10 @@ object-loop-next-preserved t c = (
   c.value.auto.store ∙ c.member_ahead.auto.store ∙ c.loop-next.invariant.2,
   c.value.auto.seen ∙ c.member_ahead.auto.seen ∙ c.loop-next.invariant.3,
 )
+
+pub value-returns-in_err-item : goal.value-returns-in_err-item
+value-returns-in_err-item t c = let p = err_from_is_err_and c.from_residual.result c.from_residual.ensures.1 in
+    rw (p.1, p.2) (λ k s. c.in_err-item.ensures c.args.depth k s)
 
 pub value-array-requires : goal.value-array-requires
 value-array-requires t c = let h = rw c.in-Array.is at c.in_ok-item.ensures in (

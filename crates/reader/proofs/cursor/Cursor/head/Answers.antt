@@ -1,6 +1,5 @@
 use mathlib.Core.Path.{refl, ap}
 use Prim.Native.Nat.{◌+◌}
-use Rattle.std.proofs.lemmas.Result.{err_from_is_err_and}
 use Rattle.reader.proofs.CursorBracketLaws.{none_wanted, opens_array, opens_object}
 use Rattle.reader.proofs.cursor.Cursor.head.Goals as goal
 
@@ -12,10 +11,6 @@ returns-then-b-eq91 c = (opens_array c.args.text.now c.args.self c.if-at-text.fa
 
 pub returns-then-b-eq123 : goal.returns-then-b-eq123
 returns-then-b-eq123 c = (opens_object c.args.text.now c.args.self c.if-at-text.false c.if-b-eq123.true, refl)
-
-pub returns-in_err-item : goal.returns-in_err-item
-returns-in_err-item c = let p = err_from_is_err_and c.from_residual.result c.from_residual.ensures.1 in
-    rw (p.1, p.2) (c.in_err-item.ensures)
 
 pub returns : goal.returns
 returns c = record { scalar = c.in_ok-item.ensures; records = refl; stored = ap (λ n. c.args.self.stored + n) c.stored_by.ensures }

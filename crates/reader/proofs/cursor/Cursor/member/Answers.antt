@@ -6,9 +6,6 @@ pub returns-in_err-key : goal.returns-in_err-key
 returns-in_err-key c = let p = err_from_is_err_and c.from_residual.result c.from_residual.ensures.1 in
     rw (p.1, p.2) (member_refused c.args.text.now c.args.self c.args.store.now c.requires _ c.in_err-key.ensures)
 
-pub colon-requires : goal.colon-requires
-colon-requires c = c.in_ok-key.ensures.within
-
 pub returns-in_err-held : goal.returns-in_err-held
 returns-in_err-held c = let p = err_from_is_err_and c.from_residual-in_err-held.result c.from_residual-in_err-held.ensures.1 in
     rw (p.1, p.2) (member_unsaid c.args.text.now c.args.self c.args.store.now _ _ _ c.in_ok-key.ensures _ c.in_err-held.ensures)

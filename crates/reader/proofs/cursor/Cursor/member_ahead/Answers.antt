@@ -3,10 +3,6 @@ use Rattle.std.proofs.lemmas.Result.{err_from_is_err_and}
 use Rattle.reader.proofs.CursorBracketLaws.{member_at, member_none, member_key, member_tabled, member_begins}
 use Rattle.reader.proofs.cursor.Cursor.member_ahead.Goals as goal
 
-pub returns-in_err-next : goal.returns-in_err-next
-returns-in_err-next c = let p = err_from_is_err_and c.from_residual.result c.from_residual.ensures.1 in
-    rw (p.1, p.2) (c.in_err-next.ensures)
-
 pub returns-in-Close : goal.returns-in-Close
 returns-in-Close c = (rw c.in-Close.is at c.in_ok-next.ensures, refl, refl, refl)
 
