@@ -70,7 +70,6 @@ module _ (x : Spot) (ks : List ℕ) (y : Spot) where
 
   -- a byte after a value
   module _ (b : ℕ) (a : after_value (due_at x) ≡ true) where
-
     pub after_close : (c : Bracket) → b ≡ closing c → Stepped (λ s p. Steps.closed s p c) x ks y ks
         → Stepped (λ s p. on_after s p (class_of b)) x ks y ks
     after_close c e (stays f g) = stays f g

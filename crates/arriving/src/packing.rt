@@ -43,10 +43,10 @@ const ZERO: Flat = Flat {
     e: 0,
 };
 
-// What is due, as a number.
 impl From<Due> for u8 {
     ghost from_gives = { λ due n. n ≡ due_number due };
 
+    // What is due, as a number.
     fn from(due: Due) -> u8 {
         match due {
             Due::Value => 0,
@@ -63,10 +63,10 @@ impl From<Due> for u8 {
     }
 }
 
-// What the number says is due.
 impl From<usize> for Due {
     ghost from_gives = { λ n due. due ≡ due_of n };
 
+    // What the number says is due.
     fn from(n: usize) -> Due {
         match n {
             0 => Due::Value,
@@ -100,10 +100,10 @@ fn flat_decimal(sort: u8, decimal: Decimal, down: bool, power: usize) -> Flat
     }
 }
 
-// The decimal number that these numbers are.
 impl From<Flat> for Decimal {
     ghost from_gives = { λ f decimal. decimal ≡ decimal_of f };
 
+    // The decimal number that these numbers are.
     fn from(f: Flat) -> Decimal {
         Decimal {
             first: f.a as usize,
@@ -148,10 +148,10 @@ fn flat_open(first: usize, count: u8, nought: bool, value: u16, acc: Acc) -> Fla
     }
 }
 
-// A number.
 impl From<Figure> for Flat {
     ghost from_gives = { λ figure f. (f ≡ flat_figure figure) × FitFigure figure };
 
+    // A number.
     fn from(figure: Figure) -> Flat {
         match figure {
             Figure::Sign(first) => flat_begun(0, false, first, 0),
@@ -196,10 +196,10 @@ fn open_of(f: Flat) -> Figure
     }
 }
 
-// Any number, alike.
 impl From<Flat> for Figure {
     ghost from_gives = { λ f figure. figure ≡ figure_of f };
 
+    // Any number, alike.
     fn from(f: Flat) -> Figure {
         let first = f.a as usize;
         let decimal = Decimal::from(f);
@@ -272,10 +272,10 @@ fn flat_moment(stamp: Stamp, moment: Moment) -> Flat
     }
 }
 
-// The time value that these numbers are: its first place and what holds of it.
 impl From<Flat> for Stamp {
     ghost from_gives = { λ f stamp. stamp ≡ stamp_of f };
 
+    // The time value that these numbers are: its first place and what holds of it.
     fn from(f: Flat) -> Stamp {
         Stamp {
             first: f.a as usize,
@@ -285,10 +285,10 @@ impl From<Flat> for Stamp {
     }
 }
 
-// Its field, alike.
 impl From<Flat> for Slot {
     ghost from_gives = { λ f slot. slot ≡ slot_of f };
 
+    // Its field, alike.
     fn from(f: Flat) -> Slot {
         let year = (f.b % 65536) as u16;
         let month = (f.c % 256) as u8;
@@ -304,10 +304,10 @@ impl From<Flat> for Slot {
     }
 }
 
-// Where in it, alike.
 impl From<Flat> for Moment {
     ghost from_gives = { λ f moment. moment ≡ moment_of f };
 
+    // Where in it, alike.
     fn from(f: Flat) -> Moment {
         match f.sort {
             0..=6 => Moment::Field {
@@ -360,10 +360,10 @@ fn flat_inner(quoted: Quoted, inner: Inner) -> Flat
     }
 }
 
-// The string part that these numbers are.
 impl From<Flat> for Quoted {
     ghost from_gives = { λ f quoted. quoted ≡ quoted_of f };
 
+    // The string part that these numbers are.
     fn from(f: Flat) -> Quoted {
         Quoted {
             quote: f.x,
@@ -373,10 +373,10 @@ impl From<Flat> for Quoted {
     }
 }
 
-// Where in it, alike.
 impl From<Flat> for Inner {
     ghost from_gives = { λ f inner. inner ≡ inner_of f };
 
+    // Where in it, alike.
     fn from(f: Flat) -> Inner {
         let at = f.c as usize;
         let left = f.y;
@@ -411,10 +411,10 @@ fn flat_plain(kind: u8, sort: u8, quote: u8, at: usize) -> Flat
     }
 }
 
-// A binary part.
 impl From<Octets> for Flat {
     ghost from_gives = { λ octets f. f ≡ flat_octets octets };
 
+    // A binary part.
     fn from(octets: Octets) -> Flat {
         match octets {
             Octets::Dollar => flat_plain(9, 0, 0, 0),
@@ -430,10 +430,10 @@ impl From<Octets> for Flat {
     }
 }
 
-// The binary part that these numbers are.
 impl From<Flat> for Octets {
     ghost from_gives = { λ f octets. octets ≡ octets_of f };
 
+    // The binary part that these numbers are.
     fn from(f: Flat) -> Octets {
         let quote = f.x;
         match f.sort {
@@ -450,10 +450,10 @@ impl From<Flat> for Octets {
     }
 }
 
-// A refusal.
 impl From<Refusal> for Flat {
     ghost from_gives = { λ why f. f ≡ flat_refusal why };
 
+    // A refusal.
     fn from(why: Refusal) -> Flat {
         match why {
             Refusal::TextTooLong => flat_plain(11, 0, 0, 0),
@@ -475,10 +475,10 @@ impl From<Refusal> for Flat {
     }
 }
 
-// The refusal that these numbers are.
 impl From<Flat> for Refusal {
     ghost from_gives = { λ f why. why ≡ refusal_of f };
 
+    // The refusal that these numbers are.
     fn from(f: Flat) -> Refusal {
         let at = f.a as usize;
         match f.sort {
@@ -501,10 +501,10 @@ impl From<Flat> for Refusal {
     }
 }
 
-// Any mode.
 impl From<Mode> for Flat {
     ghost from_gives = { λ mode f. (f ≡ flat_mode mode) × FitMode mode };
 
+    // Any mode.
     fn from(mode: Mode) -> Flat {
         match mode {
             Mode::At => flat_plain(0, 0, 0, 0),
@@ -523,10 +523,10 @@ impl From<Mode> for Flat {
     }
 }
 
-// The mode that these numbers are; any numbers are one.
 impl From<Flat> for Mode {
     ghost from_gives = { λ f mode. mode ≡ mode_of f };
 
+    // The mode that these numbers are; any numbers are one.
     fn from(f: Flat) -> Mode {
         match f.kind {
             0 => Mode::At,

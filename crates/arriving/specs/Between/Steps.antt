@@ -1,6 +1,7 @@
 -- One byte of a text (docs/FORMAT.md, 1.2, 2 and 7), as the check in parts keeps it: where it stands, and the kinds of
 -- the open brackets. It goes by the machine's classes of bytes, clause by clause. Assumes nothing.
-use Rattle.std.specs.Prelude.{ℕ, zero, suc, ◌+◌, ◌-◌, ◌≡◌, ◌<◌, Option, Some, None, Bool, true, false, cond, List, [], ◌∷◌, eqb, ltb, get_or}
+use Rattle.std.specs.Prelude.{ℕ, zero, suc, ◌+◌, ◌-◌, ◌≡◌, ◌<◌, Option, Some, None, Bool, true, false, cond, List, []}
+use Rattle.std.specs.Prelude.{◌∷◌, eqb, ltb, get_or}
 use Rattle.std.proofs.lemmas.List.Edits.{sets}
 use Rattle.meaning.specs.Limits.{depth_limit}
 use Rattle.meaning.specs.declared.Refusal.{Refusal}
