@@ -409,9 +409,3 @@ module _ (s : List ℕ) (q : ℕ) (n0 : get_or s q 0 ≡ ch "0" → ⊥) where
       pow-le-pow_right {n = 10} (omega arith) {i = 0 + (w.end - q)} {j = w.end}
           (omega (arith, p.low)),
     )
-
-pub timely_over : (s : List ℕ) (at : ℕ) → length s ≤ at → TimelySays s at false
-timely_over s at h = let e = byte_out s at h in ((λ f. omega arith), (λ f. omega arith))
-
-pub timely_none : (s : List ℕ) (at : ℕ) → at < length s → (get_or s at 0 ≡ ch ":" → ⊥) → (get_or s at 0 ≡ ch "-" → ⊥) → TimelySays s at false
-timely_none s at h x y = let e = byte_in s at h in ((λ f. x (sym e ∙ f)), (λ f. y (sym e ∙ f)))

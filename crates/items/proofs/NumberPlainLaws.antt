@@ -2,7 +2,6 @@
 use Prim.Native.Nat.{ℕ, zero, suc, ◌+◌, ◌*◌, ◌-◌, ◌≤◌, ◌<◌, ◌^◌}
 use mathlib.Core.Path.{◌≡◌, refl, sym, ◌∙◌, subst}
 use mathlib.Core.Bool.{Bool, true, false}
-use mathlib.Core.Logic.{inl}
 use mathlib.Core.List.{List}
 use native.Mathlib.Omega.{arith}
 use native.Mathlib.Nat.{zero-mul, zero-add, pow-suc, pow-le-pow_right, mul-le-mul_right}
@@ -13,10 +12,9 @@ use Rattle.meaning.specs.Letters.{ch}
 use Rattle.machine.specs.Numeric.{dig, int, frac, settle}
 use Rattle.machine.proofs.Numeric.Rows.{num_class}
 use Rattle.items.specs.Between.Places.{byte_at}
-use Rattle.items.specs.Between.NumberOrTime.{Scanned, Reads, Edge, Held, Holds, Span, Ended, PlainSays, Settles}
+use Rattle.items.specs.Between.NumberOrTime.{Scanned, Reads, Held, Holds, Span, Ended, PlainSays, Settles}
 use Rattle.items.specs.declared.number.Acc.{Acc}
 use Rattle.items.specs.declared.Taken.{Taken}
-use Rattle.items.proofs.PlacesLaws.{byte_in, byte_out}
 use Rattle.items.proofs.NumberOrTimeLaws.{edge_none, took, halts, same}
 use Rattle.items.proofs.NumberDigitLaws.{span_next}
 use Rattle.items.proofs.NumberDecimalLaws.{span_low, span_frac, frac_other, int_other}
@@ -47,21 +45,6 @@ span_small {i = i} n (Span.next {j = j} {w = w} x k d) h =
 
 -- ---- where a number ends
 
-pub ended_over : (s : List ℕ) (at : ℕ) → length s ≤ at → Ended s at
-ended_over s at h = let e = byte_out s at h in record { edge = Edge.ends h; point = λ f. omega arith; small_e = λ f. omega arith; large_e = λ f. omega arith }
-
-module _ (s : List ℕ) (at : ℕ) (h : at < length s) where
-  pub ended_under : get_or s at 0 < ch "0" → (get_or s at 0 ≡ ch "." → ⊥) → Ended s at
-  ended_under l p = let e = byte_in s at h in record { edge = Edge.under l; point = λ f. p (sym e ∙ f); small_e = λ f. omega arith; large_e = λ f. omega arith }
-
-  pub ended_past : ch "9" < get_or s at 0 → (get_or s at 0 ≡ ch "e" → ⊥) → (get_or s at 0 ≡ ch "E" → ⊥) → Ended s at
-  ended_past l x y = let e = byte_in s at h in record {
-    edge = Edge.past l;
-    point = λ f. omega arith;
-    small_e = λ f. x (sym e ∙ f);
-    large_e = λ f. y (sym e ∙ f);
-  }
-
 -- without the point it ends as one with no fraction digits
 module _ (s : List ℕ) (q : ℕ) (g : Bool) (a : Acc) (v : ℕ) (o : Holds v a) (r : Scanned) where
   pub frac_ends : (at f : ℕ) → Ended s at → Settles q g a 0 f at r → Reads s at (frac q g v f) r
@@ -83,9 +66,6 @@ point_ends s q g a v at w r h e p o d t =
 pub span_more : (s : List ℕ) (from had i v b x : ℕ) → b ≡ get_or s i 0 → Span s from had i v → i < length s → ch "0" ≤ b → b ≤ ch "9" → x ≡ dig v b
     → Span s from had (i + 1) x
 span_more s from had i v b x e h k l u d = subst (λ (y : ℕ). Span s from had (i + 1) y) (sym d) (span_next s from had i v b e h k l u)
-
-pub held_none : (v : ℕ) → v ≡ 0 → Held v 0 false 0
-held_none v e = (omega arith, inl refl)
 
 pub zeros_of : (v : ℕ) (a : Acc) (k : ℕ) → 0 < v → Holds v a → v < 10 ^ k → a.z ≤ k
 zeros_of v a k h o l = go a.over o

@@ -6,7 +6,7 @@ use mathlib.Core.Bool.{Bool, true, false}
 use mathlib.Core.Logic.{◌⊎◌, inl, inr}
 use native.Mathlib.Nat.{zero-mul}
 use native.Mathlib.Omega.{arith}
-use lib.IntN.{ℤ, pos, negsuc, neg_ℤ, ◌-ℤ◌, +ℤ_idl}
+use lib.IntN.{ℤ, pos, negsuc, neg_ℤ}
 use lib.Signed.{mag}
 use mir.Syntax.{Width}
 use mir.Val.{hbits, SFits, of_z, to_z}
@@ -37,14 +37,6 @@ module _ (w : Width) (z : ℤ) (f : suc (mag z) < 2 ^ hbits w) where
 
   pub fits_neg : SFits w (neg_ℤ z)
   fits_neg = record { sfits = omega (arith, neg_mag z) }
-
-  pub neg_fits : SFits w (pos 0 -ℤ to_z w (of_z w z))
-  neg_fits = subst (λ (y : ℤ). SFits w (pos 0 -ℤ y)) (sym (to_z-of_z w z fits_z)) (subst (SFits w) (sym (+ℤ_idl (neg_ℤ z))) fits_neg)
-
-  pub neg_is : to_z w (of_z w (pos 0 -ℤ to_z w (of_z w z))) ≡ neg_ℤ z
-  neg_is =
-      ap (λ (y : ℤ). to_z w (of_z w (pos 0 -ℤ y))) (to_z-of_z w z fits_z) ∙ ap (λ (y : ℤ). to_z w (of_z w y)) (+ℤ_idl (neg_ℤ z))
-      ∙ to_z-of_z w (neg_ℤ z) fits_neg
 
 neg_suc : (n : ℕ) → 0 < n → neg_ℤ (pos n) ≡ negsuc (n - 1)
 neg_suc zero h = absurd (omega arith)

@@ -95,16 +95,6 @@ date_tested {y} {m} {d} (Err e) x = go (is_date y m d) refl
     go true f = absurd (date_none x (is_date_lem f))
     go false f = sym f
 
-module _ (h m s : ℕ) where
-  pub clock_hour : 23 < h → false ≡ ok_clock h m s
-  clock_hour l = rw (lt-leb h 23 l)
-
-  pub clock_minute : h ≤ 23 → 59 < m → false ≡ ok_clock h m s
-  clock_minute k l = rw (le-leb h 23 k, lt-leb m 59 l)
-
-  pub clock_second : h ≤ 23 → m ≤ 59 → leb s 59 ≡ ok_clock h m s
-  clock_second k l = rw (le-leb h 23 k, le-leb m 59 l)
-
 both_true : (a b : Bool) → a ≡ true → b ≡ true → (a && b) ≡ true
 both_true a b e f = rw (e, f)
 

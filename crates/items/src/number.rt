@@ -144,8 +144,8 @@ fn exp_digits(s: &[u8], from: usize) -> Taken<usize>
 }
 
 // A magnitude with its sign.
-fn with_sign(minus: bool, m: usize) -> i32
-    requires { m ≤ power_limit }
+pub fn with_sign(minus: bool, m: usize) -> i32
+    requires { m < 2 ^ 31 }
     ensures { result ≡ signed minus m }
 {
     let x = m as i32;

@@ -147,9 +147,7 @@ fn offset_date_time(q: usize, d: Date, c: Clock, offset: i16, at: usize) -> Scan
 fn minutes(minus: bool, hour: u8, minute: u8) -> i16
     ensures { result ≡ signed minus (hour * 60 + minute) }
 {
-    let m = hour as u16 * 60 + minute as u16;
-    let x = m as i16;
-    if minus { -x } else { x }
+    number::with_sign(minus, hour as usize * 60 + minute as usize) as i16
 }
 
 // After an offset's hour and its colon.

@@ -8,38 +8,12 @@ use Rattle.items.specs.Between.NumberOrTime.{EndsSays}
 use Rattle.items.proofs.NumberPlainLaws.{span_small, int_ends, point_ends}
 use Rattle.items.proofs.number.rest.Goals as goal
 
-pub settle-requires : goal.settle-requires
-settle-requires c = let z = c.held.ensures.small c.args.at c.requires.1 in
-    (omega (arith, z, c.requires.0.within, c.requires.0.short), omega arith, omega arith)
-
 pub returns-then-ends : goal.returns-then-ends
 returns-then-ends c = int_ends c.args.s.now c.args.q
     c.args.g c.held.result c.args.v
     c.held.ensures.holds c.settle.result c.args.at
     (subst (λ (b : Bool). EndsSays c.args.s.now c.args.at b)
     c.if-ends.true c.ends.ensures) c.settle.ensures
-
-pub bounds-s-at : goal.bounds-s-at
-bounds-s-at c = let h : c.args.at < length c.args.s.now =
-    subst (λ (b : Bool). EndsSays c.args.s.now c.args.at b) c.if-ends.false
-    c.ends.ensures in omega arith
-
-pub decimal-r-requires : goal.decimal-r-requires
-decimal-r-requires c = record {
-  within = c.requires.0.within;
-  short = c.requires.0.short;
-  zeros =
-      c.held-then-s-at-ne46.ensures.small c.args.at c.requires.1;
-  places = omega arith;
-}
-
-pub returns-then-s-at-ne46 : goal.returns-then-s-at-ne46
-returns-then-s-at-ne46 c = c.decimal-r.ensures.reads c.args.v c.held-then-s-at-ne46.ensures.holds
-
-pub plain_digits-w-requires : goal.plain_digits-w-requires
-plain_digits-w-requires c = let h : c.args.at < length c.args.s.now =
-    subst (λ (b : Bool). EndsSays c.args.s.now c.args.at b)
-    c.if-ends.false c.ends.ensures in omega arith
 
 pub settle-requires-then-ends-2 : goal.settle-requires-then-ends-2
 settle-requires-then-ends-2 c = let z =
@@ -66,16 +40,3 @@ returns-then-ends-2 c = let h : c.args.at < length
     c.settle-then-ends-2.result h c.if-s-at-ne46.false c.plain_digits-w.ensures
     c.held-then-ends-2.ensures.holds (subst (λ (b : Bool). EndsSays c.args.s.now c.plain_digits-w.result.end b) c.if-ends-2.true c.ends-2.ensures)
     c.settle-then-ends-2.ensures
-
-pub decimal-r-requires-2 : goal.decimal-r-requires-2
-decimal-r-requires-2 c = record {
-  within = c.requires.0.within;
-  short = c.requires.0.short;
-  zeros = c.held-2.ensures.small c.args.at
-      c.requires.1;
-  places = omega arith;
-}
-
-pub returns : goal.returns
-returns c = c.decimal-r-2.ensures.reads c.args.v
-    c.held-2.ensures.holds

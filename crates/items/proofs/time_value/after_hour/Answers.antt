@@ -3,12 +3,6 @@ use Rattle.items.proofs.NumberOrTimeLaws.{handed_on}
 use Rattle.items.proofs.TimeValueLaws.{minute_bad, second_bad, second_got}
 use Rattle.items.proofs.time_value.after_hour.Goals as goal
 
-pub two-requires : goal.two-requires
-two-requires c = record { within = c.in_ok-minute.ensures.0; short = c.requires.short }
-
-pub after_second-requires : goal.after_second-requires
-after_second-requires c = record { within = c.in_ok-second.ensures.0; short = c.requires.short }
-
 pub returns-in_err-minute : goal.returns-in_err-minute
 returns-in_err-minute c = handed_on _ c.from_residual.ensures.1 (minute_bad _ _ _ _ _ _ c.in_err-minute.ensures)
 

@@ -3,12 +3,6 @@ use Rattle.items.proofs.NumberOrTimeLaws.{handed_on}
 use Rattle.items.proofs.TimeValueLaws.{month_bad, day_bad, day_got}
 use Rattle.items.proofs.time_value.after_year.Goals as goal
 
-pub two-requires : goal.two-requires
-two-requires c = record { within = c.in_ok-month.ensures.0; short = c.requires.short }
-
-pub dated-requires : goal.dated-requires
-dated-requires c = record { within = c.in_ok-day.ensures.0; short = c.requires.short }
-
 pub returns-in_err-month : goal.returns-in_err-month
 returns-in_err-month c = handed_on _ c.from_residual.ensures.1 (month_bad _ _ _ _ _ c.in_err-month.ensures)
 

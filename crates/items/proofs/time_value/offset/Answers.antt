@@ -3,9 +3,6 @@ use Rattle.items.proofs.NumberOrTimeLaws.{handed_on}
 use Rattle.items.proofs.TimeValueLaws.{offset_bad, offset_got}
 use Rattle.items.proofs.time_value.offset.Goals as goal
 
-pub offset_minute-requires : goal.offset_minute-requires
-offset_minute-requires c = (record { within = c.in_ok-hour.ensures.0; short = c.requires.0.short }, c.requires.1)
-
 pub returns-in_err-hour : goal.returns-in_err-hour
 returns-in_err-hour c = handed_on _ c.from_residual.ensures.1 (offset_bad _ _ _ _ _ _ _ c.in_err-hour.ensures)
 
