@@ -8,7 +8,7 @@ ghost use Rattle.tape.specs.Between.Shapes.{only_record, Common, Shaped, words_a
 use crate::{Words, little_endian};
 use meaning::{Date, Number, Record, Time};
 
-// The marks, two letters each.
+// The marks, two letters each; in a constant no function of std is called.
 const NU: u64 = b'n' as u64 + b'u' as u64 * 256;
 
 const BO: u64 = b'b' as u64 + b'o' as u64 * 256;

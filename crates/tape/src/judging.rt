@@ -179,7 +179,7 @@ fn ended(rest: usize, at: usize, room: usize) -> bool
 
 // One loop over the records, with the ends of the open containers and what is to come in them after the value at hand; those of
 // the innermost in `end` and `rest`, at first the end of all. It stops at the first fault, so each byte of the store is passed at
-// most twice.
+// most twice. A container closes without going on to a record, so the rounds are no range.
 fn records(tape: &[u8], store: &[u8], mut end: usize) -> bool
     requires { Sized tape.now store.now × (end ≡ whole_records tape.now) }
     ensures { Decides (Formed tape.now store.now) result }

@@ -81,7 +81,8 @@ fn in_object(ends: &[usize], depth: usize) -> bool
     depth > 0 && ends[depth - 1] % 2 == 1
 }
 
-// Before the record at an index what ends there or before closes, the innermost first. So many are left.
+// Before the record at an index what ends there or before closes, the innermost first. So many are left: it counts down to where
+// it stops.
 fn closed(seen: &mut [u32], ends: &[usize], count: usize, index: usize) -> usize
     requires { Walking seen.old ends.now count index }
     ensures { Closes seen.old ends.now count index seen.new result }

@@ -197,7 +197,7 @@ struct Tally {
     good: u64,
 }
 
-// 1 if set.
+// 1 if set: what std makes of it is not known to be at most 1.
 fn count(b: bool) -> u64
     ensures { result ≤ 1 }
 {
