@@ -17,20 +17,13 @@ use Rattle.meaning.specs.Canonical.{decimal, canonical}
 use Rattle.meaning.proofs.Digits.{decimal_length}
 use Rattle.reader.specs.Answers.{tape_bytes}
 use Rattle.machine.proofs.Accepted.{unambiguous, one_text_refusal, not_refused}
-use Rattle.writer.specs.declared.Written.{Written}
-use Rattle.writer.specs.declared.Written.TheVariants.{Wrote, Refused}
+use Rattle.std.specs.declared.result.Result.{Result}
+use Rattle.std.specs.declared.result.Result.TheVariants.{Ok, Err}
 use Rattle.writer.specs.Paper.{write_said}
 use Rattle.writer.specs.Between.Laid.{Put, PutAt}
 use Rattle.writer.proofs.LaidLaws.{put_as, put_at_as, put_next, put_whole}
-use Rattle.jaxn.specs.declared.Input.{Input}
 use Rattle.jaxn.specs.Line.{room, refused_line, Line, longer, no_text, tape_short, output_short, printed, Tells}
-use Rattle.jaxn.specs.Between.Steps.{Within, bytes, failed, Rewrites, refusing, printing}
-
--- ---- what was read
-
-pub read_within : {i : Input} {n size : ℕ} → Within i size → i ≡ Input.Bytes n → n ≤ size
-read_within {n = n} (bytes {n = k} h) e = let z : k ≡ n = cc in omega arith
-read_within failed e = let z : ◌≡◌ {A = ℕ} 0 1 = cc in absurd (omega arith)
+use Rattle.jaxn.specs.Between.Steps.{Rewrites, refusing, printing}
 
 -- ---- the line of a refusal, piece by piece
 
@@ -58,7 +51,7 @@ tells_within {out = out} h = omega (arith, h.size, ap length h.left, length-appe
 pub tells_longer : {input out out' : List ℕ} {r : ℕ} → Put (refused_line 1 room) out out' r → room < length input → Tells input out r out'
 tells_longer p h = tells (longer h) p
 
-refusal_of_lem : {t o part : List ℕ} {w : Written} {why : Refusal} → Rewrites t o w part → w ≡ Refused why
+refusal_of_lem : {t o part : List ℕ} {w : Result ℕ Refusal} {why : Refusal} → Rewrites t o w part → w ≡ Err why
     → (part ≡ o) × Line t (refused_line (number_of why) (place_of why))
 refusal_of_lem {t} {why = why} (refusing {why = v} x) e =
     let z : v ≡ why = cc in
@@ -66,7 +59,7 @@ refusal_of_lem {t} {why = why} (refusing {why = v} x) e =
 refusal_of_lem (printing u x f) e = absurd (done_apart (ap write_said e))
 
 -- a refusal leaves the output as it was, and its line is laid over it
-pub tells_refusal : {input out part out' : List ℕ} {w : Written} {why : Refusal} {n p r : ℕ} → Rewrites input (take room out) w part → w ≡ Refused why
+pub tells_refusal : {input out part out' : List ℕ} {w : Result ℕ Refusal} {why : Refusal} {n p r : ℕ} → Rewrites input (take room out) w part → w ≡ Err why
     → n ≡ number_of why → p ≡ place_of why → Put (refused_line n p) (part ++ drop room out) out' r → Tells input out r out'
 tells_refusal {out = out} {out' = out'} {why = why} {r = r} q e i j p =
     let s = refusal_of_lem q e in
@@ -80,7 +73,7 @@ record TextOf (input o part : List ℕ) (n : ℕ) : Type 0 where
   pub size : n ≡ length text
   pub left : part ≡ laid text o
 
-text_of : {t o part : List ℕ} {w : Written} {n : ℕ} → Rewrites t o w part → w ≡ Wrote n → TextOf t o part n
+text_of : {t o part : List ℕ} {w : Result ℕ Refusal} {n : ℕ} → Rewrites t o w part → w ≡ Ok n → TextOf t o part n
 text_of (refusing x) e = absurd (done_apart (sym (ap write_said e)))
 text_of {n = n} (printing u x f) e = let z : n ≡ length u = cc in record { text = u; line = x; fits = f; size = z; left = refl }
 
@@ -91,10 +84,10 @@ whole_laid t out h =
     ∙ ap (λ (x : List ℕ). t ++ x) (sym (drop-append-le (length t) (take room out) (drop room out) h) ∙ ap (drop (length t)) (take-append-drop room out))
 
 -- a text lies within the part that was lent, so that a byte is left for the line feed
-pub text_within : (out : List ℕ) {t part : List ℕ} {w : Written} {n : ℕ} → Rewrites t (take room out) w part → w ≡ Wrote n → n ≤ room
+pub text_within : (out : List ℕ) {t part : List ℕ} {w : Result ℕ Refusal} {n : ℕ} → Rewrites t (take room out) w part → w ≡ Ok n → n ≤ room
 text_within out q e = let s = text_of q e in omega (arith, s.fits, s.size, length-take room out)
 
-pub tells_text : {input out part out' : List ℕ} {w : Written} {n r : ℕ} → Rewrites input (take room out) w part → w ≡ Wrote n
+pub tells_text : {input out part out' : List ℕ} {w : Result ℕ Refusal} {n r : ℕ} → Rewrites input (take room out) w part → w ≡ Ok n
     → PutAt (letters "\n") n (part ++ drop room out) out' r → Tells input out r out'
 tells_text {out = out} {part} {n = n} q e p =
     let s = text_of q e in

@@ -19,12 +19,10 @@ use Rattle.meaning.proofs.Whole.{tape_length}
 use Rattle.grammar.specs.Values.{Text}
 use Rattle.grammar.proofs.Good.{text_good}
 use Rattle.grammar.proofs.Sizes.{text_fits}
-use Rattle.reader.specs.declared.Answer.{Answer}
-use Rattle.reader.specs.declared.Answer.TheVariants.{Counts}
-use Rattle.reader.specs.Answers.{Reads, tape_bytes, filled, tape_short, store_short}
+use Rattle.reader.specs.Answers.{Answer, counts, Reads, tape_bytes, filled, tape_short, store_short}
 use Rattle.reader.proofs.Claims.{Held, read_accepts}
-use Rattle.writer.specs.declared.Written.{Written}
-use Rattle.writer.specs.declared.Written.TheVariants.{Wrote, Refused}
+use Rattle.std.specs.declared.result.Result.{Result}
+use Rattle.std.specs.declared.result.Result.TheVariants.{Ok, Err}
 use Rattle.writer.specs.Paper.{write_said}
 use Rattle.writer.specs.Written.{Writes, WritesJaxn, too_long, too_short, written}
 use Rattle.writer.proofs.Outcomes.{written_jaxn, wrote_length}
@@ -52,35 +50,35 @@ told {t = t} why {n} {p} e l =
 
 -- what `read` refuses is refused
 refused_line_lem : {t tape store tape' store' : List ℕ} {why : Refusal} → length t ≤ room → length tape ≡ room → length store ≡ room
-    → Reads t tape store (Answer.Refused why) tape' store' → Line t (refused_line (number_of why) (place_of why))
+    → Reads t tape store (Err why) tape' store' → Line t (refused_line (number_of why) (place_of why))
 refused_line_lem h r s (filled x f g e) = absurd (done_apart (sym e))
 refused_line_lem {why = why} h r s (tape_short x f e) = told why e (Line.tape_short h x (omega (arith, r)))
 refused_line_lem h r s (store_short x f g e) = absurd (omega (arith, s, store_enough x h))
 refused_line_lem {why = why} h r s (Reads.no_text x e) = told why e (Line.no_text h x)
 
-pub not_read : {t tape store tape' store' out : List ℕ} {a : Answer} {why : Refusal} → Reads t tape store a tape' store' → a ≡ Answer.Refused why
-    → length t ≤ room → length tape ≡ room → length store ≡ room → Rewrites t out (Refused why) out
+pub not_read : {t tape store tape' store' out : List ℕ} {a : Answer} {why : Refusal} → Reads t tape store a tape' store' → a ≡ Err why
+    → length t ≤ room → length tape ≡ room → length store ≡ room → Rewrites t out (Err why) out
 not_read {t} {tape} {store} {tape'} {store'} q e h r s = refusing (refused_line_lem h r s (subst (λ (b : Answer). Reads t tape store b tape' store') e q))
 
 -- ---- written
 
 module _ {t : List ℕ} {m : Meaning} {out : List ℕ} (h : length t ≤ room) (r : length out ≡ room) (x : Text t m) (f : tape_bytes m ≤ room) where
-  short_line : (w : Written) → room < length (canonical m) → write_said w ≡ refused 12 (length (canonical m)) → Rewrites t out w out
-  short_line (Wrote n) k s = absurd (done_apart s)
-  short_line (Refused why) k s = refusing (told why s (output_short h x f k))
+  short_line : (w : Result ℕ Refusal) → room < length (canonical m) → write_said w ≡ refused 12 (length (canonical m)) → Rewrites t out w out
+  short_line (Ok n) k s = absurd (done_apart s)
+  short_line (Err why) k s = refusing (told why s (output_short h x f k))
 
-  whole_line : (w : Written) → length (canonical m) ≤ room → write_said w ≡ Said.done (length (canonical m)) → Rewrites t out w (laid (canonical m) out)
-  whole_line (Refused why) k s = absurd (done_apart (sym s))
-  whole_line (Wrote n) k s =
-      let line : Rewrites t out (Wrote (length (canonical m))) (laid (canonical m) out) = printing (canonical m) (printed h x f k) (omega (arith, r)) in
-      subst (λ (i : ℕ). Rewrites t out (Wrote i) (laid (canonical m) out)) (sym (wrote_length s refl)) line
+  whole_line : (w : Result ℕ Refusal) → length (canonical m) ≤ room → write_said w ≡ Said.done (length (canonical m)) → Rewrites t out w (laid (canonical m) out)
+  whole_line (Err why) k s = absurd (done_apart (sym s))
+  whole_line (Ok n) k s =
+      let line : Rewrites t out (Ok (length (canonical m))) (laid (canonical m) out) = printing (canonical m) (printed h x f k) (omega (arith, r)) in
+      subst (λ (i : ℕ). Rewrites t out (Ok i) (laid (canonical m) out)) (sym (wrote_length s refl)) line
 
-  written_line : {w : Written} {out' : List ℕ} → Writes (canonical m) out w out' → Rewrites t out w out'
+  written_line : {w : Result ℕ Refusal} {out' : List ℕ} → Writes (canonical m) out w out' → Rewrites t out w out'
   written_line (too_long k s) = absurd (omega (arith, never_too_long x h f))
   written_line {w} (too_short k i s) = short_line w (omega (arith, r)) s
   written_line {w} (written k i s) = whole_line w (omega (arith, r)) s
 
-module _ {t tape store : List ℕ} {a : Answer} {r s : ℕ} {tape' store' : List ℕ} (h : Reads t tape store a tape' store') (e : a ≡ Counts r s) where
+module _ {t tape store : List ℕ} {a : Answer} {r s : ℕ} {tape' store' : List ℕ} (h : Reads t tape store a tape' store') (e : a ≡ counts r s) where
   held : Held t tape store r s tape' store'
   held = read_accepts t tape store r s tape' store' (subst (λ (b : Answer). Reads t tape store b tape' store') e h)
 
@@ -115,7 +113,7 @@ module _ {t tape store : List ℕ} {a : Answer} {r s : ℕ} {tape' store' : List
       record { meaning = held.meaning; good = text_good held.text_means; few = omega arith; short = omega arith; taped = tape_is; stored = store_is }
 
   -- so that what is written is its canonical text
-  pub rewritten : {out out' : List ℕ} {w : Written} → WritesJaxn (take (r * 16) tape') (take s store') out w out'
+  pub rewritten : {out out' : List ℕ} {w : Result ℕ Refusal} → WritesJaxn (take (r * 16) tape') (take s store') out w out'
       → length t ≤ room → length tape ≡ room → length out ≡ room → Rewrites t out w out'
   unfolding well
   rewritten q i j k = written_line i k held.text_means (omega (arith, held.tape_room, j)) (written_jaxn well q)

@@ -2,12 +2,13 @@
 // cannot be read or written is told on standard error: no part of an input is passed off as the whole.
 #![tactic(auto)]
 
-ghost use Rattle.std.specs.Prelude.{◌≤◌, ◌≡◌, length};
+ghost use Rattle.std.specs.Prelude.{◌≤◌, ◌≡◌, length, IfOk};
+ghost use Rattle.std.specs.Counts.{IsPrefixLen};
 ghost use Rattle.writer.specs.Between.Laid.{Put};
 ghost use Rattle.jaxn.specs.Line.{refused_line, Tells};
-ghost use Rattle.jaxn.specs.Between.Steps.{Within, Rewrites};
+ghost use Rattle.jaxn.specs.Between.Steps.{Rewrites};
 
-use lanternrung::{Answer, Written};
+use lanternrung::{Counts, Refusal};
 use std::io;
 use std::io::{Read, Write};
 use writer::byte_or_digit;
@@ -18,42 +19,30 @@ const ROOM: usize = 65536;
 // One byte more tells a longer input.
 const MORE: usize = ROOM + 1;
 
-// What standard input gave: so many bytes, or a read that failed, and why.
-#[derive(Clone, Copy)]
-enum Input {
-    Bytes(usize),
-    Failed(io::Error),
-}
-
-// Reads until the room is full or the input ends; a read that brings little, as from a pipe, is no end.
-fn fill<R: Read>(from: &mut R, room: &mut [u8]) -> Input
-    ensures { Within result (length room.old) }
+// Reads until the room is full or the input ends, and says how many bytes it read; a read that brings little, as from a pipe, is no end.
+fn fill<R: Read>(from: &mut R, room: &mut [u8]) -> io::Result<usize>
+    ensures { IfOk result (λ n. IsPrefixLen n room.new) }
 {
     let mut at: usize = 0;
     while at < room.len() {
-        match from.read(&mut room[at..]) {
-            Err(why) => return Input::Failed(why),
-            Ok(0) => return Input::Bytes(at),
-            Ok(more) => at += more,
+        let more = from.read(&mut room[at..])?;
+        if more == 0 {
+            break;
         }
+        at += more;
     }
-    Input::Bytes(at)
+    Ok(at)
 }
 
 // The canonical text of what the text means, by way of a tape and a store; or the refusal of the first that refuses.
-fn rewrite(text: &[u8], out: &mut [u8]) -> Written
+fn rewrite(text: &[u8], out: &mut [u8]) -> Result<usize, Refusal>
     requires { (length text.now ≤ 65536) × (length out.old ≡ 65536) }
     ensures { Rewrites text.now out.old result out.new }
 {
     let mut tape = [0u8; ROOM];
     let mut store = [0u8; ROOM];
-    match lanternrung::read(text, &mut tape, &mut store) {
-        Answer::Refused(why) => Written::Refused(why),
-        Answer::Counts { records, bytes } => {
-            let used = records * 16;
-            lanternrung::write_jaxn(&tape[..used], &store[..bytes], out)
-        }
-    }
+    let Counts { records, bytes } = lanternrung::read(text, &mut tape, &mut store)?;
+    lanternrung::write_jaxn(&tape[..records * 16], &store[..bytes], out)
 }
 
 // `refused N at P` and a line feed.
@@ -77,21 +66,19 @@ fn line(input: &[u8], out: &mut [u8]) -> usize
         return refused_line(out, 1, ROOM as u64);
     }
     match rewrite(input, &mut out[..ROOM]) {
-        Written::Refused(why) => {
-            let number = lanternrung::number(why) as u64;
+        Ok(size) => byte_or_digit::byte_at(out, size, b'\n'),
+        Err(why) => {
+            let number = u64::from(lanternrung::number(why));
             let place = lanternrung::place(why);
             refused_line(out, number, place)
         }
-        Written::Wrote(size) => byte_or_digit::byte_at(out, size, b'\n'),
     }
 }
 
 // The reason alone: after it an error's text has its number.
 fn reason(text: &str) -> &str {
-    match text.split_once(" (os error ") {
-        Some((words, _)) => words,
-        None => text,
-    }
+    text.split_once(" (os error ")
+        .map_or(text, |(words, _)| words)
 }
 
 // Tells on standard error what could not be read or written, and the reason.
@@ -112,8 +99,8 @@ fn main(rt: HostRuntime) {
     let mut input = [0u8; MORE];
     let mut out = [0u8; MORE];
     match fill(&mut rt.stdin(), &mut input) {
-        Input::Failed(why) => tell(&rt, "standard input", why),
-        Input::Bytes(n) => {
+        Err(why) => tell(&rt, "standard input", why),
+        Ok(n) => {
             let size = line(&input[..n], &mut out);
             if let Err(why) = rt.write_all(&out[..size]) {
                 tell(&rt, "standard output", why);

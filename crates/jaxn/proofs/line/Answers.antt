@@ -14,21 +14,12 @@ slice_bounds-rewrite-end-2 c = sym (length-take-le 65536 c.args.out.now (omega a
 pub rewrite-requires : goal.rewrite-requires
 rewrite-requires c = (omega arith, length-take-le 65536 c.args.out.now (omega arith))
 
-pub refused_line-requires-in-Refused : goal.refused_line-requires-in-Refused
-refused_line-requires-in-Refused c = omega (arith, c.out-2-1.given.1)
-
 pub byte_at-requires : goal.byte_at-requires
-byte_at-requires c = let here = text_within c.args.out.now c.rewrite.ensures c.in-Wrote.is in
+byte_at-requires c = let here = text_within c.args.out.now c.rewrite.ensures c.in-Ok.is in
     omega (arith, here, c.out-2-1.given.1, c.requires)
 
-pub shape_of-out-in-Refused : goal.shape_of-out-in-Refused
-shape_of-out-in-Refused c = c.refused_line-in-Refused.auto.out ∙ c.out-2-1.given.1
+pub returns-in-Err : goal.returns-in-Err
+returns-in-Err c = tells_refusal c.rewrite.ensures c.in-Err.is (c.from-number.ensures ∙ c.number.ensures) c.place-place.ensures c.refused_line-in-Err.ensures
 
-pub returns-in-Refused : goal.returns-in-Refused
-returns-in-Refused c = tells_refusal c.rewrite.ensures c.in-Refused.is c.number-number.ensures c.place-place.ensures c.refused_line-in-Refused.ensures
-
-pub shape_of-out-in-Wrote : goal.shape_of-out-in-Wrote
-shape_of-out-in-Wrote c = c.byte_at.auto.out ∙ c.out-2-1.given.1
-
-pub returns-in-Wrote : goal.returns-in-Wrote
-returns-in-Wrote c = tells_text c.rewrite.ensures c.in-Wrote.is c.byte_at.ensures
+pub returns-in-Ok : goal.returns-in-Ok
+returns-in-Ok c = tells_text c.rewrite.ensures c.in-Ok.is c.byte_at.ensures
