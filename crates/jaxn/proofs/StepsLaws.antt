@@ -67,7 +67,8 @@ module _ {t : List ℕ} {m : Meaning} {out : List ℕ} (h : length t ≤ room) (
   short_line (Ok n) k s = absurd (done_apart s)
   short_line (Err why) k s = refusing (told why s (output_short h x f k))
 
-  whole_line : (w : Result ℕ Refusal) → length (canonical m) ≤ room → write_said w ≡ Said.done (length (canonical m)) → Rewrites t out w (laid (canonical m) out)
+  whole_line : (w : Result ℕ Refusal) → length (canonical m) ≤ room → write_said w ≡ Said.done (length (canonical m))
+      → Rewrites t out w (laid (canonical m) out)
   whole_line (Err why) k s = absurd (done_apart (sym s))
   whole_line (Ok n) k s =
       let line : Rewrites t out (Ok (length (canonical m))) (laid (canonical m) out) = printing (canonical m) (printed h x f k) (omega (arith, r)) in

@@ -114,8 +114,8 @@ pub data Passes (f : ℕ) : Kept → List Event → Kept → Type 0 where
 
 -- ---- windows one after the other
 
--- of the events, whose places are below b, the keys before `from` have been taken in, all where there is none: `best` is
--- the first key that repeats one of them
+-- of the events, whose places are below b, the keys before `from` have been taken in, all where there is none: `best`
+-- is the first key that repeats one of them
 pub record SearchedTo (b : ℕ) (es : List Event) (best from : Option ℕ) : Type 0 where
   pub spans : Spans 1 b es
   pub found : best ≡ repeat_in (window 0 from) [] es

@@ -101,7 +101,8 @@ module _ {tape store : List ℕ} where
   pub judged_once : Formed tape store → {r : Option ℕ} → r ≡ first_of tape store (whole_records tape) → is_some r ≡ false → Judges tape store (Ok tt)
   judged_once f e z = well (formed_well f (none_repeats f (ap is_some (sym e) ∙ z)))
 
-  pub judged_twice : Formed tape store → {r : Option ℕ} → r ≡ first_of tape store (whole_records tape) → is_some r ≡ true → Judges tape store (Err (Refusal.NotWellFormed 0))
+  pub judged_twice : Formed tape store → {r : Option ℕ} → r ≡ first_of tape store (whole_records tape) → is_some r ≡ true
+      → Judges tape store (Err (Refusal.NotWellFormed 0))
   unfolding well_is_formed
   judged_twice f e n =
       ill

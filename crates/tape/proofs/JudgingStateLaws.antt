@@ -591,7 +591,8 @@ module _ {tape store : List ℕ} where
             by_conf (keyed s ms k fs) a q = omega (arith, a.1, small)
             by_conf broken a q = absurd a
 
-        pub state_pass : (a : ℕ) → Some (Turn.Pass a) ≡ turn_of r (value_due rest) (key_due rest) at depth → State tape store ends rests depth end (rest - 2) a (i + 1)
+        pub state_pass : (a : ℕ) → Some (Turn.Pass a) ≡ turn_of r (value_due rest) (key_due rest) at depth
+            → State tape store ends rests depth end (rest - 2) a (i + 1)
         state_pass a was =
             let o = leads (Some (Turn.Pass a)) was in
             record {

@@ -35,10 +35,10 @@ pub const AR: u64 = b'a' as u64 + b'r' as u64 * 256;
 
 pub const OB: u64 = b'o' as u64 + b'b' as u64 * 256;
 
-// Mark `nb` with sign, power and coefficient; or `nx` with 0 for NaN, 1 for Infinity and 2 for -Infinity.
 impl From<Number> for Words {
     ghost from_gives = { λ n w. Written (Record.Number n) w };
 
+    // Mark `nb` with sign, power and coefficient; or `nx` with 0 for NaN, 1 for Infinity and 2 for -Infinity.
     fn from(n: Number) -> Words {
         match n {
             Number::Finite {
@@ -74,10 +74,10 @@ fn month_day(d: Date, offset: u16) -> u64
     u64::from(d.month) + u64::from(d.day) * 256 + u64::from(offset) * 65536
 }
 
-// The four numbers of a time value; the parts that its type has not are 0.
 impl From<Time> for Words {
     ghost from_gives = { λ t w. Written (Record.Time t) w };
 
+    // The four numbers of a time value; the parts that its type has not are 0.
     fn from(t: Time) -> Words {
         match t {
             Time::LocalDate(d) => Words {
@@ -124,10 +124,10 @@ fn two_words(mark: u64, first: usize, second: usize) -> Words
     }
 }
 
-// The four numbers of a record.
 impl From<Record> for Words {
     ghost from_gives = { λ r w. Written r w };
 
+    // The four numbers of a record.
     fn from(r: Record) -> Words {
         match r {
             Record::Null => Words {

@@ -7,7 +7,8 @@ use Rattle.tape.proofs.TurnsLaws.{false_test}
 use Rattle.tape.proofs.judging.sized.Goals as goal
 
 pub returns-then-n-le-RECORD_LIMIT : goal.returns-then-n-le-RECORD_LIMIT
-returns-then-n-le-RECORD_LIMIT c = decides_as (λ h. record { whole = c.if-n-le-RECORD_LIMIT.true.0; few = c.if-n-le-RECORD_LIMIT.true.1; short = h }) (λ z. z.short)
+returns-then-n-le-RECORD_LIMIT c = decides_as (λ h. record { whole = c.if-n-le-RECORD_LIMIT.true.0; few = c.if-n-le-RECORD_LIMIT.true.1; short = h })
+    (λ z. z.short)
     (at_most_test _ _)
 
 pub returns-else-n-le-RECORD_LIMIT : goal.returns-else-n-le-RECORD_LIMIT
