@@ -38,7 +38,7 @@ use Rattle.items.specs.Between.NumberOrTime.{NanosSays, Digit}
 use Rattle.items.specs.declared.Item.TheVariants as Item
 use Rattle.items.specs.declared.NotGrammar as NotGrammarOf
 use Rattle.items.specs.declared.Taken.{Taken}
-use Rattle.items.specs.declared.time_value.Clock.{Clock}
+use Rattle.items.specs.declared.clock.Clock.{Clock}
 use Rattle.items.proofs.PlacesLaws.{byte_in, byte_out}
 use Rattle.items.proofs.NumberOrTimeLaws.{edge_none, no_digit_lem, took, halts, breaks_at, same, closes_by}
 

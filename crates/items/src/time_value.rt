@@ -7,19 +7,11 @@ ghost use Rattle.machine.specs.Numeric as Numeric;
 ghost use Rattle.machine.specs.Numeric.{field};
 ghost use Rattle.items.specs.declared.Item.TheVariants as Item;
 ghost use Rattle.items.specs.Between.Fractions.{FractionSays};
-ghost use Rattle.items.specs.Between.NumberOrTime.{Reads, Closes, Place, TwoSays, ThenSays, when_of, Parted, clock_test, Zoned, NanosSays, taken};
+ghost use Rattle.items.specs.Between.NumberOrTime.{Reads, Closes, Place, TwoSays, ThenSays, when_of, clock_test, Zoned, NanosSays, taken};
 
+use crate::clock::Clock;
 use crate::{Item, NotGrammar, Scanned, Taken, number};
 use meaning::{Date, Refusal, SECOND, Time};
-
-// A time of day as it is written: each part is a number of digits, in range or not.
-#[derive(Clone, Copy)]
-struct Clock {
-    hour: u8,
-    minute: u8,
-    second: u8,
-    nanos: u64,
-}
 
 // A field of two digits.
 fn two(s: &[u8], i: usize) -> Result<Taken<u8>, NotGrammar>
@@ -67,7 +59,6 @@ fn is_clock(c: Clock) -> bool
 
 // The nanoseconds since midnight.
 fn time_of_day(c: Clock) -> u64
-    requires { Parted c }
     ensures { result ≡ time_of_day c.hour c.minute c.second c.nanos }
 {
     let h = c.hour as u64;
@@ -98,7 +89,6 @@ fn date_done(q: usize, d: Date, at: usize) -> Scanned
 
 // A time of day that ends before the place `at`.
 fn local_time(q: usize, c: Clock, at: usize) -> Scanned
-    requires { Parted c }
     ensures { Closes at (Numeric.clock_done q Numeric.alone c.hour c.minute c.second c.nanos) result }
 {
     if is_clock(c) {
@@ -109,7 +99,6 @@ fn local_time(q: usize, c: Clock, at: usize) -> Scanned
 
 // A date and a time of day that end before the place `at`.
 fn local_date_time(q: usize, d: Date, c: Clock, at: usize) -> Scanned
-    requires { Parted c }
     ensures { Closes at (Numeric.clock_done q (Numeric.on d) c.hour c.minute c.second c.nanos) result }
 {
     if is_date(d) && is_clock(c) {
@@ -126,7 +115,6 @@ fn local_date_time(q: usize, d: Date, c: Clock, at: usize) -> Scanned
 
 // The same with an offset.
 fn offset_date_time(q: usize, d: Date, c: Clock, offset: i16, at: usize) -> Scanned
-    requires { Parted c }
     ensures { Closes at (Numeric.tested q (Numeric.ok_date d && clock_test c)
         (Time.OffsetDateTime d (time_of_day c.hour c.minute c.second c.nanos) offset)) result }
 {
@@ -152,7 +140,7 @@ fn minutes(minus: bool, hour: u8, minute: u8) -> i16
 
 // After an offset's hour and its colon.
 fn offset_minute(s: &[u8], q: usize, d: Date, c: Clock, minus: bool, hour: u8, i: usize) -> Scanned
-    requires { Place s.now i × Parted c }
+    requires { Place s.now i }
     ensures { Reads s.now i (field q (Numeric.offset_minute d c.hour c.minute c.second c.nanos minus hour) 2 0) result }
 {
     let minute = two(s, i)?;
@@ -164,7 +152,7 @@ fn offset_minute(s: &[u8], q: usize, d: Date, c: Clock, minus: bool, hour: u8, i
 
 // After an offset's sign.
 fn offset(s: &[u8], q: usize, d: Date, c: Clock, minus: bool, i: usize) -> Scanned
-    requires { Place s.now i × Parted c }
+    requires { Place s.now i }
     ensures { Reads s.now i (field q (Numeric.offset_hour d c.hour c.minute c.second c.nanos minus) 2 0) result }
 {
     let hour = two_then(s, i, b':')?;
@@ -173,7 +161,7 @@ fn offset(s: &[u8], q: usize, d: Date, c: Clock, minus: bool, i: usize) -> Scann
 
 // After a date and a time of day.
 fn zone(s: &[u8], q: usize, d: Date, c: Clock, at: usize) -> Scanned
-    requires { Place s.now at × Parted c }
+    requires { Place s.now at }
     ensures { Zoned s.now q (Numeric.on d) c at result }
 {
     if at >= s.len() {
@@ -189,7 +177,7 @@ fn zone(s: &[u8], q: usize, d: Date, c: Clock, at: usize) -> Scanned
 
 // After a time of day: a local time has no offset.
 fn clocked(s: &[u8], q: usize, w: Option<Date>, c: Clock, at: usize) -> Scanned
-    requires { Place s.now at × Parted c }
+    requires { Place s.now at }
     ensures { Zoned s.now q (when_of w) c at result }
 {
     match w {
