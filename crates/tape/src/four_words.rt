@@ -247,12 +247,7 @@ fn common_record(w: Words) -> Record
         AR => Record::Array { count, end },
         OB => Record::Object { count, end },
         _ => {
-            let r = record_of(Words {
-                mark: w.mark,
-                low: w.low,
-                mid: w.mid,
-                high: w.high,
-            });
+            let r = record_of(Words { ..w });
             r
         }
     }
