@@ -7,13 +7,15 @@ use native.Mathlib.Omega.{arith}
 use borrow.Author.Tests.{le-leb, lt-leb, leb-true}
 use lib.Dec.{leb}
 use lib.ListN.{length}
+use Rattle.std.specs.Prelude.{Err}
+use Rattle.meaning.specs.declared.Refusal.TheVariants.{NotUtf8}
 use Rattle.meaning.specs.Limits.{text_limit}
 use Rattle.arriving.specs.declared.Core.{Core}
 use Rattle.arriving.specs.declared.Check.{Check}
 use Rattle.arriving.specs.declared.octets.Utf.{Utf}
 use Rattle.arriving.specs.Between.Octets.{fed_utf}
 use Rattle.arriving.specs.Between.Steps.{Stand, walked}
-use Rattle.arriving.specs.Between.Arriving.{sane_here, sane, core_of, check_of, spent, grown, fed}
+use Rattle.arriving.specs.Between.Arriving.{sane_here, sane, core_of, check_of, spent, grown, fed, ended_core}
 use Rattle.arriving.proofs.StepsLaws.{both}
 
 -- ---- the bounds
@@ -51,3 +53,10 @@ module _ (x : Check) (t : List ℕ) where
   -- the part fits
   pub fed_fits : sane x.core ≡ true → length t ≤ text_limit - x.core.length → x.core.length + length t ≤ text_limit
   fed_fits e l = omega (arith, (sane_told x.core e).0)
+
+-- ---- the end
+
+-- a fault of UTF-8 is the answer wherever it lies
+pub ended_broken : (c : Core) → sane c ≡ true → c.utf.broken ≡ true → Err (NotUtf8 c.utf.first) ≡ ended_core c
+unfolding ended_core
+ended_broken c e f = rw (e, f)

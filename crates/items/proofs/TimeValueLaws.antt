@@ -4,14 +4,16 @@ use Prim.Native.Nat.{ℕ, zero, suc, ◌+◌, ◌*◌, ◌/◌, ◌-◌, ◌≤�
 use mathlib.Core.Path.{◌≡◌, refl, sym, ◌∙◌, ap, subst}
 use mathlib.Core.Bool.{Bool, true, false, ◌&&◌}
 use mathlib.Core.List.{List}
-use mathlib.Core.Logic.{◌⊎◌, inl, inr}
+use mathlib.Core.Logic.{◌⊎◌, inl, inr, ⊎_elim}
 use native.Mathlib.Omega.{arith}
 use native.Mathlib.Nat.{pow-suc, mul-le-mul_right, mul-le-mul_left, pow-le-pow_right}
-use lib.Dec.{leb}
+use lib.Dec.{eqb, leb}
 use lib.ListN.{length, get_or}
 use lib.IntN.{ℤ, pos}
-use borrow.Author.Tests.{eq-eqb, ne_eqb, le-leb, lt-leb}
+use borrow.Author.Tests.{eq-eqb, ne_eqb, eqb-true, eqb-false, le-leb, lt-leb}
 use Rattle.rules.specs.Rfc3339.{Dated}
+use Rattle.rules.specs.Between.Tests.{Decides}
+use Rattle.rules.proofs.TestsLaws.{by_test}
 use Rattle.rules.proofs.Outcomes.{date_done_lem, date_none}
 use Rattle.rules.specs.declared.NoDate.{NoDate}
 use Rattle.rules.specs.Between.Decided.{is_date}
@@ -38,7 +40,7 @@ use Rattle.items.specs.Between.NumberOrTime.{NanosSays, Digit}
 use Rattle.items.specs.declared.Item.TheVariants as Item
 use Rattle.items.specs.declared.NotGrammar as NotGrammarOf
 use Rattle.items.specs.declared.Taken.{Taken}
-use Rattle.items.specs.declared.time_value.Clock.{Clock}
+use Rattle.items.specs.declared.clock.Clock.{Clock}
 use Rattle.items.proofs.PlacesLaws.{byte_in, byte_out}
 use Rattle.items.proofs.NumberOrTimeLaws.{edge_none, no_digit_lem, took, halts, breaks_at, same, closes_by}
 
@@ -208,6 +210,10 @@ module _ (s : List ℕ) (q : ℕ) (d : Date) (c : Clock) (g : Bool) (h i : ℕ) 
         same_test false b c y z = refl
 
 -- ---- the letters, each in two cases
+
+-- the second half of a test whose first half has failed
+pub second_case : (b x y : ℕ) → (b ≡ x → ⊥) → Decides ((b ≡ x) ⊎ (b ≡ y)) (eqb b y)
+second_case b x y f = by_test (eqb b y) (λ e. inr (eqb-true b y e)) (λ e. ⊎_elim f (eqb-false b y e))
 
 zulu_class : {b : ℕ} → (b ≡ ch "Z") ⊎ (b ≡ ch "z") → sec_of b ≡ S.zulu_s
 zulu_class (inl e) = rw e

@@ -2,6 +2,7 @@
 #![tactic(auto)]
 
 pub mod binary_part;
+mod clock;
 pub mod hex_digit;
 pub mod identifier;
 pub mod number;

@@ -26,6 +26,13 @@ pub struct Acc {
     pub z: usize,
 }
 
+// The place of a number's first byte, and its sign.
+#[derive(Clone, Copy)]
+pub struct Numeral {
+    pub first: usize,
+    pub minus: bool,
+}
+
 // No digit so far, or noughts alone.
 pub const NONE: Acc = Acc {
     c: 0,
@@ -153,11 +160,11 @@ pub fn with_sign(minus: bool, m: usize) -> i32
 }
 
 // The finite number c * 10 ^ power, with its sign, before the place `at`.
-fn finite(g: bool, c: u64, power: i32, at: usize) -> Scanned
-    ensures { result ≡ Ok (taken (Item.Number (Number.Finite g c power)) at) }
+fn finite(minus: bool, c: u64, power: i32, at: usize) -> Scanned
+    ensures { result ≡ Ok (taken (Item.Number (Number.Finite minus c power)) at) }
 {
     let n = Number::Finite {
-        minus: g,
+        minus,
         coefficient: c,
         power,
     };
@@ -167,107 +174,107 @@ fn finite(g: bool, c: u64, power: i32, at: usize) -> Scanned
     })
 }
 
-// The number whose first byte is at q, with its last digit before `at`: the digits times 10^up / 10^dn.
-fn settle(q: usize, g: bool, a: Acc, up: usize, dn: usize, at: usize) -> Scanned
+// A number with its last digit before `at`: the digits times 10^up / 10^dn.
+fn settle(num: Numeral, a: Acc, up: usize, dn: usize, at: usize) -> Scanned
     requires { (a.z ≤ text_limit) × (up < 2 ^ 40) × (dn < 2 ^ 40) }
-    ensures { Settles q g a up dn at result }
+    ensures { Settles num.first num.minus a up dn at result }
 {
     if a.over {
-        return Err(Refusal::BadNumber(q));
+        return Err(Refusal::BadNumber(num.first));
     }
     if a.c == 0 {
-        return finite(g, 0, 0, at);
+        return finite(num.minus, 0, 0, at);
     }
     let u = a.z + up;
     if dn <= u {
         let n = u - dn;
         if n > POWER_LIMIT {
-            return Err(Refusal::BadNumber(q));
+            return Err(Refusal::BadNumber(num.first));
         }
-        return finite(g, a.c, with_sign(false, n), at);
+        return finite(num.minus, a.c, with_sign(false, n), at);
     }
     let n = dn - u;
     if n > POWER_LIMIT {
-        return Err(Refusal::BadNumber(q));
+        return Err(Refusal::BadNumber(num.first));
     }
-    finite(g, a.c, with_sign(true, n), at)
+    finite(num.minus, a.c, with_sign(true, n), at)
 }
 
 // An exponent's digits, after its sign.
-fn raised(s: &[u8], q: usize, g: bool, a: Acc, f: usize, minus: bool, k: usize) -> Scanned
+fn raised(s: &[u8], num: Numeral, a: Acc, f: usize, minus: bool, k: usize) -> Scanned
     requires { Ready s.now a f k }
-    ensures { From s.now a k (λ m. Numeric.exp_sign q g m f minus) result }
+    ensures { From s.now a k (λ m. Numeric.exp_sign num.first num.minus m f minus) result }
 {
     digit_here(s, k)?;
     let e = exp_digits(s, k);
     if minus {
-        return settle(q, g, a, 0, f + e.value, e.end);
+        return settle(num, a, 0, f + e.value, e.end);
     }
-    settle(q, g, a, e.value, f, e.end)
+    settle(num, a, e.value, f, e.end)
 }
 
 // An exponent, after its e.
-fn power(s: &[u8], q: usize, g: bool, a: Acc, f: usize, k: usize) -> Scanned
+fn power(s: &[u8], num: Numeral, a: Acc, f: usize, k: usize) -> Scanned
     requires { Ready s.now a f k }
-    ensures { From s.now a k (λ m. Numeric.exp q g m f) result }
+    ensures { From s.now a k (λ m. Numeric.exp num.first num.minus m f) result }
 {
     if k >= s.len() {
         return Err(Refusal::NotGrammar(k));
     }
     match s[k] {
-        b'+' => raised(s, q, g, a, f, false, k + 1),
-        b'-' => raised(s, q, g, a, f, true, k + 1),
-        _ => raised(s, q, g, a, f, false, k),
+        b'+' => raised(s, num, a, f, false, k + 1),
+        b'-' => raised(s, num, a, f, true, k + 1),
+        _ => raised(s, num, a, f, false, k),
     }
 }
 
 // An exponent or none, after the digits of a number of which f are a fraction's.
-fn exponent(s: &[u8], q: usize, g: bool, a: Acc, f: usize, at: usize) -> Scanned
+fn exponent(s: &[u8], num: Numeral, a: Acc, f: usize, at: usize) -> Scanned
     requires { Ready s.now a f at × Edge s.now at }
-    ensures { From s.now a at (λ m. Numeric.frac q g m f) result }
+    ensures { From s.now a at (λ m. Numeric.frac num.first num.minus m f) result }
 {
     if at >= s.len() || !matches!(s[at], b'e' | b'E') {
-        return settle(q, g, a, 0, f, at);
+        return settle(num, a, 0, f, at);
     }
-    power(s, q, g, a, f, at + 1)
+    power(s, num, a, f, at + 1)
 }
 
 // A fraction's digits, after its point, and what follows.
-fn fraction(s: &[u8], q: usize, g: bool, a: Acc, from: usize) -> Scanned
+fn fraction(s: &[u8], num: Numeral, a: Acc, from: usize) -> Scanned
     requires { Ready s.now a 0 from }
-    ensures { From s.now a from (λ m. Numeric.frac q g m 0) result }
+    ensures { From s.now a from (λ m. Numeric.frac num.first num.minus m 0) result }
 {
     let w = digits(s, from, a);
-    exponent(s, q, g, w.value, w.end - from, w.end)
+    exponent(s, num, w.value, w.end - from, w.end)
 }
 
 // After the digits of the whole part.
-fn pointed(s: &[u8], q: usize, g: bool, a: Acc, at: usize) -> Scanned
+fn pointed(s: &[u8], num: Numeral, a: Acc, at: usize) -> Scanned
     requires { Ready s.now a 0 at × Edge s.now at }
-    ensures { From s.now a at (λ m. Numeric.int q g m) result }
+    ensures { From s.now a at (λ m. Numeric.int num.first num.minus m) result }
 {
     if at >= s.len() || s[at] != b'.' {
-        return exponent(s, q, g, a, 0, at);
+        return exponent(s, num, a, 0, at);
     }
-    fraction(s, q, g, a, at + 1)
+    fraction(s, num, a, at + 1)
 }
 
 // The rest of a decimal number, from among the digits of its whole part on.
-pub fn decimal(s: &[u8], q: usize, g: bool, a: Acc, from: usize) -> Scanned
+pub fn decimal(s: &[u8], num: Numeral, a: Acc, from: usize) -> Scanned
     requires { Ready s.now a 0 from }
-    ensures { From s.now a from (λ m. Numeric.int q g m) result }
+    ensures { From s.now a from (λ m. Numeric.int num.first num.minus m) result }
 {
     let w = digits(s, from, a);
-    pointed(s, q, g, w.value, w.end)
+    pointed(s, num, w.value, w.end)
 }
 
 // A number that begins with its point, after it.
-pub fn point(s: &[u8], q: usize, g: bool, i: usize) -> Scanned
+pub fn point(s: &[u8], num: Numeral, i: usize) -> Scanned
     requires { Place s.now i }
-    ensures { Reads s.now i (Numeric.point q g) result }
+    ensures { Reads s.now i (Numeric.point num.first num.minus) result }
 {
     digit_here(s, i)?;
-    fraction(s, q, g, NONE, i)
+    fraction(s, num, NONE, i)
 }
 
 // A number that is not 0, without the zeros at its end.
@@ -323,24 +330,24 @@ fn ends(s: &[u8], at: usize) -> bool
 }
 
 // The rest of a decimal number, after digits of its whole part with the value v. Most are short, with no exponent.
-pub fn rest(s: &[u8], q: usize, g: bool, v: u64, at: usize) -> Scanned
+pub fn rest(s: &[u8], num: Numeral, v: u64, at: usize) -> Scanned
     requires { Place s.now at × (v < 10 ^ at) }
-    ensures { Reads s.now at (Numeric.int q g v) result }
+    ensures { Reads s.now at (Numeric.int num.first num.minus v) result }
 {
     if ends(s, at) {
-        return settle(q, g, held(v), 0, 0, at);
+        return settle(num, held(v), 0, 0, at);
     }
     if s[at] != b'.' {
         // In a place of its own, as below.
-        let r = decimal(s, q, g, held(v), at);
+        let r = decimal(s, num, held(v), at);
         return r;
     }
     let w = plain_digits(s, at + 1, v);
     if ends(s, w.end) {
-        return settle(q, g, held(w.value), 0, w.end - (at + 1), w.end);
+        return settle(num, held(w.value), 0, w.end - (at + 1), w.end);
     }
     // In a place of its own, so that a short number's answer is not copied: measured.
-    let r = decimal(s, q, g, held(v), at);
+    let r = decimal(s, num, held(v), at);
     r
 }
 
@@ -370,32 +377,32 @@ fn hex_digits(s: &[u8], from: usize) -> Taken<Option<u64>>
 }
 
 // A hexadecimal number, after its mark. It must itself be below 2^64.
-pub fn hexadecimal(s: &[u8], q: usize, g: bool, from: usize) -> Scanned
+pub fn hexadecimal(s: &[u8], num: Numeral, from: usize) -> Scanned
     requires { Place s.now from }
-    ensures { Reads s.now from (Numeric.hex_mark q g) result }
+    ensures { Reads s.now from (Numeric.hex_mark num.first num.minus) result }
 {
     let w = hex_digits(s, from);
     if w.end == from {
         return Err(Refusal::NotGrammar(from));
     }
     let Some(v) = w.value else {
-        return Err(Refusal::BadNumber(q));
+        return Err(Refusal::BadNumber(num.first));
     };
-    settle(q, g, held(v), 0, 0, w.end)
+    settle(num, held(v), 0, 0, w.end)
 }
 
 // After a first 0 under a sign.
-pub fn nought(s: &[u8], q: usize, g: bool, at: usize) -> Scanned
+pub fn nought(s: &[u8], num: Numeral, at: usize) -> Scanned
     requires { Place s.now at }
-    ensures { Reads s.now at (Numeric.nought q g) result }
+    ensures { Reads s.now at (Numeric.nought num.first num.minus) result }
 {
     if at >= s.len() {
-        return finite(g, 0, 0, at);
+        return finite(num.minus, 0, 0, at);
     }
     match s[at] {
-        b'x' | b'X' => hexadecimal(s, q, g, at + 1),
-        b'.' => fraction(s, q, g, NONE, at + 1),
-        b'e' | b'E' => exponent(s, q, g, NONE, 0, at),
-        _ => finite(g, 0, 0, at),
+        b'x' | b'X' => hexadecimal(s, num, at + 1),
+        b'.' => fraction(s, num, NONE, at + 1),
+        b'e' | b'E' => exponent(s, num, NONE, 0, at),
+        _ => finite(num.minus, 0, 0, at),
     }
 }

@@ -4,7 +4,7 @@ ghost use Rattle.meaning.specs.Limits.{text_limit};
 ghost use Rattle.machine.specs.Numeric as Numeric;
 ghost use Rattle.items.specs.Between.NumberOrTime.{NumericSays, Reads, Place, Edge, AtDigit, FewSays, LeadSays, Marks, Plainly, TimelySays};
 
-use crate::number::{Acc, NONE};
+use crate::number::{Acc, NONE, Numeral};
 use crate::{Item, NotGrammar, Scanned, Taken, number, time_value, word};
 use meaning::{Number, Refusal, Time};
 
@@ -111,9 +111,13 @@ fn any_unsigned(s: &[u8], q: usize) -> Scanned
     ensures { Reads s.now q Numeric.begin result }
 {
     let lead = leading(s, q)?;
+    let num = Numeral {
+        first: q,
+        minus: false,
+    };
     match lead {
-        Lead::Number(x) => number::decimal(s, q, false, x.value, x.end),
-        Lead::Hex(at) => number::hexadecimal(s, q, false, at),
+        Lead::Number(x) => number::decimal(s, num, x.value, x.end),
+        Lead::Hex(at) => number::hexadecimal(s, num, at),
         Lead::Hour(hour) => time_value::after_hour(s, q, None, hour.value, hour.end),
         Lead::Year(year) => time_value::after_year(s, q, year.value, year.end),
     }
@@ -134,7 +138,11 @@ fn unsigned(s: &[u8], q: usize) -> Scanned
     if s[q] != b'0' {
         let w = number::plain_digits(s, q, 0);
         if !timely(s, w.end) {
-            return number::rest(s, q, false, w.value, w.end);
+            let num = Numeral {
+                first: q,
+                minus: false,
+            };
+            return number::rest(s, num, w.value, w.end);
         }
     }
     // In a place of its own, so that a short number's answer is not copied: measured.
@@ -154,31 +162,31 @@ fn named(s: &[u8], from: usize, spelt: &[u8], n: Number) -> Scanned
     })
 }
 
-// A number at i that begins with no digit: a point or a word, g its sign.
-fn undigited(s: &[u8], q: usize, g: bool, i: usize) -> Scanned
+// A number at i that begins with no digit: a point or a word.
+fn undigited(s: &[u8], num: Numeral, i: usize) -> Scanned
     requires { (i < length s.now) × (length s.now ≤ text_limit) × Edge s.now i }
-    ensures { Reads s.now i (Numeric.sign q g) result }
+    ensures { Reads s.now i (Numeric.sign num.first num.minus) result }
 {
     match s[i] {
-        b'.' => number::point(s, q, g, i + 1),
+        b'.' => number::point(s, num, i + 1),
         b'N' => named(s, i + 1, b"aN", Number::NotANumber),
-        b'I' => named(s, i + 1, b"nfinity", Number::Infinite { minus: g }),
+        b'I' => named(s, i + 1, b"nfinity", Number::Infinite { minus: num.minus }),
         _ => Err(Refusal::NotGrammar(i)),
     }
 }
 
 // After a sign.
-fn signed(s: &[u8], q: usize, g: bool, i: usize) -> Scanned
+fn signed(s: &[u8], num: Numeral, i: usize) -> Scanned
     requires { Place s.now i }
-    ensures { Reads s.now i (Numeric.sign q g) result }
+    ensures { Reads s.now i (Numeric.sign num.first num.minus) result }
 {
     if i >= s.len() {
         return Err(Refusal::NotGrammar(i));
     }
     match s[i] {
-        b'0' => number::nought(s, q, g, i + 1),
-        b'1'..=b'9' => number::decimal(s, q, g, NONE, i),
-        _ => undigited(s, q, g, i),
+        b'0' => number::nought(s, num, i + 1),
+        b'1'..=b'9' => number::decimal(s, num, NONE, i),
+        _ => undigited(s, num, i),
     }
 }
 
@@ -187,10 +195,18 @@ pub fn numeric(s: &[u8], q: usize) -> Scanned
     requires { (q < length s.now) × (length s.now ≤ text_limit) }
     ensures { NumericSays s.now q result }
 {
+    let plus = Numeral {
+        first: q,
+        minus: false,
+    };
+    let minus = Numeral {
+        first: q,
+        minus: true,
+    };
     match s[q] {
-        b'+' => signed(s, q, false, q + 1),
-        b'-' => signed(s, q, true, q + 1),
+        b'+' => signed(s, plus, q + 1),
+        b'-' => signed(s, minus, q + 1),
         b'0'..=b'9' => unsigned(s, q),
-        _ => undigited(s, q, false, q),
+        _ => undigited(s, plus, q),
     }
 }

@@ -7,18 +7,18 @@ ghost use Rattle.machine.specs.Numeric as Numeric;
 ghost use Rattle.machine.specs.Numeric.{field};
 ghost use Rattle.items.specs.declared.Item.TheVariants as Item;
 ghost use Rattle.items.specs.Between.Fractions.{FractionSays};
-ghost use Rattle.items.specs.Between.NumberOrTime.{Reads, Closes, Place, TwoSays, ThenSays, when_of, Parted, clock_test, Zoned, NanosSays, taken};
+ghost use Rattle.items.specs.Between.NumberOrTime.{Reads, Closes, Place, TwoSays, ThenSays, when_of, clock_test, Zoned, NanosSays, taken};
 
+use crate::clock::Clock;
 use crate::{Item, NotGrammar, Scanned, Taken, number};
 use meaning::{Date, Refusal, SECOND, Time};
 
-// A time of day as it is written: each part is a number of digits, in range or not.
+// A date and a time of day as they are written, and the place of their first byte.
 #[derive(Clone, Copy)]
-struct Clock {
-    hour: u8,
-    minute: u8,
-    second: u8,
-    nanos: u64,
+struct Moment {
+    first: usize,
+    date: Date,
+    clock: Clock,
 }
 
 // A field of two digits.
@@ -67,7 +67,6 @@ fn is_clock(c: Clock) -> bool
 
 // The nanoseconds since midnight.
 fn time_of_day(c: Clock) -> u64
-    requires { Parted c }
     ensures { result ≡ time_of_day c.hour c.minute c.second c.nanos }
 {
     let h = c.hour as u64;
@@ -98,7 +97,6 @@ fn date_done(q: usize, d: Date, at: usize) -> Scanned
 
 // A time of day that ends before the place `at`.
 fn local_time(q: usize, c: Clock, at: usize) -> Scanned
-    requires { Parted c }
     ensures { Closes at (Numeric.clock_done q Numeric.alone c.hour c.minute c.second c.nanos) result }
 {
     if is_clock(c) {
@@ -108,39 +106,37 @@ fn local_time(q: usize, c: Clock, at: usize) -> Scanned
 }
 
 // A date and a time of day that end before the place `at`.
-fn local_date_time(q: usize, d: Date, c: Clock, at: usize) -> Scanned
-    requires { Parted c }
-    ensures { Closes at (Numeric.clock_done q (Numeric.on d) c.hour c.minute c.second c.nanos) result }
+fn local_date_time(m: Moment, at: usize) -> Scanned
+    ensures { Closes at (Numeric.clock_done m.first (Numeric.on m.date) m.clock.hour m.clock.minute m.clock.second m.clock.nanos) result }
 {
-    if is_date(d) && is_clock(c) {
+    if is_date(m.date) && is_clock(m.clock) {
         return time(
             Time::LocalDateTime {
-                date: d,
-                clock: time_of_day(c),
+                date: m.date,
+                clock: time_of_day(m.clock),
             },
             at,
         );
     }
-    Err(Refusal::BadTime(q))
+    Err(Refusal::BadTime(m.first))
 }
 
 // The same with an offset.
-fn offset_date_time(q: usize, d: Date, c: Clock, offset: i16, at: usize) -> Scanned
-    requires { Parted c }
-    ensures { Closes at (Numeric.tested q (Numeric.ok_date d && clock_test c)
-        (Time.OffsetDateTime d (time_of_day c.hour c.minute c.second c.nanos) offset)) result }
+fn offset_date_time(m: Moment, offset: i16, at: usize) -> Scanned
+    ensures { Closes at (Numeric.tested m.first (Numeric.ok_date m.date && clock_test m.clock)
+        (Time.OffsetDateTime m.date (time_of_day m.clock.hour m.clock.minute m.clock.second m.clock.nanos) offset)) result }
 {
-    if is_date(d) && is_clock(c) {
+    if is_date(m.date) && is_clock(m.clock) {
         return time(
             Time::OffsetDateTime {
-                date: d,
-                clock: time_of_day(c),
+                date: m.date,
+                clock: time_of_day(m.clock),
                 offset,
             },
             at,
         );
     }
-    Err(Refusal::BadTime(q))
+    Err(Refusal::BadTime(m.first))
 }
 
 // Hours and minutes with their sign.
@@ -151,50 +147,51 @@ fn minutes(minus: bool, hour: u8, minute: u8) -> i16
 }
 
 // After an offset's hour and its colon.
-fn offset_minute(s: &[u8], q: usize, d: Date, c: Clock, minus: bool, hour: u8, i: usize) -> Scanned
-    requires { Place s.now i × Parted c }
-    ensures { Reads s.now i (field q (Numeric.offset_minute d c.hour c.minute c.second c.nanos minus hour) 2 0) result }
+fn offset_minute(s: &[u8], m: Moment, minus: bool, hour: u8, i: usize) -> Scanned
+    requires { Place s.now i }
+    ensures { Reads s.now i
+        (field m.first (Numeric.offset_minute m.date m.clock.hour m.clock.minute m.clock.second m.clock.nanos minus hour) 2 0) result }
 {
     let minute = two(s, i)?;
     if hour > 23 || minute.value > 59 {
-        return Err(Refusal::BadTime(q));
+        return Err(Refusal::BadTime(m.first));
     }
-    offset_date_time(q, d, c, minutes(minus, hour, minute.value), minute.end)
+    offset_date_time(m, minutes(minus, hour, minute.value), minute.end)
 }
 
 // After an offset's sign.
-fn offset(s: &[u8], q: usize, d: Date, c: Clock, minus: bool, i: usize) -> Scanned
-    requires { Place s.now i × Parted c }
-    ensures { Reads s.now i (field q (Numeric.offset_hour d c.hour c.minute c.second c.nanos minus) 2 0) result }
+fn offset(s: &[u8], m: Moment, minus: bool, i: usize) -> Scanned
+    requires { Place s.now i }
+    ensures { Reads s.now i (field m.first (Numeric.offset_hour m.date m.clock.hour m.clock.minute m.clock.second m.clock.nanos minus) 2 0) result }
 {
     let hour = two_then(s, i, b':')?;
-    offset_minute(s, q, d, c, minus, hour.value, hour.end)
+    offset_minute(s, m, minus, hour.value, hour.end)
 }
 
 // After a date and a time of day.
-fn zone(s: &[u8], q: usize, d: Date, c: Clock, at: usize) -> Scanned
-    requires { Place s.now at × Parted c }
-    ensures { Zoned s.now q (Numeric.on d) c at result }
+fn zone(s: &[u8], m: Moment, at: usize) -> Scanned
+    requires { Place s.now at }
+    ensures { Zoned s.now m.first (Numeric.on m.date) m.clock at result }
 {
     if at >= s.len() {
-        return local_date_time(q, d, c, at);
+        return local_date_time(m, at);
     }
     match s[at] {
-        b'Z' | b'z' => offset_date_time(q, d, c, 0, at + 1),
-        b'+' => offset(s, q, d, c, false, at + 1),
-        b'-' => offset(s, q, d, c, true, at + 1),
-        _ => local_date_time(q, d, c, at),
+        b'Z' | b'z' => offset_date_time(m, 0, at + 1),
+        b'+' => offset(s, m, false, at + 1),
+        b'-' => offset(s, m, true, at + 1),
+        _ => local_date_time(m, at),
     }
 }
 
 // After a time of day: a local time has no offset.
-fn clocked(s: &[u8], q: usize, w: Option<Date>, c: Clock, at: usize) -> Scanned
-    requires { Place s.now at × Parted c }
-    ensures { Zoned s.now q (when_of w) c at result }
+fn clocked(s: &[u8], first: usize, w: Option<Date>, clock: Clock, at: usize) -> Scanned
+    requires { Place s.now at }
+    ensures { Zoned s.now first (when_of w) clock at result }
 {
     match w {
-        None => local_time(q, c, at),
-        Some(d) => zone(s, q, d, c, at),
+        None => local_time(first, clock, at),
+        Some(date) => zone(s, Moment { first, date, clock }, at),
     }
 }
 

@@ -460,6 +460,17 @@ stop_later f b es s x w = by s.stop (moves_on f 1 b es s x w)
     by zero h = tt
     by (suc p) h = (h (λ z. omega arith)).0
 
+-- the next window may begin there
+pub window_onward : (best p : Option ℕ) (b : ℕ) (es : List Event) → Spans 1 b es → best ≡ repeat_in (window 0 p) [] es
+    → best ≡ repeat_in (window 0 (onward best p)) [] es
+window_onward None p b es s e = e
+window_onward (Some q) None b es s e = e
+window_onward (Some q) (Some p) b es s e = go (leb q p) refl
+  where
+    go : (x : Bool) → leb q p ≡ x → Some q ≡ repeat_in (window 0 (cond x None (Some p))) [] es
+    go true i = enough q p b es s e (leb-true q p i)
+    go false i = e
+
 module _ {b : ℕ} {es : List Event} where
   -- after the first pass
   pub search_begins : (s : Kept) → Passes 0 nothing es s → Spans 1 b es → SearchedTo b es (unless_zero s.twice) (unless_zero s.stop)

@@ -16,5 +16,7 @@ pub mod Opens
 pub mod Decided
 -- Leap years and the days of a month.
 pub mod Months
+-- The months but February, one by one.
+pub mod CalendarLaws
 -- Two outcomes that a promise allows are equal.
 pub mod Outcomes

@@ -212,6 +212,12 @@ module _ {s : List ℕ} {h : ℕ} where
   back_two (two p f a b c d) l u = p
   back_two (three p f a b c d x y) l u = absurd (omega (arith, high_most (get_or s h 0)))
 
+  pub back_three : Open s h → 0xF0 ≤ get_or s h 0 → get_or s (h + 1) 0 < 0xE0 → get_or s (h + 2) 0 < 0xC0 → Passed s h
+  back_three (whole p a b c) l u v = absurd (omega arith)
+  back_three (one p f a b c) l u v = absurd (omega arith)
+  back_three (two p f a b c d) l u v = absurd (omega arith)
+  back_three (three p f a b c d x y) l u v = p
+
   pub back_none : Open s h → get_or s h 0 < 0xF0 → get_or s (h + 1) 0 < 0xE0 → get_or s (h + 2) 0 < 0xC0 → Passed s (h + 3)
   back_none (whole p a b c) l u v = p
   back_none (one p f a b c) l u v = absurd (omega arith)

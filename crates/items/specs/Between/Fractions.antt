@@ -13,7 +13,7 @@ pub record Fractioned (s : List ℕ) (at n next : ℕ) : Type 0 where
   pub within : next ≤ length s
   pub small : n < Limits.second
   pub reads : (q : ℕ) (w : S.When) (h m c : ℕ) (r : Scanned)
-      → Zoned s q w (record { hour = h; minute = m; second = c; nanos = n }) next r
+      → Zoned s q w (record { hour = h; minute = m; second = c; nanos = n; parted = small }) next r
       → Reads s at (field q (S.second w h m) 0 c) r
 
 abbrev pub FractionSays : List ℕ → ℕ → Result (Taken ℕ) NotGrammarOf.NotGrammar → Type 0

@@ -26,7 +26,7 @@ use Rattle.items.specs.declared.number_or_time.Lead.TheVariants as Lead
 use Rattle.items.specs.declared.number_or_time.Mark as MarkOf
 use Rattle.items.specs.declared.number_or_time.Mark.TheVariants as Mark
 use Rattle.meaning.specs.declared.Date.{Date}
-use Rattle.items.specs.declared.time_value.Clock.{Clock}
+use Rattle.items.specs.declared.clock.Clock.{Clock}
 use Rattle.items.specs.Between.Places.{byte_at}
 
 -- ---- the promise of the whole
@@ -298,10 +298,6 @@ ThenSays s i mark (Err e) = (q : ℕ) (l : Slot) (to : ℕ → Slot) → Leads l
 abbrev pub when_of : Option Date → S.When
 when_of None = S.alone
 when_of (Some d) = S.on d
-
--- a clock's nanoseconds are less than a second
-abbrev pub Parted : Clock → Type 0
-Parted c = c.nanos < Limits.second
 
 -- a clock's own test
 abbrev pub clock_test : Clock → Bool

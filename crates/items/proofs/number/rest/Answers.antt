@@ -9,8 +9,8 @@ use Rattle.items.proofs.NumberPlainLaws.{span_small, int_ends, point_ends}
 use Rattle.items.proofs.number.rest.Goals as goal
 
 pub returns-then-ends : goal.returns-then-ends
-returns-then-ends c = int_ends c.args.s.now c.args.q
-    c.args.g c.held.result c.args.v
+returns-then-ends c = int_ends c.args.s.now c.args.num.first
+    c.args.num.minus c.held.result c.args.v
     c.held.ensures.holds c.settle.result c.args.at
     (subst (λ (b : Bool). EndsSays c.args.s.now c.args.at b)
     c.if-ends.true c.ends.ensures) c.settle.ensures
@@ -33,8 +33,8 @@ returns-then-ends-2 c = let h : c.args.at < length
     c.args.at b)
     c.if-ends.false c.ends.ensures in
     point_ends c.args.s.now
-    c.args.q
-    c.args.g c.held-then-ends-2.result
+    c.args.num.first
+    c.args.num.minus c.held-then-ends-2.result
     c.args.v
     c.args.at c.plain_digits-w.result
     c.settle-then-ends-2.result h c.if-s-at-ne46.false c.plain_digits-w.ensures

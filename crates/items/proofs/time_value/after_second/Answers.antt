@@ -2,9 +2,6 @@
 use Rattle.items.proofs.NumberOrTimeLaws.{handed_on}
 use Rattle.items.proofs.time_value.after_second.Goals as goal
 
-pub clocked-requires : goal.clocked-requires
-clocked-requires c = let t = c.in_ok-nanos.ensures in (record { within = t.within; short = c.requires.short }, t.small)
-
 pub returns-in_err-nanos : goal.returns-in_err-nanos
 returns-in_err-nanos c = handed_on _ c.from_residual.ensures.1 (c.in_err-nanos.ensures _ _ _ _ _)
 

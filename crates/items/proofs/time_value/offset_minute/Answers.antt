@@ -13,10 +13,10 @@ returns-in_err-minute c = handed_on _ c.from_residual.ensures.1 (c.in_err-minute
 
 pub returns-then-hour-gt23 : goal.returns-then-hour-gt23
 returns-then-hour-gt23 c = elim c.then-hour-gt23.branch [
-  | then-hour-gt23-via-then-hour-gt23 w ↦ offset_hour_lem _ _ _ _ _ _ _ _ c.in_ok-minute.ensures w.if-hour-gt23.true
-  | then-hour-gt23-via-else-hour-gt23+then-minute-gt59 w ↦ offset_minute_lem _ _ _ _ _ _ _ _ c.in_ok-minute.ensures w.if-minute-gt59.true
+  | then-hour-gt23-via-then-hour-gt23 w ↦ offset_hour_lem _ _ _ c.args.m.clock _ _ _ _ c.in_ok-minute.ensures w.if-hour-gt23.true
+  | then-hour-gt23-via-else-hour-gt23+then-minute-gt59 w ↦ offset_minute_lem _ _ _ c.args.m.clock _ _ _ _ c.in_ok-minute.ensures w.if-minute-gt59.true
 ]
 
 pub returns : goal.returns
-returns c = offset_ends _ _ _ _ _ _ _ _ c.in_ok-minute.ensures (omega arith) (omega arith) _
+returns c = offset_ends _ _ _ c.args.m.clock _ _ _ _ c.in_ok-minute.ensures (omega arith) (omega arith) _
     (back w16 _ c.args.minus (c.args.hour * 60 + c.in_ok-minute.minute.value) (omega arith) c.minutes.ensures) _ c.offset_date_time.ensures
