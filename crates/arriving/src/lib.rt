@@ -17,7 +17,7 @@ ghost use Rattle.std.specs.Prelude.{◌+◌, ◌≤◌, ◌≡◌, true, length}
 ghost use Rattle.meaning.specs.Limits.{text_limit};
 ghost use Rattle.arriving.specs.Between.Steps as Steps;
 ghost use Rattle.arriving.specs.Between.Arriving as Arriving;
-ghost use Rattle.arriving.specs.Between.Arriving.{started_core, spent_core, started, sane_mode, sane_here, fed, ended_core};
+ghost use Rattle.arriving.specs.Between.Arriving.{started, sane_mode, sane_here, fed, ended_core};
 
 use meaning::{DEPTH_LIMIT, Refusal, TEXT_LIMIT};
 use octets::Utf;
@@ -39,41 +39,25 @@ pub struct Check {
     pub kinds: [u8; DEPTH_LIMIT],
 }
 
-// Nothing has come: all but the kinds.
-fn start() -> Core
-    ensures { result ≡ started_core }
+// A check with no bracket open, between two characters.
+#[tactic(auto, unfolding(meaning::specs::Limits::depth_limit))]
+fn fresh(length: usize, mode: Mode) -> Check
+    ensures { result ≡ Arriving.fresh length mode }
 {
-    let utf = octets::whole();
     let here = Here {
-        mode: Mode::At,
+        mode,
         due: Due::Value,
         depth: 0,
         records: 0,
         stored: 0,
     };
-    Core {
-        length: 0,
-        utf,
-        here,
-    }
-}
-
-// Too many bytes have come, or the state never came from a start: all but the kinds.
-fn spent_core() -> Core
-    ensures { result ≡ spent_core }
-{
-    let utf = octets::whole();
-    let here = Here {
-        mode: Mode::Failed(Refusal::TextTooLong),
-        due: Due::Value,
-        depth: 0,
-        records: 0,
-        stored: 0,
-    };
-    Core {
-        length: TEXT_LIMIT + 1,
-        utf,
-        here,
+    Check {
+        core: Core {
+            length,
+            utf: octets::whole(),
+            here,
+        },
+        kinds: [0; DEPTH_LIMIT],
     }
 }
 
@@ -129,23 +113,17 @@ fn walked(had: Here, part: &[u8], base: usize, kinds: &mut [u8; DEPTH_LIMIT]) ->
 }
 
 // The state where nothing has come.
-#[tactic(auto, unfolding(meaning::specs::Limits::depth_limit))]
 pub fn check_start() -> Check
     ensures { result ≡ started }
 {
-    let core = start();
-    let kinds = [0; DEPTH_LIMIT];
-    Check { core, kinds }
+    fresh(0, Mode::At)
 }
 
 // The state where too many bytes have come, or where it never came from a start.
-#[tactic(auto, unfolding(meaning::specs::Limits::depth_limit))]
 fn spent() -> Check
     ensures { result ≡ Arriving.spent }
 {
-    let core = spent_core();
-    let kinds = [0; DEPTH_LIMIT];
-    Check { core, kinds }
+    fresh(TEXT_LIMIT + 1, Mode::Failed(Refusal::TextTooLong))
 }
 
 // The state after a part, which may be of no length.

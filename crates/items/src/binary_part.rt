@@ -23,7 +23,7 @@ fn after_pair(text: &[u8], at: usize) -> Result<Option<usize>, NotGrammar>
     }
 }
 
-// Hex pairs, from the first digit on.
+// Hex pairs, from the first digit on. The step is a pair with its dot or without, so no range counts it.
 fn pairs(
     text: &[u8],
     from: usize,
@@ -86,7 +86,7 @@ fn one_byte(text: &[u8], at: usize) -> Result<Taken<u8>, NotGrammar>
     }
 }
 
-// The quoted form, after its opening quote q.
+// The quoted form, after its opening quote q. The step is an escape's length or one byte, so no range counts it.
 fn quoted(
     text: &[u8],
     from: usize,

@@ -3,7 +3,7 @@ ghost use Rattle.std.specs.Prelude.{◌≡◌, ◌≤◌, length};
 ghost use Rattle.machine.specs.Names.{class_of};
 ghost use Rattle.items.specs.Between.Identifier.{sort_is, NameEnds};
 
-// A byte in an identifier.
+// A byte in an identifier: of three sorts, so an enum of its own and no Option.
 #[derive(Clone, Copy)]
 pub enum Sort {
     Letter,

@@ -58,7 +58,7 @@ pub fn grown(v: u32, d: u32) -> u32
     if v < 0x110000 { 16 * v + d } else { 0x110000 }
 }
 
-// The digits in braces of the escape at `at`.
+// The digits in braces of the escape at `at`. A `while` and no `for`: a value and a place step in it, and the brace is looked at after it.
 fn braces(s: &[u8], at: usize) -> Result<Taken<Escape>, NotGrammar>
     requires { (at + 2 < length s.now) × (get_or s.now at 0 ≡ ch "\\") × (get_or s.now (at + 1) 0 ≡ ch "u") × (get_or s.now (at + 2) 0 ≡ ch "{") }
     ensures { EscapeSays s.now at result }
@@ -223,7 +223,7 @@ pub fn plain_end(s: &[u8], from: usize, q: u8) -> usize
     plain_bytes(s, at, q)
 }
 
-// After one opening quote.
+// After one opening quote. The step is a run's or an escape's length, so no range counts it.
 fn inner(s: &[u8], q: u8, store: &mut [u8], at: usize) -> Result<Taken<usize>, Broken>
     requires { (at + length s.now < 2 ^ 64) × (0 < length s.now) }
     ensures { InnerSays s.now q at store.old store.new result }
@@ -276,7 +276,7 @@ pub fn lines_start(s: &[u8]) -> usize
     }
 }
 
-// Whether a byte may stand in a multiline part.
+// Whether a byte may stand in a multiline part. Most are tested first: all in one `matches!` took four instructions a byte more.
 #[tactic(auto, using(std::proofs::lemmas::Bool::Decides::nat_tests), unfolding(machine::specs::Strings::line_byte))]
 pub fn line_byte(b: u8) -> bool
     ensures { result ≡ line_byte b }

@@ -240,14 +240,14 @@ impl From<Record> for Fields {
 pub fn lanternrung_utf8(bytes: &[u8]) -> Status
     ensures { Utf8Told bytes.now result }
 {
-    rules::exports::lr_rules_utf8(bytes)
+    Status::from(rules::utf8(bytes))
 }
 
 // Whether there is such a date: refusal 5, at place 0, where there is none.
 pub fn lanternrung_date(year: u64, month: u64, day: u64) -> Status
     ensures { DateTold year month day result }
 {
-    rules::exports::lr_rules_date(year, month, day)
+    Status::from(rules::date(year, month, day))
 }
 
 // How many records and store bytes the text needs, or the refusal.

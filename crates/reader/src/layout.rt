@@ -101,7 +101,7 @@ fn is_blank(b: u8) -> bool
     matches!(b, b' ' | b'\t' | b'\n' | b'\r')
 }
 
-// The first place from `from` on that is no space, tab, LF or CR.
+// The first place from `from` on that is no space, tab, LF or CR. A `position` would count from `from` and want it added.
 fn blanks(text: &[u8], from: usize) -> usize
     requires { from ≤ length text.now }
     ensures { Blanks text.now from result }

@@ -132,6 +132,7 @@ pub fn measure(text: &[u8]) -> Result<Counts, Refusal>
     let counts = walk(text, &mut tape, &mut store, &mut seen)?;
     let twice = once::first_twice(&seen);
     let from = once::further(twice, once::stopped(&seen));
+    // most texts need no further window, and then no call with a table
     if from.is_none() {
         return answered(twice, counts);
     }

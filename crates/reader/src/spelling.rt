@@ -34,7 +34,7 @@ pub enum Spelling {
     },
 }
 
-// What comes next: a byte; none yet; or the key's end.
+// What comes next: a byte; none yet; or the key's end. Three ways, and `next` goes on with the second: no Option of an Option says it plainer.
 #[derive(Clone, Copy)]
 enum Spelt {
     Byte(u8, Spelling),
@@ -161,7 +161,7 @@ fn quoted(text: &[u8], at: usize, quote: u8) -> Spelt
     Spelt::Byte(b, Spelling::Quoted { at: at + 1, quote })
 }
 
-// Whether three quotes stand at a place.
+// Whether three quotes stand at a place. Place by place, as the machine's laws go: what `starts_with` promises goes by a list's front.
 fn three(text: &[u8], at: usize, quote: u8) -> bool
     requires { at ≤ length text.now }
     ensures { ThreeSays text.now at quote result }

@@ -27,19 +27,17 @@ core_of n u h = record { length = n; utf = u; here = h }
 abbrev pub check_of : Core → List ℕ → Check
 check_of c ks = record { core = c; kinds = ks }
 
--- nothing has come
-abbrev pub started_core : Core
-started_core = core_of 0 Octets.between (here_of Mode.At Due.Value 0 0 0)
+-- no bracket is open, after n bytes in this mode
+abbrev pub fresh : ℕ → ModeOf.Mode → Check
+fresh n m = check_of (core_of n Octets.between (here_of m Due.Value 0 0 0)) (replicate depth_limit 0)
 
+-- nothing has come
 abbrev pub started : Check
-started = check_of started_core (replicate depth_limit 0)
+started = fresh 0 Mode.At
 
 -- too many bytes have come, or the state never came from a start
-abbrev pub spent_core : Core
-spent_core = core_of (suc text_limit) Octets.between (here_of (Mode.Failed TextTooLong) Due.Value 0 0 0)
-
 abbrev pub spent : Check
-spent = check_of spent_core (replicate depth_limit 0)
+spent = fresh (suc text_limit) (Mode.Failed TextTooLong)
 
 -- ---- the bounds that sums and indexes need, kept by every byte
 

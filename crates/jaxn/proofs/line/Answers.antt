@@ -15,8 +15,7 @@ pub rewrite-requires : goal.rewrite-requires
 rewrite-requires c = (omega arith, length-take-le 65536 c.args.out.now (omega arith))
 
 pub byte_at-requires : goal.byte_at-requires
-byte_at-requires c = let here = text_within c.args.out.now c.rewrite.ensures c.in-Ok.is in
-    omega (arith, here, c.out-2-1.given.1, c.requires)
+byte_at-requires c = omega (arith, text_within c.args.out.now c.rewrite.ensures c.in-Ok.is)
 
 pub returns-in-Err : goal.returns-in-Err
 returns-in-Err c = tells_refusal c.rewrite.ensures c.in-Err.is (c.from-number.ensures ∙ c.number.ensures) c.place-place.ensures c.refused_line-in-Err.ensures

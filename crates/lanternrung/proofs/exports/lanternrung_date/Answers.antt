@@ -11,7 +11,7 @@ status n p = record { refused = n; place = p }
 pub returns : goal.returns
 unfolding status_of status
 returns c = record {
-  answer = c.lr_rules_date.ensures.answer;
-  allowed = c.lr_rules_date.ensures.dated;
-  told = ap₂ status c.lr_rules_date.ensures.number_is c.lr_rules_date.ensures.place_is;
+  answer = c.date.result;
+  allowed = c.date.ensures;
+  told = ap₂ status c.from.ensures.0 c.from.ensures.1;
 }

@@ -11,7 +11,7 @@ status n p = record { refused = n; place = p }
 pub returns : goal.returns
 unfolding status_of status
 returns c = record {
-  answer = c.lr_rules_utf8.ensures.answer;
-  allowed = c.lr_rules_utf8.ensures.judged;
-  told = ap₂ status c.lr_rules_utf8.ensures.number_is c.lr_rules_utf8.ensures.place_is;
+  answer = c.utf8-2.result;
+  allowed = c.utf8-2.ensures;
+  told = ap₂ status c.from.ensures.0 c.from.ensures.1;
 }
