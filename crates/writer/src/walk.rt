@@ -20,7 +20,8 @@ pub fn text_len(tape: &[u8], store: &[u8]) -> usize
 
 // The ends of the open containers and the brackets that close them stand in two arrays; those of the innermost in `until`
 // and `bracket`. A record is read after its comma and counted before it is printed: so a round is shortest.
-// A round takes a record or closes a container, so no range counts them.
+// A round takes a record or closes a container, so no range counts them. Kept: one array of a struct of both took 6 to 8 percent
+// more instructions in this walk on nested texts.
 pub fn write_records(out: &mut [u8], tape: &[u8], store: &[u8]) -> usize
     requires { TextFits tape.now store.now (length out.old) }
     ensures { TextPut tape.now store.now out.old out.new result }
