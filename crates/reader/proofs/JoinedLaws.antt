@@ -21,6 +21,7 @@ use Rattle.machine.specs.Binaries
 use Rattle.reader.specs.Between.Scanning.{Goes, Refuses, Bare}
 use Rattle.reader.specs.Between.Layout.{LayoutEnds, Breaks}
 use Rattle.items.specs.Between.PlacedPart.{Ended}
+use Rattle.items.specs.Between.StringPart.{PartSays}
 use Rattle.reader.specs.Between.Joined.{Plusless, Plus, FollowsSays, Stray, BytesSays, string_part_of, binary_part_of, whole_binary}
 use Rattle.reader.specs.Between.Joined.{PartKind, string_parts, binary_parts, State, scan_of, begin_of, Uses, part_of, whole_of}
 use Rattle.std.specs.Prelude.{Ok, Err}
@@ -97,6 +98,18 @@ part_here text p = take_all (length text - p) (drop p text) (simp length-drop (o
 
 pub part_length : (text : List ℕ) (p : ℕ) → length (take (length text - p) (drop p text)) ≡ length text - p
 part_length text p = ap length (part_here text p) ∙ simp length-drop refl
+
+module _ (text : List ℕ) (p start : ℕ) (entry : List ℕ) (h : p ≤ length text) where
+  pub part_closed : (exit : List ℕ) (taken n : ℕ) → PartSays (take (length text - p) (drop p text)) start entry exit (Ok (record { value = n; end = taken }))
+      → Ended Strings.scan Strings.begin text p start entry exit (p + taken) n
+  part_closed exit taken n w =
+      let l = part_length text p in
+      record {
+        u = w.value;
+        runs = ap (ran Strings.scan p Strings.begin) (sym (part_here text p)) ∙ w.runs p;
+        meant = record { counted = w.counted; filled = w.stored; room = omega (arith, w.fewer, w.counted); past = omega (arith, w.fewer) };
+        within = omega (arith, w.within);
+      }
 
 -- ---- what strings and binary have in common
 
