@@ -15,6 +15,7 @@ use Rattle.machine.proofs.Numeric.Rows.{DgIs, dg_class, ExpIs, exp_class}
 use Rattle.items.specs.declared.number.Acc.{Acc}
 use Rattle.items.specs.Between.NumberOrTime.{IsDigit, acc_of, pushed, raised_by}
 use Rattle.arriving.specs.declared.states.Decimal.{Decimal}
+use Rattle.arriving.specs.declared.states.Open.{Open}
 use Rattle.arriving.specs.declared.states.Figure.{Figure}
 use Rattle.arriving.specs.declared.states.Moment.{Moment}
 use Rattle.arriving.specs.declared.states.Mode.TheVariants.{Timing}
@@ -95,9 +96,9 @@ module _ (p : ℕ) where
   unfolding sane_figure
   digits_go d down e s h = goes (Figure.ExponentDigits d down e) (both _ _ s (lt-ltb e 10000000000 h))
 
-  open_goes : (q n : ℕ) (z : Bool) (v : ℕ) (a : Acc) → a.z ≤ suc p → Kept (counts (Figure.Open q n z v a))
+  open_goes : (o : Open) → o.acc.z ≤ suc p → Kept (counts (Figure.Open o))
   unfolding sane_figure
-  open_goes q n z v a h = goes (Figure.Open q n z v a) (le-leb _ _ h)
+  open_goes o h = goes (Figure.Open o) (le-leb _ _ h)
 
   module _ (q : ℕ) where
     -- the states that hold no sum
@@ -149,8 +150,8 @@ module _ (p : ℕ) where
   on_sign_lem q b other_f = tt
 
   on_begin_lem : (b : ℕ) (c : Fst) → Kept (Spec.on_begin p b c)
-  on_begin_lem b nought_f = open_goes p 1 true (b - ch "0") _ (omega (arith, pushed_zeros Spec.no_digits b))
-  on_begin_lem b digit_f = open_goes p 1 false (b - ch "0") _ (omega (arith, pushed_zeros Spec.no_digits b))
+  on_begin_lem b nought_f = open_goes (Spec.unsigned p 1 true (b - ch "0") (pushed Spec.no_digits b)) (omega (arith, pushed_zeros Spec.no_digits b))
+  on_begin_lem b digit_f = open_goes (Spec.unsigned p 1 false (b - ch "0") (pushed Spec.no_digits b)) (omega (arith, pushed_zeros Spec.no_digits b))
   on_begin_lem b point_f = point_is p
   on_begin_lem b n_f = word_is _
   on_begin_lem b i_f = word_is _
@@ -214,23 +215,25 @@ module _ (p : ℕ) where
 
   -- ---- digits with no sign
 
-  module _ (q n : ℕ) (v : ℕ) (a : Acc) (b : ℕ) (h : a.z ≤ p) where
-    as_number_lem : (z : Bool) (c : Num) → Kept (Spec.as_number p q n z a b c)
-    as_number_lem false c = on_whole_lem (Spec.decimal q a 0) b c (both _ _ (le-leb _ _ h) (le-leb 0 p (omega arith)))
-    as_number_lem true c = chosen (leb n 1) (Spec.on_nought q c) (Spec.odd_at p) (on_nought_lem q c) tt
+  module _ (o : Open) (b : ℕ) (h : o.acc.z ≤ p) where
+    as_number_lem : (c : Num) → Kept (Spec.as_number p o b c)
+    as_number_lem c =
+        chosen o.nought (cond (leb o.count 1) (Spec.on_nought o.first c) (Spec.odd_at p)) (Spec.on_whole (Spec.decimal o.first o.acc 0) b c)
+        (chosen (leb o.count 1) (Spec.on_nought o.first c) (Spec.odd_at p) (on_nought_lem o.first c) tt)
+        (on_whole_lem (Spec.decimal o.first o.acc 0) b c (both _ _ (le-leb _ _ h) (le-leb 0 p (omega arith))))
 
-    timed : (dated good : Bool) (m : Moment) → Kept (Takes (Timing (Spec.stamp q dated good) m) 0)
+    timed : (dated good : Bool) (m : Moment) → Kept (Takes (Timing (Spec.stamp o.first dated good) m) 0)
     unfolding sane_mode
     timed dated good m = (refl, omega arith)
 
-    on_open_lem : (z : Bool) (c : Num) → Kept (Spec.on_open p q n z v a b c)
-    on_open_lem z digit_n = chosen (ltb n 4) _ _ (open_goes q (n + 1) z _ _ (omega (arith, pushed_zeros a b))) (as_number_lem z digit_n)
-    on_open_lem z colon_n = chosen (eqb n 2) _ _ (timed false (leb v 23) _) (as_number_lem z colon_n)
-    on_open_lem z minus_n = chosen (eqb n 4) _ _ (timed true true _) (as_number_lem z minus_n)
-    on_open_lem z point_n = as_number_lem z point_n
-    on_open_lem z e_n = as_number_lem z e_n
-    on_open_lem z x_n = as_number_lem z x_n
-    on_open_lem z other_n = as_number_lem z other_n
+    on_open_lem : (c : Num) → Kept (Spec.on_open p o b c)
+    on_open_lem digit_n = chosen (ltb o.count 4) _ _ (open_goes _ (omega (arith, pushed_zeros o.acc b))) (as_number_lem digit_n)
+    on_open_lem colon_n = chosen (eqb o.count 2) _ _ (timed false (leb o.value 23) _) (as_number_lem colon_n)
+    on_open_lem minus_n = chosen (eqb o.count 4) _ _ (timed true true _) (as_number_lem minus_n)
+    on_open_lem point_n = as_number_lem point_n
+    on_open_lem e_n = as_number_lem e_n
+    on_open_lem x_n = as_number_lem x_n
+    on_open_lem other_n = as_number_lem other_n
 
 -- ---- any state
 
@@ -245,7 +248,7 @@ figures_bounded (Figure.Nought q) p b s = on_nought_lem p q (num_of b)
 figures_bounded (Figure.Point q) p b s = on_point_lem p q (dg_of b) (dg_class b)
 figures_bounded (Figure.HexMark q) p b s = on_mark p q (hex_of b)
 figures_bounded (Figure.Hex q v o) p b s = on_hex_lem p q v o (hex_of b)
-figures_bounded (Figure.Open q n z v a) p b s = on_open_lem p q n v a b (leb-true a.z p s) z (num_of b)
+figures_bounded (Figure.Open o) p b s = on_open_lem p o b (leb-true o.acc.z p s) (num_of b)
 figures_bounded (Figure.Whole d) p b s = on_whole_lem p d b (num_of b) s
 figures_bounded (Figure.Fraction d) p b s = on_fraction_lem p d b (num_of b) s
 figures_bounded (Figure.Exponent d) p b s = on_exponent_lem p d (exp_of b) (exp_class b) s

@@ -123,10 +123,10 @@ stay_on part x f w (suc k) at to e l =
 
 -- ---- runs
 
-module _ (part : List ℕ) (run : RunOf.Run) (q : ℕ) (f : ℕ → Stand)
-    (on : (w p b : ℕ) → stays_in run q b ≡ true → next (f w) p b ≡ f (w + 1))
+module _ (part : List ℕ) (run : RunOf.Run) (f : ℕ → Stand)
+    (on : (w p b : ℕ) → stays_in run b ≡ true → next (f w) p b ≡ f (w + 1))
     (more : (w n : ℕ) → Within n (f w).0 → Within (n + 1) (f (w + 1)).0) where
-  ran_on : (k w at to : ℕ) → at + k ≡ to → RanTo part at run q to → Leaps part (f w) at (f (w + k)) to
+  ran_on : (k w at to : ℕ) → at + k ≡ to → RanTo part at run to → Leaps part (f w) at (f (w + k)) to
   ran_on zero w at to e r =
       let z : at ≡ to = omega arith in
       let y : w + 0 ≡ w = omega arith in
@@ -142,7 +142,7 @@ module _ (part : List ℕ) (run : RunOf.Run) (q : ℕ) (f : ℕ → Stand)
         each = λ i a b. r.each i (omega arith) b;
       })))
 
-  pub run_leaps : (w at to : ℕ) → RanTo part at run q to → Leaps part (f w) at (f (w + (to - at))) to
+  pub run_leaps : (w at to : ℕ) → RanTo part at run to → Leaps part (f w) at (f (w + (to - at))) to
   run_leaps w at to r = ran_on (to - at) w at to (omega (arith, r.behind)) r
 
 -- ---- the loop

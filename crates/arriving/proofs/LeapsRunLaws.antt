@@ -36,18 +36,18 @@ use Rattle.arriving.proofs.LeapsLaws.{within_more, leaps_then, leaps_step, run_l
 
 -- ---- the loop
 
-pub ran_none : (part : List ℕ) (from : ℕ) (run : RunOf.Run) (q : ℕ) → from ≤ length part → RanTo part from run q from
-ran_none part from run q h = record { behind = omega arith; within = h; each = λ i a b. absurd (omega arith) }
+pub ran_none : (part : List ℕ) (from : ℕ) (run : RunOf.Run) → from ≤ length part → RanTo part from run from
+ran_none part from run h = record { behind = omega arith; within = h; each = λ i a b. absurd (omega arith) }
 
-pub ran_more : (part : List ℕ) (from : ℕ) (run : RunOf.Run) (q to : ℕ) → RanTo part from run q to → to < length part
-    → stays_in run q (get_or part to 0) ≡ true → RanTo part from run q (to + 1)
-ran_more part from run q to r h e = record {
+pub ran_more : (part : List ℕ) (from : ℕ) (run : RunOf.Run) (to : ℕ) → RanTo part from run to → to < length part
+    → stays_in run (get_or part to 0) ≡ true → RanTo part from run (to + 1)
+ran_more part from run to r h e = record {
   behind = omega (arith, r.behind);
   within = omega arith;
   each = λ i a b. by i a b (eqb i to) refl;
 }
   where
-    by : (i : ℕ) → from ≤ i → i < to + 1 → (x : Bool) → eqb i to ≡ x → stays_in run q (get_or part i 0) ≡ true
+    by : (i : ℕ) → from ≤ i → i < to + 1 → (x : Bool) → eqb i to ≡ x → stays_in run (get_or part i 0) ≡ true
     by i a b true k = rw (eqb-true i to k) e
     by i a b false k = r.each i a (less (eqb-false i to k))
       where
@@ -56,7 +56,7 @@ ran_more part from run q to r h e = record {
 
 -- ---- blanks
 
-blank_class : (b : ℕ) → stays_in Run.Blank 0 b ≡ true → class_of b ≡ blank_c
+blank_class : (b : ℕ) → stays_in Run.Blank b ≡ true → class_of b ≡ blank_c
 unfolding stays_in
 blank_class b h = by (eqb b (ch " ")) (eqb b (ch "\n")) (eqb b (ch "\r")) (eqb b (ch "\t")) refl refl refl refl h
   where
@@ -82,16 +82,16 @@ between_blank Due.AfterKeyString d r w ks p b e = rw e
 between_blank Due.AfterBinary d r w ks p b e = rw e
 
 -- past blanks
-pub blanks_pass : (part : List ℕ) (x : Spot) (ks : List ℕ) (to : ℕ) → RanTo part x.at Run.Blank 0 to → Leaps part (stand_of x ks) x.at (stand_of x ks) to
+pub blanks_pass : (part : List ℕ) (x : Spot) (ks : List ℕ) (to : ℕ) → RanTo part x.at Run.Blank to → Leaps part (stand_of x ks) x.at (stand_of x ks) to
 unfolding on_mode between sane_mode
 blanks_pass part x ks to r =
-    run_leaps part Run.Blank 0 (λ w. stand_of x ks)
+    run_leaps part Run.Blank (λ w. stand_of x ks)
     (λ w p b e. between_blank (due_at x) x.depth x.records x.stored ks p b (blank_class b e))
     (λ w n i. within_more n _ _ i i.deep (omega arith) (omega arith) refl) 0 x.at to r
 
 -- ---- comments
 
-line_note : (b : ℕ) (n : Note) → NoteIs b n → stays_in Run.Line 0 b ≡ true → (x : Stand) (p : ℕ) → on_line x p n ≡ moded x Mode.Line
+line_note : (b : ℕ) (n : Note) → NoteIs b n → stays_in Run.Line b ≡ true → (x : Stand) (p : ℕ) → on_line x p n ≡ moded x Mode.Line
 unfolding stays_in
 line_note b plain_n i h x p = refl
 line_note b star_n i h x p = refl
@@ -111,7 +111,7 @@ line_note b control_n i h x p =
     by false e true f g = i.1 (eqb-true b (ch "\t") f)
     by false e false f g = let z : ◌≡◌ {A = ℕ} 0 1 = cc in omega arith
 
-block_note : (b : ℕ) (n : Note) → NoteIs b n → stays_in Run.Block 0 b ≡ true → (x : Stand) (p : ℕ) → on_block x p n ≡ moded x Mode.Block
+block_note : (b : ℕ) (n : Note) → NoteIs b n → stays_in Run.Block b ≡ true → (x : Stand) (p : ℕ) → on_block x p n ≡ moded x Mode.Block
 unfolding stays_in line_byte
 block_note b plain_n i h x p = refl
 block_note b slash_n i h x p = refl
@@ -128,16 +128,16 @@ block_note b control_n i h x p =
     by false g = let z : ◌≡◌ {A = ℕ} 0 1 = cc in omega arith
 
 module _ (part : List ℕ) (u : DueOf.Due) (d r w : ℕ) (ks : List ℕ) (at to : ℕ) where
-  pub line_leaps : RanTo part at Run.Line 0 to → Leaps part (here_of Mode.Line u d r w, ks) at (here_of Mode.Line u d r w, ks) to
+  pub line_leaps : RanTo part at Run.Line to → Leaps part (here_of Mode.Line u d r w, ks) at (here_of Mode.Line u d r w, ks) to
   unfolding on_mode sane_mode
   line_leaps h =
-      run_leaps part Run.Line 0 (λ k. (here_of Mode.Line u d r w, ks)) (λ k p b e. line_note b (note_of b) (note_is_lem b) e (here_of Mode.Line u d r w, ks) p)
+      run_leaps part Run.Line (λ k. (here_of Mode.Line u d r w, ks)) (λ k p b e. line_note b (note_of b) (note_is_lem b) e (here_of Mode.Line u d r w, ks) p)
       (λ k n i. within_more n _ _ i i.deep (omega arith) (omega arith) refl) 0 at to h
 
-  pub block_leaps : RanTo part at Run.Block 0 to → Leaps part (here_of Mode.Block u d r w, ks) at (here_of Mode.Block u d r w, ks) to
+  pub block_leaps : RanTo part at Run.Block to → Leaps part (here_of Mode.Block u d r w, ks) at (here_of Mode.Block u d r w, ks) to
   unfolding on_mode sane_mode
   block_leaps h =
-      run_leaps part Run.Block 0 (λ k. (here_of Mode.Block u d r w, ks)) (λ k p b e.
+      run_leaps part Run.Block (λ k. (here_of Mode.Block u d r w, ks)) (λ k p b e.
       block_note b (note_of b) (note_is_lem b) e (here_of Mode.Block u d r w, ks) p)
       (λ k n i. within_more n _ _ i i.deep (omega arith) (omega arith) refl) 0 at to h
 
@@ -156,7 +156,7 @@ between_hash Due.AfterBinary d r w ks p b e = rw e
 
 -- past a line comment and the end of its line
 pub comment_skips : (part : List ℕ) (x : Spot) (ks : List ℕ) (y : Spot) (to : ℕ) → x.at < length part → get_or part x.at 0 ≡ ch "#"
-    → RanTo part (x.at + 1) Run.Line 0 to → to < length part → (get_or part to 0 ≡ ch "\n") ⊎ (get_or part to 0 ≡ ch "\r")
+    → RanTo part (x.at + 1) Run.Line to → to < length part → (get_or part to 0 ≡ ch "\n") ⊎ (get_or part to 0 ≡ ch "\r")
     → y ≡ spot_at x (to + 1) → Skips part x ks y ks
 unfolding on_mode between sane_mode
 comment_skips part x ks y to h e r l n g =
@@ -176,7 +176,7 @@ comment_skips part x ks y to h e r l n g =
 
 -- ---- string parts
 
-body_takes : (k : Quoted) (p b : ℕ) → k.half ≡ 0 → stays_in Run.Plain k.quote b ≡ true
+body_takes : (k : Quoted) (p b : ℕ) → k.half ≡ 0 → stays_in (Run.Plain k.quote) b ≡ true
     → next_quoted k Inner.Body p b ≡ Takes (Mode.Quoting k Inner.Body) 1
 unfolding next_quoted on_body bad_now stays_in
 body_takes k p b e h = by (eqb b (ch "\\")) (eqb b k.quote) (plain_byte b) h
@@ -191,7 +191,7 @@ body_takes k p b e h = by (eqb b (ch "\\")) (eqb b k.quote) (plain_byte b) h
     by false false true g =
         rw (eq-eqb _ _ e) (ap (λ (i : ℕ). Takes (Mode.Quoting (quoted k.quote k.bad i) Inner.Body) 1) (sym e))
 
-lines_takes : (k : Quoted) (p b : ℕ) → stays_in Run.Lines k.quote b ≡ true → next_quoted k (Inner.Lines 0) p b ≡ Takes (Mode.Quoting k (Inner.Lines 0)) 1
+lines_takes : (k : Quoted) (p b : ℕ) → stays_in (Run.Lines k.quote) b ≡ true → next_quoted k (Inner.Lines 0) p b ≡ Takes (Mode.Quoting k (Inner.Lines 0)) 1
 unfolding next_quoted on_lines stays_in
 lines_takes k p b h = by (eqb b k.quote) (line_byte b) h
   where
@@ -203,25 +203,25 @@ lines_takes k p b h = by (eqb b k.quote) (line_byte b) h
     by false false g = absurd (let z : ◌≡◌ {A = ℕ} 0 1 = cc in omega arith)
 
 module _ (part : List ℕ) (k : Quoted) (u : DueOf.Due) (d r w : ℕ) (ks : List ℕ) (at to : ℕ) where
-  pub body_leaps : k.half ≡ 0 → RanTo part at Run.Plain k.quote to
+  pub body_leaps : k.half ≡ 0 → RanTo part at (Run.Plain k.quote) to
       → Leaps part (here_of (Mode.Quoting k Inner.Body) u d r w, ks) at (here_of (Mode.Quoting k Inner.Body) u d r (w + (to - at)), ks) to
   unfolding on_mode sane_mode done
   body_leaps e h =
-      run_leaps part Run.Plain k.quote (λ v. (here_of (Mode.Quoting k Inner.Body) u d r v, ks))
+      run_leaps part (Run.Plain k.quote) (λ v. (here_of (Mode.Quoting k Inner.Body) u d r v, ks))
       (λ v p b f. ap (λ (o : Out). done (here_of (Mode.Quoting k Inner.Body) u d r v, ks) p b o) (body_takes k p b e f))
       (λ v n i. within_more n _ _ i i.deep (omega arith) (omega arith) refl) w at to h
 
-  pub lines_leaps : RanTo part at Run.Lines k.quote to
+  pub lines_leaps : RanTo part at (Run.Lines k.quote) to
       → Leaps part (here_of (Mode.Quoting k (Inner.Lines 0)) u d r w, ks) at (here_of (Mode.Quoting k (Inner.Lines 0)) u d r (w + (to - at)), ks) to
   unfolding on_mode sane_mode done
   lines_leaps h =
-      run_leaps part Run.Lines k.quote (λ v. (here_of (Mode.Quoting k (Inner.Lines 0)) u d r v, ks))
+      run_leaps part (Run.Lines k.quote) (λ v. (here_of (Mode.Quoting k (Inner.Lines 0)) u d r v, ks))
       (λ v p b f. ap (λ (o : Out). done (here_of (Mode.Quoting k (Inner.Lines 0)) u d r v, ks) p b o) (lines_takes k p b f))
       (λ v n i. within_more n _ _ i i.deep (omega arith) (omega arith) refl) w at to h
 
 -- ---- what the functions come to
 
-pub blank_skips : (part : List ℕ) (x : Spot) (ks : List ℕ) (y : Spot) (to : ℕ) → RanTo part x.at Run.Blank 0 to
+pub blank_skips : (part : List ℕ) (x : Spot) (ks : List ℕ) (y : Spot) (to : ℕ) → RanTo part x.at Run.Blank to
     → y ≡ spot_at x to → Skips part x ks y ks
 blank_skips part x ks y to r g = rw g (blanks_pass part x ks to r)
 
@@ -230,27 +230,27 @@ abbrev Grew : Here → ℕ → ℕ → Here
 Grew h at to = here_of h.mode h.due h.depth h.records (h.stored + (to - at))
 
 module _ (part : List ℕ) (h : Here) (ks : List ℕ) (at : ℕ) (r : Reached) where
-  pub line_run : h.mode ≡ Mode.Line → (r.here ≡ h) × RanTo part at Run.Line 0 r.at → Leaps part (h, ks) at (r.here, ks) r.at
+  pub line_run : h.mode ≡ Mode.Line → (r.here ≡ h) × RanTo part at Run.Line r.at → Leaps part (h, ks) at (r.here, ks) r.at
   line_run m f =
       rw f.0 (subst (λ (m' : ModeOf.Mode). Leaps part (here_of m' h.due h.depth h.records h.stored, ks) at
       (here_of m' h.due h.depth h.records h.stored, ks) r.at) (sym m)
       (line_leaps part h.due h.depth h.records h.stored ks at r.at f.1))
 
-  pub block_run : h.mode ≡ Mode.Block → (r.here ≡ h) × RanTo part at Run.Block 0 r.at → Leaps part (h, ks) at (r.here, ks) r.at
+  pub block_run : h.mode ≡ Mode.Block → (r.here ≡ h) × RanTo part at Run.Block r.at → Leaps part (h, ks) at (r.here, ks) r.at
   block_run m f =
       rw f.0 (subst (λ (m' : ModeOf.Mode). Leaps part (here_of m' h.due h.depth h.records h.stored, ks) at
       (here_of m' h.due h.depth h.records h.stored, ks) r.at) (sym m)
       (block_leaps part h.due h.depth h.records h.stored ks at r.at f.1))
 
   module _ (k : Quoted) (s : InnerOf.Inner) (m : h.mode ≡ Mode.Quoting k s) where
-    pub body_run : s ≡ Inner.Body → k.half ≡ 0 → (r.here ≡ Grew h at r.at) × RanTo part at Run.Plain k.quote r.at
+    pub body_run : s ≡ Inner.Body → k.half ≡ 0 → (r.here ≡ Grew h at r.at) × RanTo part at (Run.Plain k.quote) r.at
         → Leaps part (h, ks) at (r.here, ks) r.at
     body_run e z f =
         rw f.0 (subst (λ (m' : ModeOf.Mode). Leaps part (here_of m' h.due h.depth h.records h.stored, ks) at
         (here_of m' h.due h.depth h.records (h.stored + (r.at - at)), ks) r.at) (sym (m ∙ ap (Mode.Quoting k) e))
         (body_leaps part k h.due h.depth h.records h.stored ks at r.at z f.1))
 
-    pub lines_run : (n : ℕ) → s ≡ Inner.Lines n → n ≡ 0 → (r.here ≡ Grew h at r.at) × RanTo part at Run.Lines k.quote r.at
+    pub lines_run : (n : ℕ) → s ≡ Inner.Lines n → n ≡ 0 → (r.here ≡ Grew h at r.at) × RanTo part at (Run.Lines k.quote) r.at
         → Leaps part (h, ks) at (r.here, ks) r.at
     lines_run n e z f =
         rw f.0 (subst (λ (m' : ModeOf.Mode). Leaps part (here_of m' h.due h.depth h.records h.stored, ks) at

@@ -34,7 +34,7 @@ use Rattle.arriving.specs.declared.states.Mode.TheVariants.{Spelling, Counting, 
 use Rattle.arriving.specs.declared.states.Out.{Out}
 use Rattle.arriving.specs.declared.states.Out.TheVariants.{Stops, Breaks}
 use Rattle.arriving.specs.Between.Figures as C
-use Rattle.arriving.specs.Between.Figures.{decimal, fits, settled, begin_figure, next_figure, sane_figure}
+use Rattle.arriving.specs.Between.Figures.{decimal, unsigned, fits, settled, begin_figure, next_figure, sane_figure}
 use Rattle.arriving.specs.Between.Times.{next_moment}
 use Rattle.arriving.specs.Between.Small.{next_word}
 use Rattle.arriving.proofs.Alike.{Alike}
@@ -60,7 +60,7 @@ pub data NumericIs (base : ℕ) : Mode → St → ℕ → Type 0 where
   hex_mark : {q : ℕ} {g : Bool} → NumericIs base (Counting (Figure.HexMark (base + q))) (M.hex_mark q g) 0
   hex : {q : ℕ} {g : Bool} {w v : ℕ} {o : Bool} → Sixteens w v o → NumericIs base (Counting (Figure.Hex (base + q) v o)) (M.hex q g w) 0
   digits : {q n : ℕ} {k : Len} {z : Bool} {v : ℕ} {a : Acc} → Count n k v → Sums v a
-      → NumericIs base (Counting (Figure.Open (base + q) n z v a)) (M.both q k z v) 0
+      → NumericIs base (Counting (Figure.Open (unsigned (base + q) n z v a))) (M.both q k z v) 0
   whole : {q : ℕ} {g : Bool} {m : ℕ} {a : Acc} → Sums m a → NumericIs base (Counting (Figure.Whole (decimal (base + q) a 0))) (M.int q g m) 0
   fraction : {q : ℕ} {g : Bool} {m f : ℕ} {a : Acc} → Sums m a
       → NumericIs base (Counting (Figure.Fraction (decimal (base + q) a f))) (M.frac q g m f) 0
@@ -234,7 +234,7 @@ module _ (base q : ℕ) (g : Bool) where
 
 module _ (base p q : ℕ) where
   number_alike : {n : ℕ} {k : Len} {v : ℕ} {a : Acc} {b : ℕ} {c : Num} (z : Bool) → Count n k v → Sums v a → NumIs b c
-      → Same base (C.as_number (base + p) (base + q) n z a b c) (M.as_number p q k z v b c)
+      → Same base (C.as_number (base + p) (unsigned (base + q) n z v a) b c) (M.as_number p q k z v b c)
   number_alike false (one l) s i = whole_alike base q false i s
   number_alike false (two l) s i = whole_alike base q false i s
   number_alike false (three l) s i = whole_alike base q false i s
@@ -245,7 +245,7 @@ module _ (base p q : ℕ) where
   number_alike true (four l) s i = Alike.breaks refl
 
   digit_alike : {n : ℕ} {k : Len} {v : ℕ} {a : Acc} {b : ℕ} (z : Bool) → Count n k v → Sums v a → IsDigit b
-      → Same base (C.on_digit (base + p) (base + q) n z v a b) (M.on_digit p q k z v b)
+      → Same base (C.on_digit (base + p) (unsigned (base + q) n z v a) b) (M.on_digit p q k z v b)
   digit_alike {v = v} {b = b} z (one l) s i =
       let e : v % 1000 ≡ v = omega arith in
       rw e (Alike.takes (digits (two {v = dig v b} (omega (arith, i.low, i.high))) (pushed_sums _ _ _ i s)))
@@ -258,21 +258,21 @@ module _ (base p q : ℕ) where
   digit_alike z (four l) s i = number_alike z (four l) s (NumIs.digit i)
 
   colon_alike : {n : ℕ} {k : Len} {v : ℕ} {a : Acc} (z : Bool) → Count n k v → Sums v a
-      → Same base (C.on_colon (base + p) (base + q) n z v a (ch ":")) (M.on_colon p q k z v (ch ":"))
+      → Same base (C.on_colon (base + p) (unsigned (base + q) n z v a) (ch ":")) (M.on_colon p q k z v (ch ":"))
   colon_alike z (one l) s = number_alike z (one l) s NumIs.colon
   colon_alike z (two l) s = Alike.takes (timing (hour_stands l))
   colon_alike z (three l) s = number_alike z (three l) s NumIs.colon
   colon_alike z (four l) s = number_alike z (four l) s NumIs.colon
 
   minus_alike : {n : ℕ} {k : Len} {v : ℕ} {a : Acc} (z : Bool) → Count n k v → Sums v a
-      → Same base (C.on_minus (base + p) (base + q) n z v a (ch "-")) (M.on_minus p q k z v (ch "-"))
+      → Same base (C.on_minus (base + p) (unsigned (base + q) n z v a) (ch "-")) (M.on_minus p q k z v (ch "-"))
   minus_alike z (one l) s = number_alike z (one l) s NumIs.minus
   minus_alike z (two l) s = number_alike z (two l) s NumIs.minus
   minus_alike z (three l) s = number_alike z (three l) s NumIs.minus
   minus_alike z (four l) s = Alike.takes (timing (year_stands l))
 
   open_alike : {n : ℕ} {k : Len} {v : ℕ} {a : Acc} {b : ℕ} {c : Num} (z : Bool) → Count n k v → Sums v a → NumIs b c
-      → Same base (C.on_open (base + p) (base + q) n z v a b c) (M.on_both p q k z v b c)
+      → Same base (C.on_open (base + p) (unsigned (base + q) n z v a) b c) (M.on_both p q k z v b c)
   open_alike z l s (NumIs.digit i) = digit_alike z l s i
   open_alike z l s NumIs.colon = colon_alike z l s
   open_alike z l s NumIs.minus = minus_alike z l s

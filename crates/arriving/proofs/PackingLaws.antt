@@ -67,9 +67,15 @@ figure_back (Figure.Nought q) h = refl
 figure_back (Figure.Point q) h = refl
 figure_back (Figure.HexMark q) h = refl
 figure_back (Figure.Hex q v o) h = λ i. Mode.Counting (Figure.Hex q v (bit_back o i))
-figure_back (Figure.Open q n z v a) h =
-    let e : v % 65536 ≡ v = omega arith in
-    λ i. Mode.Counting (Figure.Open q n (bit_back z i) (e i) (record { c = a.c; over = bit_back a.over i; z = a.z }))
+figure_back (Figure.Open o) h =
+    let e : o.value % 65536 ≡ o.value = omega arith in
+    λ i. Mode.Counting (Figure.Open (record {
+      first = o.first;
+      count = o.count;
+      nought = bit_back o.nought i;
+      value = e i;
+      acc = record { c = o.acc.c; over = bit_back o.acc.over i; z = o.acc.z };
+    }))
 figure_back (Figure.Whole d) h = λ i. Mode.Counting (Figure.Whole (decimal_back 6 d false 0 i))
 figure_back (Figure.Fraction d) h = λ i. Mode.Counting (Figure.Fraction (decimal_back 7 d false 0 i))
 figure_back (Figure.Exponent d) h = λ i. Mode.Counting (Figure.Exponent (decimal_back 8 d false 0 i))

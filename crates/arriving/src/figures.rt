@@ -7,7 +7,7 @@ ghost use Rattle.items.specs.Between.NumberOrTime.{IsDigit};
 ghost use Rattle.arriving.specs.Between.Figures as Spec;
 ghost use Rattle.arriving.specs.Between.Figures.{Sound, begin_figure, next_figure, sane_figure, sane_decimal};
 
-use crate::states::{Decimal, Figure, Mode, Moment, Out, Slot, Stamp};
+use crate::states::{Decimal, Figure, Mode, Moment, Open, Out, Slot, Stamp};
 use items::number::{Acc, NONE};
 use items::{hex_digit, number};
 use meaning::{COEFFICIENT_MOST, POWER_LIMIT, Refusal};
@@ -90,13 +90,13 @@ pub fn begin(p: usize, b: u8) -> Out
 {
     match b {
         b'+' | b'-' => goes(Figure::Sign(p)),
-        b'0'..=b'9' => goes(Figure::Open {
+        b'0'..=b'9' => goes(Figure::Open(Open {
             first: p,
             count: 1,
             nought: b == b'0',
             value: (b - b'0') as u16,
             acc: number::push(NONE, b),
-        }),
+        })),
         _ => undigited(p, p, b),
     }
 }
@@ -246,47 +246,45 @@ fn hex(first: usize, value: u64, over: bool, b: u8) -> Out
 }
 
 // Digits with no sign that are no time; more digits after a first 0 are no number.
-fn as_number(first: usize, count: u8, zero: bool, acc: Acc, p: usize, b: u8) -> Out
-    requires { acc.z ≤ text_limit }
-    ensures { result ≡ Spec.as_number p first count zero acc b (num_of b) }
+fn as_number(o: Open, p: usize, b: u8) -> Out
+    requires { o.acc.z ≤ text_limit }
+    ensures { result ≡ Spec.as_number p o b (num_of b) }
 {
-    if zero {
-        if count <= 1 {
-            return nought(first, b);
+    if o.nought {
+        if o.count <= 1 {
+            return nought(o.first, b);
         }
         return Out::Breaks(Refusal::NotGrammar(p));
     }
-    whole(decimal(first, acc, 0), b)
+    whole(decimal(o.first, o.acc, 0), b)
 }
 
 // One more digit with no sign.
-fn open_digit(first: usize, count: u8, zero: bool, value: u16, acc: Acc, p: usize, b: u8) -> Out
-    requires { IsDigit b × (acc.z ≤ text_limit) }
-    ensures { result ≡ Spec.on_digit p first count zero value acc b }
+fn open_digit(o: Open, p: usize, b: u8) -> Out
+    requires { IsDigit b × (o.acc.z ≤ text_limit) }
+    ensures { result ≡ Spec.on_digit p o b }
 {
-    if count < 4 {
-        let more = number::push(acc, b);
-        return goes(Figure::Open {
-            first,
-            count: count + 1,
-            nought: zero,
-            value: 10 * (value % 1000) + (b - b'0') as u16,
-            acc: more,
-        });
+    if o.count < 4 {
+        return goes(Figure::Open(Open {
+            count: o.count + 1,
+            value: 10 * (o.value % 1000) + (b - b'0') as u16,
+            acc: number::push(o.acc, b),
+            ..o
+        }));
     }
-    as_number(first, count, zero, acc, p, b)
+    as_number(o, p, b)
 }
 
 // A colon after digits with no sign: two may be an hour.
-fn open_colon(first: usize, count: u8, zero: bool, value: u16, acc: Acc, p: usize) -> Out
-    requires { acc.z ≤ text_limit }
-    ensures { result ≡ Spec.on_colon p first count zero value acc (ch ":") }
+fn open_colon(o: Open, p: usize) -> Out
+    requires { o.acc.z ≤ text_limit }
+    ensures { result ≡ Spec.on_colon p o (ch ":") }
 {
-    if count == 2 {
+    if o.count == 2 {
         let s = Stamp {
-            first,
+            first: o.first,
             dated: false,
-            good: value <= 23,
+            good: o.value <= 23,
         };
         let m = Moment::Field {
             slot: Slot::Minute,
@@ -295,40 +293,40 @@ fn open_colon(first: usize, count: u8, zero: bool, value: u16, acc: Acc, p: usiz
         };
         return Out::Takes(Mode::Timing(s, m), 0);
     }
-    as_number(first, count, zero, acc, p, b':')
+    as_number(o, p, b':')
 }
 
 // A minus after digits with no sign: four may be a year.
-fn open_minus(first: usize, count: u8, zero: bool, value: u16, acc: Acc, p: usize) -> Out
-    requires { acc.z ≤ text_limit }
-    ensures { result ≡ Spec.on_minus p first count zero value acc (ch "-") }
+fn open_minus(o: Open, p: usize) -> Out
+    requires { o.acc.z ≤ text_limit }
+    ensures { result ≡ Spec.on_minus p o (ch "-") }
 {
-    if count == 4 {
+    if o.count == 4 {
         let s = Stamp {
-            first,
+            first: o.first,
             dated: true,
             good: true,
         };
         let m = Moment::Field {
-            slot: Slot::Month(value),
+            slot: Slot::Month(o.value),
             left: 2,
             value: 0,
         };
         return Out::Takes(Mode::Timing(s, m), 0);
     }
-    as_number(first, count, zero, acc, p, b'-')
+    as_number(o, p, b'-')
 }
 
 // After digits with no sign, a number's or a time's.
-fn open_digits(first: usize, count: u8, zero: bool, value: u16, acc: Acc, p: usize, b: u8) -> Out
-    requires { acc.z ≤ text_limit }
-    ensures { result ≡ Spec.on_open p first count zero value acc b (num_of b) }
+fn open_digits(o: Open, p: usize, b: u8) -> Out
+    requires { o.acc.z ≤ text_limit }
+    ensures { result ≡ Spec.on_open p o b (num_of b) }
 {
     match b {
-        b'0'..=b'9' => open_digit(first, count, zero, value, acc, p, b),
-        b':' => open_colon(first, count, zero, value, acc, p),
-        b'-' => open_minus(first, count, zero, value, acc, p),
-        _ => as_number(first, count, zero, acc, p, b),
+        b'0'..=b'9' => open_digit(o, p, b),
+        b':' => open_colon(o, p),
+        b'-' => open_minus(o, p),
+        _ => as_number(o, p, b),
     }
 }
 
@@ -344,13 +342,7 @@ pub fn figure_next(f: Figure, p: usize, b: u8) -> Out
         Figure::Point(q) => point(q, p, b),
         Figure::HexMark(q) => hex_mark(q, p, b),
         Figure::Hex { first, value, over } => hex(first, value, over, b),
-        Figure::Open {
-            first,
-            count,
-            nought,
-            value,
-            acc,
-        } => open_digits(first, count, nought, value, acc, p, b),
+        Figure::Open(o) => open_digits(o, p, b),
         Figure::Whole(d) => whole(d, b),
         Figure::Fraction(d) => fraction(d, b),
         Figure::Exponent(d) => exponent(d, p, b),
@@ -381,7 +373,7 @@ pub fn sane_figure(f: Figure, n: usize) -> bool
         | Figure::Point(_)
         | Figure::HexMark(_)
         | Figure::Hex { .. } => true,
-        Figure::Open { acc, .. } => acc.z <= n,
+        Figure::Open(o) => o.acc.z <= n,
         Figure::Whole(d) | Figure::Fraction(d) | Figure::Exponent(d) | Figure::ExponentSign(d, _) =>
             sane_decimal(d, n),
         Figure::ExponentDigits { decimal, power, .. } => sane_decimal(decimal, n)

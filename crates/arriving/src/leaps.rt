@@ -19,14 +19,14 @@ use items::{binary_part, identifier, number_or_time, string_part, word};
 use meaning::DEPTH_LIMIT;
 
 // Bytes that leave the check where it stands: between items, in a line comment, in a block comment, between the quotes of a part
-// with one, and with three.
+// with one, and with three; the last two hold the part's quote.
 #[derive(Clone, Copy)]
 enum Run {
     Blank,
     Line,
     Block,
-    Plain,
-    Lines,
+    Plain(u8),
+    Lines(u8),
 }
 
 // A place of the part where no item stands, and what is due there, by number: a byte in a struct of words would be copied in pieces.
@@ -48,25 +48,25 @@ pub struct Reached {
 
 // Whether a byte leaves the check where it stands.
 #[tactic(auto, unfolding(crate::specs::Between::Leaps::stays_in, machine::specs::Strings::plain_byte))]
-fn stays(run: Run, quote: u8, b: u8) -> bool
-    ensures { result ≡ stays_in run quote b }
+fn stays(run: Run, b: u8) -> bool
+    ensures { result ≡ stays_in run b }
 {
     match run {
         Run::Blank => matches!(b, b' ' | b'\n' | b'\r' | b'\t'),
         Run::Line => b >= b' ' || b == b'\t',
         Run::Block => b != b'*' && string_part::line_byte(b),
-        Run::Plain => b != b'\\' && b != quote && b >= b' ',
-        Run::Lines => b != quote && string_part::line_byte(b),
+        Run::Plain(quote) => b != b'\\' && b != quote && b >= b' ',
+        Run::Lines(quote) => b != quote && string_part::line_byte(b),
     }
 }
 
 // The first place from `from` on whose byte does not.
-fn run_end(part: &[u8], from: usize, run: Run, quote: u8) -> usize
+fn run_end(part: &[u8], from: usize, run: Run) -> usize
     requires { from ≤ length part.now }
-    ensures { RanTo part.now from run quote result }
+    ensures { RanTo part.now from run result }
 {
     for i in from..part.len() {
-        if !stays(run, quote, part[i]) {
+        if !stays(run, part[i]) {
             return i;
         }
     }
@@ -294,7 +294,7 @@ fn line_comment(part: &[u8], x: Spot) -> Spot
     requires { Placed part.now x × (get_or part.now x.at 0 ≡ ch "#") }
     ensures { (ks : List ℕ) → Skips part.now x ks result ks }
 {
-    let end = run_end(part, x.at + 1, Run::Line, 0);
+    let end = run_end(part, x.at + 1, Run::Line);
     if end >= part.len() {
         return x;
     }
@@ -313,7 +313,7 @@ fn turn(part: &[u8], x: Spot, kinds: &mut [u8; DEPTH_LIMIT]) -> Spot
     let j = x.at;
     let b = part[j];
     if b <= b' ' {
-        return passed(x, run_end(part, j, Run::Blank, 0));
+        return passed(x, run_end(part, j, Run::Blank));
     }
     match b {
         b'"' | b'\'' => quoted(part, x),
@@ -367,21 +367,21 @@ fn skimmed(here: Here, part: &[u8], at: usize, kinds: &mut [u8; DEPTH_LIMIT]) ->
 // The same state, where these bytes have run out.
 fn ran(here: Here, part: &[u8], at: usize, run: Run) -> Reached
     requires { at ≤ length part.now }
-    ensures { (result.here ≡ here) × RanTo part.now at run 0 result.at }
+    ensures { (result.here ≡ here) × RanTo part.now at run result.at }
 {
     Reached {
         here,
-        at: run_end(part, at, run, 0),
+        at: run_end(part, at, run),
     }
 }
 
 // The same state, with a store byte more for each of these bytes.
-fn stored(here: Here, part: &[u8], at: usize, run: Run, quote: u8) -> Reached
+fn stored(here: Here, part: &[u8], at: usize, run: Run) -> Reached
     requires { Stands part.now at here }
     ensures { (result.here ≡ here_of here.mode here.due here.depth here.records (here.stored + (result.at - at)))
-        × RanTo part.now at run quote result.at }
+        × RanTo part.now at run result.at }
 {
-    let end = run_end(part, at, run, quote);
+    let end = run_end(part, at, run);
     Reached {
         here: Here {
             stored: here.stored + (end - at),
@@ -397,8 +397,8 @@ fn quoting(here: Here, k: Quoted, s: Inner, part: &[u8], at: usize) -> Reached
     ensures { (ks : List ℕ) → Leaps part.now (here, ks) at (result.here, ks) result.at }
 {
     match s {
-        Inner::Body if k.half == 0 => stored(here, part, at, Run::Plain, k.quote),
-        Inner::Lines(0) => stored(here, part, at, Run::Lines, k.quote),
+        Inner::Body if k.half == 0 => stored(here, part, at, Run::Plain(k.quote)),
+        Inner::Lines(0) => stored(here, part, at, Run::Lines(k.quote)),
         _ => Reached { here, at },
     }
 }

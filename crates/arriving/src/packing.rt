@@ -2,14 +2,16 @@
 ghost use Rattle.std.specs.Prelude.{◌≡◌, ◌+◌, ◌*◌, ◌≤◌, length};
 ghost use Rattle.std.proofs.lemmas.List.Edits.{sets};
 ghost use Rattle.meaning.specs.Bytes.{flag};
-ghost use Rattle.arriving.specs.Between.Packing.{flat, due_number, due_of, flat_decimal, decimal_of, flat_figure, figure_of};
+ghost use Rattle.arriving.specs.Between.Packing.{flat, due_number, due_of, flat_decimal, decimal_of, flat_open, flat_figure, figure_of};
 ghost use Rattle.arriving.specs.Between.Packing.{flat_time, flat_field, flat_moment};
 ghost use Rattle.arriving.specs.Between.Packing.{stamp_of, slot_of, moment_of, flat_quoted, flat_inner, quoted_of, inner_of, flat_octets, octets_of};
 ghost use Rattle.arriving.specs.Between.Packing.{flat_refusal, refusal_of, flat_mode, mode_of, open_of, FitFigure, FitSlot, FitMoment, FitInner, FitMode};
 ghost use Rattle.arriving.specs.Between.Packing.{spread, Narrow, smalls, larges, Kept, packed, unpacked, padded, flat_at, utf_at, here_at};
 
 use crate::octets::Utf;
-use crate::states::{Decimal, Due, Figure, Here, Inner, Mode, Moment, Octets, Quoted, Slot, Stamp};
+use crate::states::{
+    Decimal, Due, Figure, Here, Inner, Mode, Moment, Octets, Open, Quoted, Slot, Stamp,
+};
 use crate::{Check, Core};
 use items::number::Acc;
 use items::store;
@@ -131,20 +133,22 @@ fn flat_begun(sort: u8, over: bool, first: usize, value: u64) -> Flat
     }
 }
 
-// Digits that may yet be a time.
-fn flat_open(first: usize, count: u8, nought: bool, value: u16, acc: Acc) -> Flat
-    ensures { result ≡ flat 6 5 count (flag nought) first acc.c acc.z value (flag acc.over) }
-{
-    Flat {
-        kind: 6,
-        sort: 5,
-        x: count,
-        y: u8::from(nought),
-        a: first as u64,
-        b: acc.c,
-        c: acc.z as u64,
-        d: u64::from(value),
-        e: u64::from(acc.over),
+impl From<Open> for Flat {
+    ghost from_gives = { λ o f. f ≡ flat_open o };
+
+    // Digits that may yet be a time.
+    fn from(o: Open) -> Flat {
+        Flat {
+            kind: 6,
+            sort: 5,
+            x: o.count,
+            y: u8::from(o.nought),
+            a: o.first as u64,
+            b: o.acc.c,
+            c: o.acc.z as u64,
+            d: u64::from(o.value),
+            e: u64::from(o.acc.over),
+        }
     }
 }
 
@@ -159,13 +163,7 @@ impl From<Figure> for Flat {
             Figure::Point(first) => flat_begun(2, false, first, 0),
             Figure::HexMark(first) => flat_begun(3, false, first, 0),
             Figure::Hex { first, value, over } => flat_begun(4, over, first, value),
-            Figure::Open {
-                first,
-                count,
-                nought,
-                value,
-                acc,
-            } => flat_open(first, count, nought, value, acc),
+            Figure::Open(o) => Flat::from(o),
             Figure::Whole(decimal) => flat_decimal(6, decimal, false, 0),
             Figure::Fraction(decimal) => flat_decimal(7, decimal, false, 0),
             Figure::Exponent(decimal) => flat_decimal(8, decimal, false, 0),
@@ -179,20 +177,22 @@ impl From<Figure> for Flat {
     }
 }
 
-// The digits that may yet be a time, alike.
-fn open_of(f: Flat) -> Figure
-    ensures { result ≡ open_of f }
-{
-    Figure::Open {
-        first: f.a as usize,
-        count: f.x,
-        nought: f.y == 1,
-        value: (f.d % 65536) as u16,
-        acc: Acc {
-            c: f.b,
-            over: f.e == 1,
-            z: f.c as usize,
-        },
+impl From<Flat> for Open {
+    ghost from_gives = { λ f o. o ≡ open_of f };
+
+    // The digits that may yet be a time, alike.
+    fn from(f: Flat) -> Open {
+        Open {
+            first: f.a as usize,
+            count: f.x,
+            nought: f.y == 1,
+            value: (f.d % 65536) as u16,
+            acc: Acc {
+                c: f.b,
+                over: f.e == 1,
+                z: f.c as usize,
+            },
+        }
     }
 }
 
@@ -213,7 +213,7 @@ impl From<Flat> for Figure {
                 value: f.b,
                 over: f.x == 1,
             },
-            5 => open_of(f),
+            5 => Figure::Open(Open::from(f)),
             6 => Figure::Whole(decimal),
             7 => Figure::Fraction(decimal),
             8 => Figure::Exponent(decimal),

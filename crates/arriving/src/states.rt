@@ -26,6 +26,16 @@ pub struct Decimal {
     pub fraction: usize,
 }
 
+// Digits with no sign, four at most, which may yet be a time: their first place, how many, whether the first is 0, their value, and as a number's.
+#[derive(Clone, Copy)]
+pub struct Open {
+    pub first: usize,
+    pub count: u8,
+    pub nought: bool,
+    pub value: u16,
+    pub acc: Acc,
+}
+
 // A number, or digits that may yet be a time. Each holds the number's first place. A hexadecimal value keeps its digits beside the mark that they are
 // too many: both lie in the bytes that a caller keeps.
 #[derive(Clone, Copy)]
@@ -39,13 +49,7 @@ pub enum Figure {
         value: u64,
         over: bool,
     },
-    Open {
-        first: usize,
-        count: u8,
-        nought: bool,
-        value: u16,
-        acc: Acc,
-    },
+    Open(Open),
     Whole(Decimal),
     Fraction(Decimal),
     Exponent(Decimal),

@@ -21,9 +21,10 @@ use Rattle.machine.specs.Heard.{Heard, hears, at_want}
 use Rattle.machine.specs.Names.{word_scan}
 use Rattle.machine.specs.Numeric
 use Rattle.reader.specs.Between.Scanning.{Goes, Refuses, Shut}
-use Rattle.reader.specs.Between.Joined.{Joined, string_part_of, binary_part_of, whole_binary}
+use Rattle.reader.specs.Between.Joined.{Joined, BytesSays, string_part_of, binary_part_of, whole_binary}
+use Rattle.reader.specs.Between.Joined.{PartKind, string_parts, binary_parts, Uses, part_of, whole_of, item_of}
 use Rattle.items.specs.Between.NumberOrTime.{Means, NumericSays}
-use Rattle.reader.specs.Between.Cursor.{record_item, item_bytes, Scalar, Unwanted, ScalarSays, SpeltSays, Quoted, AtScalar}
+use Rattle.reader.specs.Between.Cursor.{record_item, item_bytes, Scalar, Unwanted, ScalarSays, SpeltSays, Quoted, Opens, AtScalar}
 use Rattle.items.specs.declared.Item.{Item as Taken}
 use Rattle.std.specs.Prelude.{Ok, Err}
 use Rattle.items.specs.Between.NumberOrTime.{Scanned}
@@ -122,7 +123,7 @@ module _ (text : List ℕ) (p start : ℕ) (entry : List ℕ) where
         alike_hearing (at (base want) d k) (at (item (string_part_of as_value [])) d k) text p [] h.inside
         (quote_opens (get_or text p 0) (class_of (get_or text p 0)) h.quote p d k) (string_quiet as_value [] p (get_or text p 0))
 
-    pub string_whole : (exit : List ℕ) (q n : ℕ) → Joined Use string_part_of string text p start entry exit q n → Scalar text p start entry exit (Taken.Str n) q
+    string_whole : (exit : List ℕ) (q n : ℕ) → Joined Use string_part_of string text p start entry exit q n → Scalar text p start entry exit (Taken.Str n) q
     unfolding records_of store_of
     string_whole exit q n w = let c = w.meant.counted in record {
       m = Meaning.string w.u;
@@ -136,14 +137,14 @@ module _ (text : List ℕ) (p start : ℕ) (entry : List ℕ) where
       within = w.within;
     }
 
-    pub string_refused : (why : Refusal) → ((z : Use) (d : ℕ) (k : List Frame) → Refuses text (at (item (string_part_of z [])) d k) p why) → Unwanted text p why
+    string_refused : (why : Refusal) → ((z : Use) (d : ℕ) (k : List Frame) → Refuses text (at (item (string_part_of z [])) d k) p why) → Unwanted text p why
     string_refused why w = λ d k s. then_refused (opens_string d k) (w as_value d k)
 
   module _ (h : p < length text) (e : get_or text p 0 ≡ ch "$") where
     opens_binary : (d : ℕ) (k : List Frame) → Goes text (at (base want) d k) p (at (item (binary_part_of tt [])) d k) p
     opens_binary d k = alike_hearing (at (base want) d k) (at (item (binary_part_of tt [])) d k) text p [] h (rw e) (binary_quiet [] p (get_or text p 0))
 
-    pub binary_whole : (exit : List ℕ) (q n : ℕ) → Joined (Unit {0}) binary_part_of whole_binary text p start entry exit q n
+    binary_whole : (exit : List ℕ) (q n : ℕ) → Joined (Unit {0}) binary_part_of whole_binary text p start entry exit q n
         → Scalar text p start entry exit (Taken.Bin n) q
     unfolding records_of store_of
     binary_whole exit q n w = let c = w.meant.counted in record {
@@ -158,9 +159,21 @@ module _ (text : List ℕ) (p start : ℕ) (entry : List ℕ) where
       within = w.within;
     }
 
-    pub binary_refused : (why : Refusal)
+    binary_refused : (why : Refusal)
         → ((z : Unit {0}) (d : ℕ) (k : List Frame) → Refuses text (at (item (binary_part_of z [])) d k) p why) → Unwanted text p why
     binary_refused why w = λ d k s. then_refused (opens_binary d k) (w tt d k)
+
+-- joined parts of either kind
+module _ (text : List ℕ) (p start : ℕ) (entry : List ℕ) where
+  pub joined_whole : (i : PartKind) → Opens i text p → (exit : List ℕ) (q n : ℕ) → Joined (Uses i) (part_of i) (whole_of i) text p start entry exit q n
+      → Scalar text p start entry exit (item_of i n) q
+  joined_whole string_parts h exit q n w = string_whole text p start entry h exit q n w
+  joined_whole binary_parts h exit q n w = binary_whole text p start entry h.0 h.1 exit q n w
+
+  pub joined_refused : (i : PartKind) → Opens i text p → (exit : List ℕ) (why : Refusal)
+      → BytesSays (Uses i) (part_of i) (whole_of i) text p start entry exit (Err why) → Unwanted text p why
+  joined_refused string_parts h exit why w = string_refused text p start entry h why w
+  joined_refused binary_parts h exit why w = binary_refused text p start entry h.0 h.1 why w
 
 -- ---- numbers and times
 

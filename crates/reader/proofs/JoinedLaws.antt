@@ -21,9 +21,9 @@ use Rattle.machine.specs.Binaries
 use Rattle.reader.specs.Between.Scanning.{Goes, Refuses, Bare}
 use Rattle.reader.specs.Between.Layout.{LayoutEnds, Breaks}
 use Rattle.items.specs.Between.PlacedPart.{Ended}
-use Rattle.reader.specs.Between.Joined.{Plusless, Plus, FollowsSays, Stray, Linked, Unlinked, in_part, after_part, LinkSays}
-use Rattle.reader.specs.Between.Joined.{BytesSays, string_part_of, binary_part_of, whole_binary}
 use Rattle.items.specs.Between.StringPart.{PartSays}
+use Rattle.reader.specs.Between.Joined.{Plusless, Plus, FollowsSays, Stray, BytesSays, string_part_of, binary_part_of, whole_binary}
+use Rattle.reader.specs.Between.Joined.{PartKind, string_parts, binary_parts, State, scan_of, begin_of, Uses, part_of, whole_of}
 use Rattle.std.specs.Prelude.{Ok, Err}
 use Rattle.items.specs.Between.NumberOrTime.{taken}
 use Rattle.reader.specs.declared.joined.Join.{Join}
@@ -110,15 +110,6 @@ module _ (text : List ℕ) (p start : ℕ) (entry : List ℕ) (h : p ≤ length 
         meant = record { counted = w.counted; filled = w.stored; room = omega (arith, w.fewer, w.counted); past = omega (arith, w.fewer) };
         within = omega (arith, w.within);
       }
-
--- a part, by what follows it
-module _ {S : Type 0} {scan : ℕ → S → ℕ → Out S (List ℕ)} {begin : S} {text : List ℕ} {p start : ℕ} {entry exit : List ℕ} {q n : ℕ}
-    (w : Ended scan begin text p start entry exit q n) where
-  pub part_linked : (j : Join) → FollowsSays text q j → LinkSays scan begin text p start entry exit (Ok (record { bytes = n; follows = j }))
-  part_linked j f = record { close = q; part = w; after = f }
-
-  pub part_strays : {why : Refusal} → Stray text q why → LinkSays scan begin text p start entry exit (Err why)
-  part_strays f = after_part {n = n} (record { close = q; part = w; after = f })
 
 -- ---- what strings and binary have in common
 
@@ -213,6 +204,10 @@ binaries = record {
       (b.no_blank h) (b.no_hash h) (b.no_slash h)) (sym (binary_quiet u p (get_or text p 0)))) (λ h. refl);
 }
 
+pub kinds : (i : PartKind) → Kind (State i) (scan_of i) (begin_of i) (Uses i) (part_of i) (whole_of i)
+kinds string_parts = strings
+kinds binary_parts = binaries
+
 -- ---- the loop: the parts so far, and the next begins
 
 pub record Parts (A : Type 0) (part : A → List ℕ → Item) (text : List ℕ) (from start : ℕ) (entry store : List ℕ) (p out : ℕ) : Type 0 where
@@ -230,6 +225,9 @@ no_part A part text from start entry h = record { u = []; runs = λ a d k. refl;
 module _ {S : Type 0} {scan : ℕ → S → ℕ → Out S (List ℕ)} {begin : S} {A : Type 0} {part : A → List ℕ → Item} {whole : A → List ℕ → Got}
     (kind : Kind S scan begin A part whole)
     {text : List ℕ} {from start : ℕ} {entry store : List ℕ} {p out : ℕ} (v : Parts A part text from start entry store p out) where
+  pub parts_refused : (exit : List ℕ) (why : Refusal) → ran scan p begin (drop p text) ≡ broke why → BytesSays A part whole text from start entry exit (Err why)
+  parts_refused exit why e = λ a d k. then_refused (v.runs a d k) (kind.refuses text a v.u p d k why e)
+
   module _ {exit : List ℕ} {q n : ℕ} (w : Ended scan begin text p out store exit q n) where
     to_whole : (a : A) (d : ℕ) (k : List Frame) → Goes text (at (item (part a [])) d k) from (at (base (got (whole a (v.u ++ w.u)))) d k) q
     to_whole a d k = v.runs a d k ∙ kind.closes text a v.u w.u p q d k w.runs
@@ -237,29 +235,25 @@ module _ {S : Type 0} {scan : ℕ → S → ℕ → Out S (List ℕ)} {begin : S
     both_filled : exit ≡ sets entry start (v.u ++ w.u)
     both_filled = w.meant.filled ∙ rw (sets_app, ← v.filled, ← v.placed)
 
-  pub parts_refused : {exit : List ℕ} (why : Refusal) → Unlinked scan begin text p out store exit why
-      → BytesSays A part whole text from start entry exit (Err why)
-  parts_refused why (in_part e) = λ a d k. then_refused (v.runs a d k) (kind.refuses text a v.u p d k why e)
-  parts_refused why (after_part l) = λ a d k.
-      let u = v.u ++ l.part.u in
-      then_refused (to_whole l.part a d k) (faulted (l.after (whole a u) (kind.wants a u) (kind.joins a u) d k))
+    -- what follows the part is refused
+    pub parts_stray : (why : Refusal) → Stray text q why → BytesSays A part whole text from start entry exit (Err why)
+    parts_stray why f = λ a d k.
+        let u = v.u ++ w.u in
+        then_refused (to_whole a d k) (faulted (f (whole a u) (kind.wants a u) (kind.joins a u) d k))
 
-  -- the bytes so far are no more than the text
-  pub parts_short : {exit : List ℕ} {n : ℕ} {After : ℕ → Type 0} → start ≤ from → Linked scan begin text p out store exit n After → out + n ≤ length text
-  parts_short h l = omega (arith, v.placed, v.room, l.part.meant.counted, l.part.meant.room, l.part.within)
+    -- the bytes so far are no more than the text
+    pub parts_short : start ≤ from → out + n ≤ length text
+    parts_short h = omega (arith, v.placed, v.room, w.meant.counted, w.meant.room, w.within)
 
-  module _ {exit : List ℕ} {n r : ℕ} where
-    pub parts_last : (m : ℕ) → m + start ≡ out + n → Linked scan begin text p out store exit n (λ q. FollowsSays text q (Join.Last r))
+    pub parts_last : {r : ℕ} (m : ℕ) → m + start ≡ out + n → FollowsSays text q (Join.Last r)
         → BytesSays A part whole text from start entry exit (Ok (taken m r))
-    parts_last m e l =
-        let w = l.part in
-        let j = l.after in
+    parts_last m e j =
         record {
           u = v.u ++ w.u;
-          runs = λ a d k. to_whole w a d k ∙ j.goes (got (whole a (v.u ++ w.u))) d k;
+          runs = λ a d k. to_whole a d k ∙ j.goes (got (whole a (v.u ++ w.u))) d k;
           meant = record {
             counted = simp length-append (omega (arith, v.placed, w.meant.counted));
-            filled = both_filled w;
+            filled = both_filled;
             room = simp length-append (omega (arith, v.room, w.meant.room, j.onward.behind));
             past = omega (arith, v.room, w.meant.past, j.onward.behind);
           };
@@ -268,20 +262,18 @@ module _ {S : Type 0} {scan : ℕ → S → ℕ → Out S (List ℕ)} {begin : S
           plusless = j.plusless;
         }
 
-    module _ (l : Linked scan begin text p out store exit n (λ q. FollowsSays text q (Join.Next r))) where
+    module _ {r : ℕ} (j : FollowsSays text q (Join.Next r)) where
       pub parts_next : Parts A part text from start entry exit r (out + n)
       parts_next =
-          let w = l.part in
-          let j = l.after in
           let u = v.u ++ w.u in
           record {
             u = v.u ++ w.u;
-            runs = λ a d k. to_whole w a d k ∙ j.goes (whole a u) (kind.wants a u) (kind.joins a u) d k ∙ kind.opens text a u r j.bare d k;
-            filled = both_filled w;
+            runs = λ a d k. to_whole a d k ∙ j.goes (whole a u) (kind.wants a u) (kind.joins a u) d k ∙ kind.opens text a u r j.bare d k;
+            filled = both_filled;
             placed = simp length-append (omega (arith, v.placed, w.meant.counted));
             room = simp length-append (omega (arith, v.room, w.meant.room, j.past));
             within = j.within;
           }
 
       pub parts_further : length text - r < length text - p
-      parts_further = omega (arith, l.part.meant.past, l.after.past, l.after.within)
+      parts_further = omega (arith, w.meant.past, j.past, j.within)

@@ -2,10 +2,11 @@
 ghost use Rattle.std.specs.Prelude.{◌≡◌, ◌-◌, ◌≤◌, ◌<◌, length, get_or};
 ghost use Rattle.meaning.specs.Letters.{ch};
 ghost use Rattle.machine.specs.Machine.{square, curly};
-ghost use Rattle.reader.specs.Between.Cursor.{record_item, item_bytes, SpeltSays, Quoted, AtScalar, ScalarSays};
+ghost use Rattle.reader.specs.Between.Cursor.{record_item, item_bytes, SpeltSays, Opens, AtScalar, ScalarSays};
 ghost use Rattle.reader.specs.Between.Cursor.{Ready, AtMember, AtValue, Inner, Seen, HeadSays, AheadSays, AfterSays};
 ghost use Rattle.reader.specs.Between.Cursor.{ColonSays, MemberSays, MemberAheadSays, ValueSays, InsideSays};
 
+use crate::joined::{OfBinary, OfString, Part};
 use crate::{joined, key, layout, repeat};
 use items::{Item, Scanned, Taken, number_or_time, word};
 use meaning::{Record, Refusal};
@@ -64,26 +65,14 @@ fn spelt(text: &[u8], at: usize, letters: &[u8], item: Item) -> Scanned
     Ok(Taken { value: item, end })
 }
 
-// A string as an item.
-fn string(text: &[u8], at: usize, store: &mut [u8], start: usize) -> Scanned
-    requires { Quoted text.now at × (start ≤ at) }
+// A string or binary as an item.
+fn joined_item<P: Part>(text: &[u8], at: usize, store: &mut [u8], start: usize) -> Scanned
+    requires { Opens P.kind text.now at × (start ≤ at) }
     ensures { ScalarSays text.now at start store.old store.new result }
 {
-    let bytes = joined::string(text, at, store, start)?;
+    let bytes = joined::parts::<P>(text, at, store, start)?;
     Ok(Taken {
-        value: Item::Str(bytes.value),
-        end: bytes.end,
-    })
-}
-
-// Binary as an item.
-fn binary(text: &[u8], at: usize, store: &mut [u8], start: usize) -> Scanned
-    requires { (at < length text.now) × (get_or text.now at 0 ≡ ch "$") × (start ≤ at) }
-    ensures { ScalarSays text.now at start store.old store.new result }
-{
-    let bytes = joined::binary(text, at, store, start)?;
-    Ok(Taken {
-        value: Item::Bin(bytes.value),
+        value: P::item(bytes.value),
         end: bytes.end,
     })
 }
@@ -94,8 +83,8 @@ fn scalar(text: &[u8], at: usize, store: &mut [u8], start: usize) -> Scanned
     ensures { ScalarSays text.now at start store.old store.new result }
 {
     match text[at] {
-        b'"' | b'\'' => string(text, at, store, start),
-        b'$' => binary(text, at, store, start),
+        b'"' | b'\'' => joined_item::<OfString>(text, at, store, start),
+        b'$' => joined_item::<OfBinary>(text, at, store, start),
         b'n' => spelt(text, at, b"null", Item::Null),
         b't' => spelt(text, at, b"true", Item::Bool(true)),
         b'f' => spelt(text, at, b"false", Item::Bool(false)),

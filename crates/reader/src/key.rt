@@ -4,6 +4,7 @@ ghost use Rattle.reader.specs.Between.Scanning.{Bare};
 ghost use Rattle.reader.specs.Between.Joined.{KeySays};
 
 use crate::joined;
+use crate::joined::OfString;
 use items::identifier::Sort;
 use items::{Taken, identifier, store};
 use meaning::Refusal;
@@ -18,7 +19,7 @@ pub fn key(text: &[u8], at: usize, store: &mut [u8], start: usize) -> Result<Tak
     }
     let b = text[at];
     if b == b'"' || b == b'\'' {
-        return joined::string(text, at, store, start);
+        return joined::parts::<OfString>(text, at, store, start);
     }
     match identifier::sort_of(b) {
         Sort::Neither | Sort::Figure => Err(Refusal::NotGrammar(at)),

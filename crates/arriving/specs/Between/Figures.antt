@@ -11,6 +11,7 @@ use Rattle.machine.specs.Numeric.{HexB, hex_of, value, no_hex}
 use Rattle.items.specs.declared.number.Acc.{Acc}
 use Rattle.items.specs.Between.NumberOrTime.{acc_of, pushed, raised_by}
 use Rattle.arriving.specs.declared.states.Decimal.{Decimal}
+use Rattle.arriving.specs.declared.states.Open.{Open}
 use Rattle.arriving.specs.declared.states.Figure.{Figure}
 use Rattle.arriving.specs.declared.states.Stamp.{Stamp}
 use Rattle.arriving.specs.declared.states.Slot.TheVariants.{Month, Minute}
@@ -21,6 +22,7 @@ use Rattle.arriving.specs.declared.states.Out.TheVariants.{Takes, Stops, Breaks}
 use Rattle.arriving.specs.Between.Small.{not_a_number_at, infinity_at}
 
 -- q: the number's first place; p: the byte's; a: the digits so far; d: the same with how many are a fraction's
+-- o: digits with no sign
 
 abbrev pub counts : Figure → Out
 counts f = Takes (Counting f) 0
@@ -36,6 +38,10 @@ no_digits = acc_of 0 false 0
 
 abbrev pub decimal : ℕ → Acc → ℕ → Decimal
 decimal q a f = record { first = q; acc = a; fraction = f }
+
+-- n digits with no sign, with the value v; z: the first is 0
+abbrev pub unsigned : ℕ → ℕ → Bool → ℕ → Acc → Open
+unsigned q n z v a = record { first = q; count = n; nought = z; value = v; acc = a }
 
 -- nothing but the first place
 abbrev pub bare : ℕ → Decimal
@@ -70,8 +76,8 @@ on_sign p q b minus_f = odd_at p
 on_sign p q b other_f = odd_at p
 
 abbrev pub on_begin : ℕ → ℕ → Fst → Out
-on_begin p b nought_f = counts (Figure.Open p 1 true (b - ch "0") (pushed no_digits b))
-on_begin p b digit_f = counts (Figure.Open p 1 false (b - ch "0") (pushed no_digits b))
+on_begin p b nought_f = counts (Figure.Open (unsigned p 1 true (b - ch "0") (pushed no_digits b)))
+on_begin p b digit_f = counts (Figure.Open (unsigned p 1 false (b - ch "0") (pushed no_digits b)))
 on_begin p b point_f = counts (Figure.Point p)
 on_begin p b n_f = spells not_a_number_at
 on_begin p b i_f = spells infinity_at
@@ -143,39 +149,42 @@ abbrev pub on_hex : ℕ → ℕ → Bool → HexB → Out
 on_hex q v o (value x) = cond (leb v sixteenth) (counts (Figure.Hex q (16 * v + x) o)) (counts (Figure.Hex q v true))
 on_hex q v o no_hex = cond o (Breaks (BadNumber q)) Stops
 
--- ---- n digits with no sign, with the value v; z: the first is 0
+-- ---- digits with no sign
 
 -- as a number; more digits after a first 0 are none
-abbrev pub as_number : ℕ → ℕ → ℕ → Bool → Acc → ℕ → Num → Out
-as_number p q n false a b c = on_whole (decimal q a 0) b c
-as_number p q n true a b c = cond (leb n 1) (on_nought q c) (odd_at p)
+abbrev pub as_number : ℕ → Open → ℕ → Num → Out
+as_number p o b c =
+    cond o.nought (cond (leb o.count 1) (on_nought o.first c) (odd_at p)) (on_whole (decimal o.first o.acc 0) b c)
 
 abbrev pub stamp : ℕ → Bool → Bool → Stamp
 stamp q dated good = record { first = q; dated = dated; good = good }
 
-abbrev pub on_digit : ℕ → ℕ → ℕ → Bool → ℕ → Acc → ℕ → Out
-on_digit p q n z v a b =
-    cond (ltb n 4) (counts (Figure.Open q (n + 1) z (10 * (v % 1000) + (b - ch "0")) (pushed a b)))
-    (as_number p q n z a b digit_n)
+abbrev pub on_digit : ℕ → Open → ℕ → Out
+on_digit p o b =
+    let v : ℕ = 10 * (o.value % 1000) + (b - ch "0") in
+    cond (ltb o.count 4) (counts (Figure.Open (unsigned o.first (o.count + 1) o.nought v (pushed o.acc b))))
+    (as_number p o b digit_n)
 
 -- two digits may be an hour
-abbrev pub on_colon : ℕ → ℕ → ℕ → Bool → ℕ → Acc → ℕ → Out
-on_colon p q n z v a b =
-    cond (eqb n 2) (Takes (Timing (stamp q false (leb v 23)) (Field Minute 2 0)) 0) (as_number p q n z a b colon_n)
+abbrev pub on_colon : ℕ → Open → ℕ → Out
+on_colon p o b =
+    cond (eqb o.count 2) (Takes (Timing (stamp o.first false (leb o.value 23)) (Field Minute 2 0)) 0)
+    (as_number p o b colon_n)
 
 -- four digits may be a year
-abbrev pub on_minus : ℕ → ℕ → ℕ → Bool → ℕ → Acc → ℕ → Out
-on_minus p q n z v a b =
-    cond (eqb n 4) (Takes (Timing (stamp q true true) (Field (Month v) 2 0)) 0) (as_number p q n z a b minus_n)
+abbrev pub on_minus : ℕ → Open → ℕ → Out
+on_minus p o b =
+    cond (eqb o.count 4) (Takes (Timing (stamp o.first true true) (Field (Month o.value) 2 0)) 0)
+    (as_number p o b minus_n)
 
-abbrev pub on_open : ℕ → ℕ → ℕ → Bool → ℕ → Acc → ℕ → Num → Out
-on_open p q n z v a b digit_n = on_digit p q n z v a b
-on_open p q n z v a b colon_n = on_colon p q n z v a b
-on_open p q n z v a b minus_n = on_minus p q n z v a b
-on_open p q n z v a b point_n = as_number p q n z a b point_n
-on_open p q n z v a b e_n = as_number p q n z a b e_n
-on_open p q n z v a b x_n = as_number p q n z a b x_n
-on_open p q n z v a b other_n = as_number p q n z a b other_n
+abbrev pub on_open : ℕ → Open → ℕ → Num → Out
+on_open p o b digit_n = on_digit p o b
+on_open p o b colon_n = on_colon p o b
+on_open p o b minus_n = on_minus p o b
+on_open p o b point_n = as_number p o b point_n
+on_open p o b e_n = as_number p o b e_n
+on_open p o b x_n = as_number p o b x_n
+on_open p o b other_n = as_number p o b other_n
 
 -- ---- the byte b at the place p
 
@@ -189,7 +198,7 @@ next_figure (Figure.Nought q) p b = on_nought q (num_of b)
 next_figure (Figure.Point q) p b = on_point p q b (dg_of b)
 next_figure (Figure.HexMark q) p b = on_hex_mark p q (hex_of b)
 next_figure (Figure.Hex q v o) p b = on_hex q v o (hex_of b)
-next_figure (Figure.Open q n z v a) p b = on_open p q n z v a b (num_of b)
+next_figure (Figure.Open o) p b = on_open p o b (num_of b)
 next_figure (Figure.Whole d) p b = on_whole d b (num_of b)
 next_figure (Figure.Fraction d) p b = on_fraction d b (num_of b)
 next_figure (Figure.Exponent d) p b = on_exponent p d b (exp_of b)
@@ -207,7 +216,7 @@ sane_figure n (Figure.Nought q) = true
 sane_figure n (Figure.Point q) = true
 sane_figure n (Figure.HexMark q) = true
 sane_figure n (Figure.Hex q v o) = true
-sane_figure n (Figure.Open q k z v a) = leb a.z n
+sane_figure n (Figure.Open o) = leb o.acc.z n
 sane_figure n (Figure.Whole d) = sane_decimal n d
 sane_figure n (Figure.Fraction d) = sane_decimal n d
 sane_figure n (Figure.Exponent d) = sane_decimal n d

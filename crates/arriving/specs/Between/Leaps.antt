@@ -78,19 +78,19 @@ pub record Stands (part : List ℕ) (at : ℕ) (h : Here) : Type 0 where
 -- ---- runs
 
 -- whether a byte leaves the check where it stands
-unfoldable pub stays_in : RunOf.Run → ℕ → ℕ → Bool
-stays_in Run.Blank q b =
+unfoldable pub stays_in : RunOf.Run → ℕ → Bool
+stays_in Run.Blank b =
     cond (eqb b (ch " ")) true (cond (eqb b (ch "\n")) true (cond (eqb b (ch "\r")) true (eqb b (ch "\t"))))
-stays_in Run.Line q b = cond (leb 0x20 b) true (eqb b (ch "\t"))
-stays_in Run.Block q b = cond (eqb b (ch "*")) false (line_byte b)
-stays_in Run.Plain q b = cond (eqb b (ch "\\")) false (cond (eqb b q) false (plain_byte b))
-stays_in Run.Lines q b = cond (eqb b q) false (line_byte b)
+stays_in Run.Line b = cond (leb 0x20 b) true (eqb b (ch "\t"))
+stays_in Run.Block b = cond (eqb b (ch "*")) false (line_byte b)
+stays_in (Run.Plain q) b = cond (eqb b (ch "\\")) false (cond (eqb b q) false (plain_byte b))
+stays_in (Run.Lines q) b = cond (eqb b q) false (line_byte b)
 
 -- each byte from `from` to `to` does
-pub record RanTo (part : List ℕ) (from : ℕ) (run : RunOf.Run) (q to : ℕ) : Type 0 where
+pub record RanTo (part : List ℕ) (from : ℕ) (run : RunOf.Run) (to : ℕ) : Type 0 where
   pub behind : from ≤ to
   pub within : to ≤ length part
-  pub each : (i : ℕ) → from ≤ i → i < to → stays_in run q (get_or part i 0) ≡ true
+  pub each : (i : ℕ) → from ≤ i → i < to → stays_in run (get_or part i 0) ≡ true
 
 -- ---- punctuation
 

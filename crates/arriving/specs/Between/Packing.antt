@@ -17,6 +17,7 @@ use Rattle.arriving.specs.declared.states.Due.TheVariants as Due
 use Rattle.arriving.specs.declared.states.Decimal.{Decimal}
 use Rattle.arriving.specs.declared.states.Figure as FigureOf
 use Rattle.arriving.specs.declared.states.Figure.TheVariants as Figure
+use Rattle.arriving.specs.declared.states.Open.{Open}
 use Rattle.arriving.specs.declared.states.Stamp.{Stamp}
 use Rattle.arriving.specs.declared.states.Slot as SlotOf
 use Rattle.arriving.specs.declared.states.Slot.TheVariants as Slot
@@ -67,28 +68,32 @@ flat_decimal s d down e = flat 6 s (flag d.acc.over) (flag down) d.first d.acc.c
 abbrev pub decimal_of : Flat → Decimal
 decimal_of f = record { first = f.a; acc = acc_of f.b f.x f.c; fraction = f.d }
 
+abbrev pub flat_open : Open → Flat
+flat_open o = flat 6 5 o.count (flag o.nought) o.first o.acc.c o.acc.z o.value (flag o.acc.over)
+
 abbrev pub flat_figure : FigureOf.Figure → Flat
 flat_figure (Figure.Sign q) = flat 6 0 0 0 q 0 0 0 0
 flat_figure (Figure.Nought q) = flat 6 1 0 0 q 0 0 0 0
 flat_figure (Figure.Point q) = flat 6 2 0 0 q 0 0 0 0
 flat_figure (Figure.HexMark q) = flat 6 3 0 0 q 0 0 0 0
 flat_figure (Figure.Hex q v o) = flat 6 4 (flag o) 0 q v 0 0 0
-flat_figure (Figure.Open q n z v a) = flat 6 5 n (flag z) q a.c a.z v (flag a.over)
+flat_figure (Figure.Open o) = flat_open o
 flat_figure (Figure.Whole d) = flat_decimal 6 d false 0
 flat_figure (Figure.Fraction d) = flat_decimal 7 d false 0
 flat_figure (Figure.Exponent d) = flat_decimal 8 d false 0
 flat_figure (Figure.ExponentSign d down) = flat_decimal 9 d down 0
 flat_figure (Figure.ExponentDigits d down e) = flat_decimal 10 d down e
 
-abbrev pub open_of : Flat → FigureOf.Figure
-open_of f = Figure.Open f.a f.x (eqb f.y 1) (f.d % 65536) (acc_of f.b f.e f.c)
+abbrev pub open_of : Flat → Open
+open_of f =
+    record { first = f.a; count = f.x; nought = eqb f.y 1; value = f.d % 65536; acc = acc_of f.b f.e f.c }
 
 abbrev pub figures : Flat → List FigureOf.Figure
 figures f =
     Figure.Sign f.a ∷ Figure.Nought f.a ∷ Figure.Point f.a ∷ Figure.HexMark f.a
     ∷ Figure.Hex f.a f.b (eqb f.x 1)
-    ∷ open_of f ∷ Figure.Whole (decimal_of f) ∷ Figure.Fraction (decimal_of f) ∷ Figure.Exponent (decimal_of f)
-    ∷ Figure.ExponentSign (decimal_of f) (eqb f.y 1) ∷ []
+    ∷ Figure.Open (open_of f) ∷ Figure.Whole (decimal_of f) ∷ Figure.Fraction (decimal_of f)
+    ∷ Figure.Exponent (decimal_of f) ∷ Figure.ExponentSign (decimal_of f) (eqb f.y 1) ∷ []
 
 abbrev pub figure_of : Flat → FigureOf.Figure
 figure_of f = get_or (figures f) f.sort (Figure.ExponentDigits (decimal_of f) (eqb f.y 1) f.e)
@@ -252,7 +257,7 @@ FitFigure (Figure.Nought q) = Unit {0}
 FitFigure (Figure.Point q) = Unit {0}
 FitFigure (Figure.HexMark q) = Unit {0}
 FitFigure (Figure.Hex q v o) = Unit {0}
-FitFigure (Figure.Open q n z v a) = v < 65536
+FitFigure (Figure.Open o) = o.value < 65536
 FitFigure (Figure.Whole d) = Unit {0}
 FitFigure (Figure.Fraction d) = Unit {0}
 FitFigure (Figure.Exponent d) = Unit {0}

@@ -22,6 +22,7 @@ use Rattle.once.specs.Windows.{Kept, level}
 use Rattle.tape.specs.Between.Putting.{put_record}
 use Rattle.reader.specs.Between.Scanning.{Goes, Hears, Tells, Refuses, Bare, Shut}
 use Rattle.reader.specs.Between.Repeat.{Keeping, Led}
+use Rattle.reader.specs.Between.Joined.{PartKind, string_parts, binary_parts}
 use Rattle.items.specs.declared.Item.{Item}
 use Rattle.items.specs.Between.NumberOrTime.{Scanned}
 use Rattle.reader.specs.declared.cursor.Cursor.{Cursor}
@@ -78,6 +79,11 @@ SpeltSays text p letters item (Err why) = ran_at word_scan text letters p ≡ br
 pub record Quoted (text : List ℕ) (p : ℕ) : Type 0 where
   pub inside : p < length text
   pub quote : class_of (get_or text p 0) ≡ quote_c
+
+-- a part of this kind begins at p
+abbrev pub Opens : PartKind → List ℕ → ℕ → Type 0
+Opens string_parts text p = Quoted text p
+Opens binary_parts text p = (p < length text) × (get_or text p 0 ≡ ch "$")
 
 -- where an item may stand: no layout, and no opening bracket
 pub record AtScalar (text : List ℕ) (p start : ℕ) : Type 0 where

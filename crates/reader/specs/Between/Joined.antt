@@ -4,17 +4,17 @@ use Rattle.meaning.specs.declared.Refusal.{Refusal}
 use Rattle.meaning.specs.declared.Refusal.TheVariants as refusal
 use Rattle.items.specs.declared.NotGrammar.{NotGrammar}
 use Rattle.items.specs.declared.Taken.{Taken}
-use Rattle.machine.specs.Machine.{Use, Item, string_part, binary_part, Got, binary, key, Base, want_key, got}
+use Rattle.machine.specs.Machine.{Use, Item, string_part, binary_part, Got, string, binary, key, Base, want_key, got}
 use Rattle.machine.specs.Machine.{base, item, Frame, at, class_of, plus_c, plus_after}
 use Rattle.machine.specs.Heard.{starts}
 use Rattle.machine.specs.Scan.{Out, broke, ran}
 use Rattle.machine.specs.Strings
 use Rattle.machine.specs.Binaries
 use Rattle.items.specs.Between.Places.{Onward}
+use Rattle.items.specs.declared.Item.{Item as Value}
 use Rattle.items.specs.Between.PlacedPart.{Meant, Ended}
 use Rattle.reader.specs.Between.Scanning.{Goes, Hears, Refuses, Faults, Bare, Shut}
 use Rattle.reader.specs.declared.joined.Join.{Join}
-use Rattle.reader.specs.declared.joined.Link.{Link}
 
 -- no plus stands at p
 abbrev pub Plusless : List ℕ → ℕ → Type 0
@@ -52,23 +52,28 @@ abbrev pub JoinSays : List ℕ → ℕ → Result Join NotGrammar → Type 0
 JoinSays text p (Ok j) = FollowsSays text p j
 JoinSays text p (Err e) = Stray text p (refusal.NotGrammar e.place)
 
--- a part at its place in the text, and what follows it
-module _ {S : Type 0} (scan : ℕ → S → ℕ → Out S (List ℕ)) (begin : S) where
-  -- a part of n bytes, and what holds of the place after it
-  pub record Linked (text : List ℕ) (p start : ℕ) (entry exit : List ℕ) (n : ℕ) (After : ℕ → Type 0) : Type 0 where
-    pub close : ℕ
-    pub part : Ended scan begin text p start entry exit close n
-    pub after : After close
+-- what a plus joins: parts of strings, or of binary
+pub data PartKind : Type 0 where
+  string_parts : PartKind
+  binary_parts : PartKind
 
-  -- the part is refused, or what follows it
-  pub data Unlinked (text : List ℕ) (p start : ℕ) (entry exit : List ℕ) (why : Refusal) : Type 0 where
-    in_part : ran scan p begin (drop p text) ≡ broke why → Unlinked text p start entry exit why
-    after_part : {n : ℕ} → Linked text p start entry exit n (λ q. Stray text q why)
-        → Unlinked text p start entry exit why
+-- the states of a part's scanner
+abbrev pub State : PartKind → Type 0
+State string_parts = Strings.St
+State binary_parts = Binaries.St
 
-  abbrev pub LinkSays : List ℕ → ℕ → ℕ → List ℕ → List ℕ → Result Link Refusal → Type 0
-  LinkSays text p start entry exit (Ok l) = Linked text p start entry exit l.bytes (λ q. FollowsSays text q l.follows)
-  LinkSays text p start entry exit (Err why) = Unlinked text p start entry exit why
+abbrev pub scan_of : (i : PartKind) → ℕ → State i → ℕ → Out (State i) (List ℕ)
+scan_of string_parts = Strings.scan
+scan_of binary_parts = Binaries.scan
+
+abbrev pub begin_of : (i : PartKind) → State i
+begin_of string_parts = Strings.begin
+begin_of binary_parts = Binaries.begin
+
+-- a part at its place in the text
+abbrev pub PlacedSays : PartKind → List ℕ → ℕ → ℕ → List ℕ → List ℕ → Result (Taken ℕ) Refusal → Type 0
+PlacedSays i text p start entry exit (Ok t) = Ended (scan_of i) (begin_of i) text p start entry exit t.end t.value
+PlacedSays i text p start entry exit (Err why) = ran (scan_of i) p (begin_of i) (drop p text) ≡ broke why
 
 -- joined parts, from where the first begins; A tells apart what they are joined to
 pub record Joined (A : Type 0) (part : A → List ℕ → Item) (whole : A → List ℕ → Got)
@@ -95,6 +100,24 @@ binary_part_of z u = binary_part u Binaries.begin
 
 abbrev pub whole_binary : Unit {0} → List ℕ → Got
 whole_binary z u = binary u
+
+-- what parts of a kind are joined to, where they are read, and what they are then
+abbrev pub Uses : PartKind → Type 0
+Uses string_parts = Use
+Uses binary_parts = Unit {0}
+
+abbrev pub part_of : (i : PartKind) → Uses i → List ℕ → Item
+part_of string_parts = string_part_of
+part_of binary_parts = binary_part_of
+
+abbrev pub whole_of : (i : PartKind) → Uses i → List ℕ → Got
+whole_of string_parts = string
+whole_of binary_parts = whole_binary
+
+-- the item that they are
+abbrev pub item_of : PartKind → ℕ → Value
+item_of string_parts n = Value.Str n
+item_of binary_parts n = Value.Bin n
 
 -- a key: its first byte is heard
 pub record Keyed (text : List ℕ) (p start : ℕ) (entry exit : List ℕ) (q n : ℕ) : Type 0 where

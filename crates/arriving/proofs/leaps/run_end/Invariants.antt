@@ -3,4 +3,4 @@ use Rattle.arriving.specs.Between.Leaps.{RanTo}
 use Rattle.arriving.proofs.leaps.run_end.Given as goal
 
 abbrev pub invariant-loop-i : goal.invariant-loop-i
-invariant-loop-i l = RanTo l.part l.from l.run l.quote l.i
+invariant-loop-i l = RanTo l.part l.from l.run l.i

@@ -9,8 +9,8 @@ use Rattle.reader.proofs.CursorHeadLaws.{of_word, at_word, of_numeric}
 use Rattle.reader.proofs.ScanningClassLaws.{quoting}
 use Rattle.reader.proofs.cursor.scalar.Goals as goal
 
-pub string-requires : goal.string-requires
-string-requires c = (record { inside = c.requires.inside; quote = quoting _ c.in-34.is }, c.requires.stored)
+pub joined_item-requires : goal.joined_item-requires
+joined_item-requires c = (record { inside = c.requires.inside; quote = quoting _ c.in-34.is }, c.requires.stored)
 
 pub returns-in-110 : goal.returns-in-110
 returns-in-110 c = of_word c.args.text.now c.args.at c.args.start c.args.store.now (letters "null") (ch "n") (letters "ull") refl Item.Null

@@ -10,7 +10,7 @@ returns-then-at-text c = key_over c.args.text.now c.args.at c.args.start c.args.
 pub returns-then-b-eq34 : goal.returns-then-b-eq34
 returns-then-b-eq34 c = key_string c.args.text.now c.args.at c.args.start c.args.store.now c.if-at-text.false
     (elim c.then-b-eq34.branch [ then-b-eq34-via-then-b-eq34 w ↦ rw w.if-b-eq34.true | then-b-eq34-via-else-b-eq34+then-b-eq39 w ↦ rw w.if-b-eq39.true ])
-    _ c.string.result c.string.ensures
+    _ c.parts.result c.parts.ensures
 
 pub returns-in-Neither : goal.returns-in-Neither
 returns-in-Neither c = key_none c.args.text.now c.args.at c.args.start c.args.store.now c.if-at-text.false c.requires.2 c.if-b-eq34.false
