@@ -3,7 +3,7 @@ ghost use Rattle.std.specs.Prelude.{◌≡◌, ◌+◌, ◌≤◌, ◌<◌, ◌^
 ghost use Rattle.meaning.specs.declared.Record.{Record};
 ghost use Rattle.meaning.specs.Between.Words.{month_day, four_words, FitDate};
 ghost use Rattle.tape.specs.Between.Shapes.{Written, Holds, Loaded, not_finite, finite, date_of};
-ghost use Rattle.tape.specs.Between.Shapes.{only_record, Common, Shaped, words_at};
+ghost use Rattle.tape.specs.Between.Shapes.{only_record, NoNumber, Common, Shaped, words_at};
 
 use crate::{Words, little_endian};
 use meaning::{Date, Number, Record, Time};
@@ -199,35 +199,45 @@ fn date_of(low: u64, mid: u64) -> Date
     }
 }
 
-// The record with these four numbers, if there is one; what they must be beside the mark is not tested here.
-fn record_of(w: Words) -> Record
+// The record with bytes in the store that has these four numbers, or a time or a container; null where the mark is no record's.
+fn bytes_of(w: Words) -> Record
     requires { Loaded w }
-    ensures { result ≡ only_record w }
+    ensures { NoNumber w.mark → result ≡ only_record w }
 {
-    let (mid, high) = (w.mid, w.high);
-    let (length, start) = (mid as usize, high as usize);
+    let (length, start) = (w.mid as usize, w.high as usize);
     let (count, end) = (length, start);
     match w.mark {
-        BO => Record::Bool(mid == 1),
-        NB => Record::Number(finite(w)),
-        NX => Record::Number(not_finite(mid)),
         ST => Record::Str { length, start },
         KY => Record::Key { length, start },
         BY => Record::Bin { length, start },
-        LD => Record::Time(Time::LocalDate(date_of(w.low, mid))),
-        LT => Record::Time(Time::LocalTime(high)),
+        LD => Record::Time(Time::LocalDate(date_of(w.low, w.mid))),
+        LT => Record::Time(Time::LocalTime(w.high)),
         DT => Record::Time(Time::LocalDateTime {
-            date: date_of(w.low, mid),
-            clock: high,
+            date: date_of(w.low, w.mid),
+            clock: w.high,
         }),
         OD => Record::Time(Time::OffsetDateTime {
-            date: date_of(w.low, mid),
-            clock: high,
-            offset: ((mid / 65536) as u16).cast_signed(),
+            date: date_of(w.low, w.mid),
+            clock: w.high,
+            offset: ((w.mid / 65536) as u16).cast_signed(),
         }),
         AR => Record::Array { count, end },
         OB => Record::Object { count, end },
         _ => Record::Null,
+    }
+}
+
+// The record with these four numbers, if there is one; what they must be beside the mark is not tested here. The rest is a function of its own: in one
+// `match` a number's power and a time's offset, which share a place, were written by halves and read whole, and that took 5 ns a record.
+fn record_of(w: Words) -> Record
+    requires { Loaded w }
+    ensures { result ≡ only_record w }
+{
+    match w.mark {
+        BO => Record::Bool(w.mid == 1),
+        NB => Record::Number(finite(w)),
+        NX => Record::Number(not_finite(w.mid)),
+        _ => bytes_of(w),
     }
 }
 

@@ -64,6 +64,12 @@ record_of a low mid high =
     (cond (eqb a (mark "a" "r")) (Record.Array mid high)
     (cond (eqb a (mark "o" "b")) (Record.Object mid high) Record.Null)))))))))))
 
+-- the mark is no flag's and no number's
+pub record NoNumber (a : ℕ) : Type 0 where
+  pub no_flag : a ≡ mark "b" "o" → ⊥
+  pub no_finite : a ≡ mark "n" "b" → ⊥
+  pub no_other : a ≡ mark "n" "x" → ⊥
+
 abbrev pub only_record : Words → Record
 only_record w = record_of w.mark w.low w.mid w.high
 
