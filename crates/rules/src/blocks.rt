@@ -137,7 +137,7 @@ fn wide_run(s: &[u8], from: usize) -> usize
 // The first place after a character that has three bytes or more before it, or the first fault before that.
 fn begun(s: &[u8]) -> Result<usize, IllFormed>
     requires { 35 ≤ length s.now }
-    ensures { MatchResult result (λ i. (3 ≤ i) × Open s.now (i - 3)) (λ e. Fault s.now e.place) }
+    ensures { MatchResult result (λ i. Passed s.now i × (3 ≤ i) × Open s.now (i - 3)) (λ e. Fault s.now e.place) }
 {
     let mut i = 0;
     while i < 3 {
