@@ -3,7 +3,7 @@
 // many of the tapes are well formed, how many of the records stand, and how many were tried.
 #![tactic(auto)]
 
-ghost use Rattle.std.specs.Prelude.{◌≤◌, ◌<◌};
+ghost use Rattle.std.specs.Prelude.{◌≤◌, ◌<◌, ◌^◌, length};
 
 use meaning::{Date, Number, Record, Time};
 use std::io;
@@ -16,7 +16,9 @@ const TAPE: usize = WHOLE * 16;
 // ---- the decoder, of a record's sixteen bytes
 
 // The number in these bytes, the lowest first.
-fn number(bytes: &[u8]) -> u64 {
+fn number(bytes: &[u8]) -> u64
+    ensures { result < 256 ^ length bytes.now }
+{
     bytes.iter().rev().fold(
         0,
         |n: u64, b| n.wrapping_mul(256).wrapping_add(u64::from(*b)),
