@@ -5,7 +5,7 @@ use Prim.Native.Nat.{ℕ, ◌+◌, ◌*◌, ◌-◌, ◌<◌}
 use native.Mathlib.Numerals.{add-one}
 use native.Mathlib.Omega.{arith}
 use lib.ListN.{length, take, drop, get_or, replicate, length-take, length-drop, length-append, length-replicate, drop_of_length-le}
-use lib.Seq.{sets, sets-eq, take-suc, take-length}
+use lib.Seq.{sets, sets-eq, length-sets, take-suc, take-length}
 use Rattle.meaning.specs.Bytes.{le}
 use Rattle.meaning.proofs.Bytes.{le_length}
 use Rattle.tape.proofs.PuttingLaws.{sets_append}
@@ -93,6 +93,9 @@ numbered_length c f =
     let u = c.utf in
     let l = larges c.length u c.here f in
     length-append (smalls u c.here.due f) (spread l) ∙ ap (λ (n : ℕ). 16 + n) (spread_length l)
+
+pub kept_length : (c : Core) (s t : List ℕ) → Kept c s t → length t ≡ length s
+kept_length c s t k = ap length k.put ∙ length-sets s 0 (numbered c (flat_mode c.here.mode))
 
 -- all of a list of this length, as code copies it
 pub whole_of : (n : ℕ) (s : List ℕ) → length s ≡ n → take (n - 0) (drop 0 s) ≡ s

@@ -1,18 +1,20 @@
 -- The bytes that a caller keeps, of any length: a check that lies in them is read back, and what lies past it stays. Assumes nothing.
 use mathlib.Core.Path.{◌≡◌, refl, sym, ap, ◌∙◌}
 use mathlib.Core.Bool.{Bool, true, false}
-use mathlib.Core.List.{List, ◌++◌}
+use mathlib.Core.List.{List, [], ◌++◌}
 use Prim.Native.Nat.{ℕ, ◌+◌, ◌≤◌}
 use native.Mathlib.Omega.{arith}
 use lib.Dec.{leb}
 use lib.ListN.{length, take, drop, replicate, length-take, length-drop, length-append, length-replicate, take-append-drop, drop_of_length-le}
 use lib.Seq.{sets, sets-eq, length-sets, take_at, drop_at}
 use borrow.Author.Tests.{leb-true, leb-false}
+use Rattle.meaning.specs.Between.Words.{get}
 use Rattle.meaning.specs.Limits.{depth_limit}
 use Rattle.items.proofs.StoreLaws.{sets_out}
 use Rattle.tape.proofs.PuttingLaws.{sets_append}
 use Rattle.arriving.specs.declared.Check.{Check}
-use Rattle.arriving.specs.Between.Packing.{flat_mode, numbered, packed, unpacked, padded}
+use Rattle.arriving.specs.Between.Arriving.{started}
+use Rattle.arriving.specs.Between.Packing.{flat_mode, numbered, packed, flat_at, utf_at, here_at, unpacked, padded}
 use Rattle.arriving.proofs.PackingByteLaws.{numbered_length, over_all}
 
 -- of enough bytes the first are read
@@ -68,3 +70,8 @@ state_past s c e = by (leb 640 (length s)) refl
         let l = leb-false 640 (length s) h in
         drop_of_length-le (sets s 0 (packed c)) {i = 640} (omega (arith, length-sets s 0 (packed c)))
         ∙ sym (drop_of_length-le s {i = 640} (omega arith))
+
+-- zeros are a check to which nothing has come
+pub zeros_start : unpacked (padded []) ≡ started
+unfolding unpacked padded utf_at here_at flat_at get depth_limit
+zeros_start = refl

@@ -350,6 +350,9 @@ module _ (x : Stand) (p b : ℕ) (h : sane_here p x.0 ≡ true) where
   pub next_sane : sane_here (suc p) (next x p b).0 ≡ true
   next_sane = next_kept.0
 
+  pub next_length : length (next x p b).1 ≡ length x.1
+  next_length = next_kept.1
+
 -- bytes after bytes
 pub walked_join : (x : Stand) (p : ℕ) (s t : List ℕ) → walked x p (s ++ t) ≡ walked (walked x p s) (p + length s) t
 unfolding walked
@@ -362,6 +365,11 @@ walked_sane x p [] h = rw add-zero h
 walked_sane x p (b ∷ t) h =
     subst (λ (n : ℕ). sane_here n (walked (next x p b) (suc p) t).0 ≡ true) (omega arith)
     (walked_sane (next x p b) (suc p) t (next_sane x p b h))
+
+pub walked_length : (x : Stand) (p : ℕ) (t : List ℕ) → sane_here p x.0 ≡ true → length (walked x p t).1 ≡ length x.1
+unfolding walked
+walked_length x p [] h = refl
+walked_length x p (b ∷ t) h = walked_length (next x p b) (suc p) t (next_sane x p b h) ∙ next_length x p b h
 
 -- ---- answers out of answers
 
