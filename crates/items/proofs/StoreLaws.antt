@@ -1,10 +1,10 @@
 -- Bytes put into a store, as far as there is room. Assumes nothing.
 use mathlib.Core.Path.{◌≡◌, refl, sym, ap, ◌∙◌}
 use Prim.Native.Nat.{ℕ, suc, ◌+◌, ◌-◌, ◌/◌, ◌%◌, ◌≤◌, ◌<◌, min}
-use mathlib.Core.List.{List, [], ◌∷◌, ◌++◌, append_assoc}
+use mathlib.Core.List.{List, [], ◌∷◌, ◌++◌}
 use mathlib.Core.Bool.{Bool, true, false}
-use lib.ListN.{length, take, drop, set, length-take, length-drop}
-use lib.Seq.{sets, sets-eq, length-sets, set_out, take-add, drop-drop}
+use lib.ListN.{length, take, drop, set, get_or, length-take, length-drop}
+use lib.Seq.{sets, length-sets, set_out, take-suc, take-add, get_or-drop}
 use lib.Dec.{ltb}
 use native.Mathlib.Omega.{arith}
 use native.Mathlib.Numerals.{add-one}
@@ -21,6 +21,14 @@ sets_app t at (x ∷ a) b = sets_app (set t at x) (suc at) a b ∙ ap (λ (n : �
 pub sets_out : (t : List ℕ) (at : ℕ) (b : List ℕ) → length t ≤ at → sets t at b ≡ t
 sets_out t at [] h = refl
 sets_out t at (x ∷ b) h = rw (set_out t at x h) (sets_out t (suc at) b (omega arith))
+
+-- one more byte of a segment
+pub seg_more : (s t : List ℕ) (from at i : ℕ) → from + i < length s → (u : List ℕ) → u ≡ sets t at (take i (drop from s))
+    → set u (at + i) (get_or s (from + i) 0) ≡ sets t at (take (i + 1) (drop from s))
+seg_more s t from at i h u q =
+    let k : i < length (drop from s) = simp length-drop (omega arith) in
+    let z : at + i ≡ at + length (take i (drop from s)) = simp (length-take, length-drop) (omega arith) in
+    rw (add-one, take-suc (drop from s) i 0 k, sets_app, get_or-drop, ← q, ← z)
 
 seg_out : (s t : List ℕ) (from i to at : ℕ) → from ≤ i → i ≤ to → to ≤ length s → length t ≤ at + (i - from) → (u : List ℕ) → u
     ≡ sets t at (take (i - from) (drop from s)) → u ≡ sets t at (take (to - from) (drop from s))
@@ -39,16 +47,11 @@ seg_limit s t from i to at l g h f u q = by (ltb i to) refl
     by true e = seg_out s t from i to at l g h (f (ltb-true i to e)) u q
     by false e = let z : i ≡ to = omega (arith, ltb-false i to e) in rw z at q
 
--- a part of the store, written over
-part_sets : (t v : List ℕ) (at k : ℕ) → k ≡ length v → at + length v ≤ length t → take at t ++ (v ++ drop k (drop at t)) ≡ sets t at v
-part_sets t v at k e h = rw (e, drop-drop (length v) at t) (sym (append_assoc (take at t) v (drop (at + length v) t)) ∙ sym (sets-eq v t at h))
-
-pub copied : (s t : List ℕ) (from to at n : ℕ) → from ≤ to → to ≤ length s → at < length t → n ≡ min (length t - at) (to - from)
-    → take at t ++ (take (from + n - from) (drop from s) ++ drop (at + n - at) (drop at t)) ≡ sets t at (take (to - from) (drop from s))
-copied s t from to at n l h r m =
-    let e : length (take (from + n - from) (drop from s)) ≡ n = simp (length-take, length-drop) (omega arith) in
-    seg_limit s t from (from + n) to at (omega arith) (omega arith) h (λ g. omega arith) _
-    (part_sets t (take (from + n - from) (drop from s)) at (at + n - at) (omega arith) (omega arith))
+pub copied : (s t : List ℕ) (from to at n : ℕ) → from ≤ to → to ≤ length s → at < length t → n ≡ min (length t - at) (to - from) → (u : List ℕ)
+    → u ≡ sets t at (take n (drop from s)) → u ≡ sets t at (take (to - from) (drop from s))
+copied s t from to at n l h r m u q =
+    let z : from + n - from ≡ n = omega arith in
+    seg_limit s t from (from + n) to at (omega arith) (omega arith) h (λ g. omega arith) u (rw z q)
 
 -- how many bytes a character has
 pub size1 : (c : ℕ) → c < 0x80 → length (encode c) ≡ 1

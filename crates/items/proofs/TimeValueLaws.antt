@@ -337,6 +337,7 @@ module _ (s : List ℕ) (from nanos weight i : ℕ) (k : NanoLoop s from nanos w
     edge = e;
     left = k.left;
     v = k.v;
+    few = k.few;
     scaled = k.scaled;
     goes = k.goes;
   }
@@ -368,6 +369,13 @@ module _ (s : List ℕ) (from nanos weight i : ℕ) (k : NanoLoop s from nanos w
           small = smaller k.v j (get_or s i 0 - ch "0") (omega arith) l;
           goes = λ q w x m c r t. g q w x m c r (took (S.nanos q w x m c j (dig k.v (get_or s i 0))) h (rw (sec_digit (get_or s i 0) (omega arith))) t);
         }
+
+    -- a digit that weighs nothing
+    pub nano_kept : weight ≡ 0 → NanoLoop s from nanos weight (i + 1)
+    nano_kept e =
+        let n : nanos + weight * (get_or s i 0 - ch "0") ≡ nanos = rw e (omega arith) in
+        let z : weight / 10 ≡ weight = rw e in
+        rw (n, z) at nano_next
 
 module _ (q : ℕ) (w : S.When) (h m c : ℕ) where
   sec_other : {b : ℕ} {k : S.Sec} → SecIs b k → (b ≡ ch "." → ⊥) → S.on_sec q w h m c k ≡ on_zone q w h m c 0 k

@@ -19,7 +19,10 @@ pub fn copy(s: &[u8], from: usize, to: usize, store: &mut [u8], at: usize)
 {
     if at < store.len() {
         let n = (store.len() - at).min(to - from);
-        store[at..at + n].copy_from_slice(&s[from..from + n]);
+        // A loop: to copy a slice of any length at once is a call of `memmove`, which whoever links the archive would have to bring.
+        for i in 0..n {
+            store[at + i] = s[from + i];
+        }
     }
 }
 

@@ -210,8 +210,11 @@ fn nano_digits(s: &[u8], from: usize) -> Taken<u64>
                 end: i,
             };
         }
-        nanos += weight * (b - b'0') as u64;
-        weight /= 10;
+        // Without the test each digit after the ninth, however many they are, would cost a multiplication and a division.
+        if weight > 0 {
+            nanos += weight * (b - b'0') as u64;
+            weight /= 10;
+        }
     }
     Taken {
         value: nanos,

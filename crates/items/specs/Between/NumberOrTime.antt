@@ -316,6 +316,7 @@ pub record NanosSays (s : List ℕ) (from : ℕ) (r : Taken ℕ) : Type 0 where
   pub edge : Edge s r.end
   pub left : ℕ
   pub v : ℕ
+  pub few : left ≤ fraction_digits
   pub scaled : r.value ≡ v * 10 ^ left
   pub goes : (q : ℕ) (w : S.When) (h m c : ℕ) → Onto s from (S.nanos q w h m c fraction_digits 0) r.end
       (S.nanos q w h m c left v)
