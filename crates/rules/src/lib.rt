@@ -38,8 +38,12 @@ pub fn utf8(s: &[u8]) -> Result<(), IllFormed>
 pub fn date(year: u64, month: u64, day: u64) -> Result<(), NoDate>
     ensures { Dated year month day result }
 {
+    // What is out of range whatever the month costs no look at the month.
+    if year > 9999 || day < 1 {
+        return Err(NoDate);
+    }
     match calendar::days(year, month) {
-        Some(days) if year <= 9999 && (1..=days).contains(&day) => Ok(()),
+        Some(days) if day <= days => Ok(()),
         _ => Err(NoDate),
     }
 }

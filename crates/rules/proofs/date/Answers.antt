@@ -1,9 +1,7 @@
 -- A day outside the month's days is no date; the other answers are found. Assumes nothing.
 use native.Mathlib.Omega.{arith}
-use Rattle.std.proofs.lemmas.Grind.{common_steps}
-use Rattle.std.proofs.lemmas.Bool.Decides.{nat_tests}
 use Rattle.rules.proofs.Months.{no_day}
 use Rattle.rules.proofs.date.Goals as goal
 
 pub returns-in_default : goal.returns-in_default
-returns-in_default c = no_day _ _ _ _ c.in-Some.ensures (λ d. grind (arith, common_steps, nat_tests, c.if-contains.ensures.value))
+returns-in_default c = no_day _ _ _ _ c.in-Some.ensures (λ d. omega arith)
