@@ -38,7 +38,7 @@ pub fn utf8(s: &[u8]) -> Result<(), IllFormed>
 pub fn date(year: u64, month: u64, day: u64) -> Result<(), NoDate>
     ensures { Dated year month day result }
 {
-    // What is out of range whatever the month costs no look at the month.
+    // A year or a day that no month has is refused before the month is looked at.
     if year > 9999 || day < 1 {
         return Err(NoDate);
     }

@@ -199,7 +199,8 @@ fn date_of(low: u64, mid: u64) -> Date
     }
 }
 
-// The record with bytes in the store that has these four numbers, or a time or a container; null where the mark is no record's.
+// The record with bytes in the store that has these four numbers, or a time or a container; null at every other mark. Of a flag's or a number's
+// mark nothing is promised: `record_of` has taken these.
 fn bytes_of(w: Words) -> Record
     requires { Loaded w }
     ensures { NoNumber w.mark → result ≡ only_record w }

@@ -13,7 +13,7 @@ pub fn byte_at(out: &mut [u8], at: usize, b: u8) -> usize
     at + 1
 }
 
-// Into the lent part of the output, from its start. It is a loop, since a copy of any length would be a call of `memmove`, which who links the
+// Into the lent part of the output, from its start. It is a loop, since a copy of any length would be a call of `memmove`, which whoever links the
 // archive would have to bring.
 fn write_bytes(out: &mut [u8], s: &[u8]) -> usize
     requires { length s.now ≤ length out.old }
