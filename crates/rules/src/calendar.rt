@@ -17,9 +17,9 @@ pub(crate) fn days(year: u64, month: u64) -> Option<u64>
     ensures { Lasts year month result }
 {
     match month {
+        0 | 13.. => None,
         2 if is_leap(year) => Some(29),
         2 => Some(28),
-        1..=12 => Some(30 + (month + month / 8) % 2),
-        _ => None,
+        _ => Some(30 + (month + month / 8) % 2),
     }
 }
